@@ -26,7 +26,7 @@ read_behind a b c xs part count k n within fits before read =
     let front = take count xs in
     let behind = post_of count k xs in
     let both : take (count + n) (put_mid count k xs part) ≡ front ++ take n part =
-        ap (λ m. take (m + n) (put_mid count k xs part)) (sym (length-take-le count xs within))
-        ∙ take-append-add front (part ++ behind) n
-        ∙ ap (λ ys. front ++ ys) (take-append-le n part behind fits) in
+    ap (λ m. take (m + n) (put_mid count k xs part)) (sym (length-take-le count xs within))
+    ∙ take-append-add front (part ++ behind) n
+    ∙ ap (λ ys. front ++ ys) (take-append-le n part behind fits) in
     subst (Consumes a c) (sym both) (Consumes-trans a b c front (take n part) before read)

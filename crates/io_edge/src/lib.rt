@@ -12,3 +12,6 @@ pub use edges::{Failed, Sink, Source};
 pub use memory::{MemSink, MemSource};
 pub use outside::{ReadEdge, WriteEdge};
 pub use whole::{FillStop, Filled, fill, put_all};
+
+#[cfg(test)]
+mod tests;

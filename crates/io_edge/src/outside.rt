@@ -1,15 +1,16 @@
-//! The trusted edge: what reads from and writes to `std::io`. Nothing is told of its octets; its faults are counted.
-ghost use Rattle.std.specs.Prelude.{◌≡◌, ◌<◌, ◌≤◌, None, length, IfOk};
+//! The edge to `std::io`: a reader as a source, a writer as a sink, with a count of their errors. Of the octets they
+//! tell what the reader or the writer tells, which is nothing at a terminal, a pipe or a file.
+ghost use Rattle.std.specs.Prelude.{◌≡◌, ◌<◌, ◌≤◌, length, IfOk};
 ghost use Rattle.std.specs.Io.{ReadsAtMost};
-ghost use Rattle.std.specs.Io.KnownBytes.{ReadConsumes, WriteAppends};
+ghost use Rattle.std.specs.Io.KnownBytes.{Keeps, ReadConsumes, WriteAppends};
 ghost use Rattle.io_edge.specs.Causes.{HasCause};
 
 use super::{Failed, Sink, Source};
 use std::io::{Read, Write};
 use std::marker::Model;
 
-/// A reader of `std::io` as a source. Each error of the reader is a fault. Hand it a `BufReader`: a plain reader is
-/// asked by the system at each call.
+/// A reader of `std::io` as a source. Each error of the reader is a fault. Hand it a `BufReader`: a plain reader of
+/// the system is a system call for each read.
 #[derive(Drop)]
 pub struct ReadEdge<R> {
     reader: R,
@@ -17,17 +18,18 @@ pub struct ReadEdge<R> {
 }
 
 impl<R> Model for ReadEdge<R> {
-    ghost use Rattle.std.specs.Prelude.{ℕ};
+    ghost use Rattle.io_edge.specs.Edge.{EdgeState, edge_code};
 
-    // the count of its faults
-    ghost Value = { ℕ };
+    ghost Value = { EdgeState R };
 
-    ghost view = { λ a. a.faults };
+    ghost coded = { edge_code R.code };
+
+    ghost view = { λ a. record { inner = a.reader; faults = a.faults } };
 }
 
 impl<R: Read> ReadEdge<R> {
     pub fn new(r: R) -> ReadEdge<R>
-        ensures { result ≡ 0 }
+        ensures { result ≡ record { inner = r; faults = 0 } }
     {
         ReadEdge {
             reader: r,
@@ -37,7 +39,9 @@ impl<R: Read> ReadEdge<R> {
 }
 
 impl<R: Read> Source for ReadEdge<R> {
-    ghost faults = { λ count. count };
+    ghost left = { λ s. R.remaining s.inner };
+
+    ghost faults = { λ s. s.faults };
 
     fn read(&mut self, buf: &mut [u8]) -> Result<usize, Failed> {
         match self.reader.read(buf) {
@@ -59,17 +63,18 @@ pub struct WriteEdge<W> {
 }
 
 impl<W> Model for WriteEdge<W> {
-    ghost use Rattle.std.specs.Prelude.{ℕ};
+    ghost use Rattle.io_edge.specs.Edge.{EdgeState, edge_code};
 
-    // the count of its faults
-    ghost Value = { ℕ };
+    ghost Value = { EdgeState W };
 
-    ghost view = { λ a. a.faults };
+    ghost coded = { edge_code W.code };
+
+    ghost view = { λ a. record { inner = a.writer; faults = a.faults } };
 }
 
 impl<W: Write> WriteEdge<W> {
     pub fn new(w: W) -> WriteEdge<W>
-        ensures { result ≡ 0 }
+        ensures { result ≡ record { inner = w; faults = 0 } }
     {
         WriteEdge {
             writer: w,
@@ -79,7 +84,8 @@ impl<W: Write> WriteEdge<W> {
 
     /// Hands on what the writer holds back.
     pub fn flush(&mut self) -> Result<(), Failed>
-        ensures { HasCause self.old self.new result }
+        ensures bytes { Keeps (W.contents self.old.inner) (W.contents self.new.inner) }
+        ensures cause { HasCause self.old.faults self.new.faults result }
     {
         match self.writer.flush() {
             Ok(()) => Ok(()),
@@ -92,7 +98,9 @@ impl<W: Write> WriteEdge<W> {
 }
 
 impl<W: Write> Sink for WriteEdge<W> {
-    ghost faults = { λ count. count };
+    ghost written = { λ s. W.contents s.inner };
+
+    ghost faults = { λ s. s.faults };
 
     fn write(&mut self, piece: &[u8]) -> Result<usize, Failed> {
         match self.writer.write(piece) {

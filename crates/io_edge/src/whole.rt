@@ -32,20 +32,32 @@ pub fn fill<S: Source>(source: &mut S, out: &mut [u8], room: u64) -> Filled
     let mut count = 0;
     while count < out.len() {
         if count as u64 == room {
-            return Filled { count, stop: FillStop::Limited };
+            return Filled {
+                count,
+                stop: FillStop::Limited,
+            };
         }
         let most = (out.len() - count).min((room - count as u64) as usize);
         match source.read(&mut out[count..count + most]) {
             Ok(0) => {
-                return Filled { count, stop: FillStop::AtEnd };
+                return Filled {
+                    count,
+                    stop: FillStop::AtEnd,
+                };
             }
             Ok(taken) => count += taken,
             Err(Failed) => {
-                return Filled { count, stop: FillStop::Failing };
+                return Filled {
+                    count,
+                    stop: FillStop::Failing,
+                };
             }
         }
     }
-    Filled { count, stop: FillStop::Full }
+    Filled {
+        count,
+        stop: FillStop::Full,
+    }
 }
 
 /// Writes the whole of `piece`. A sink that fails has been given a front of the piece, and not all of it.

@@ -1,5 +1,5 @@
 -- A read goes behind the octets that were taken before.
-use Rattle.std.proofs.Common.{rules, ◌≡◌, ◌+◌, ◌≤◌, length, arith}
+use Rattle.std.proofs.Common.{rules, arith}
 use Rattle.io_edge.proofs.ReadLemmas.{read_behind}
 use Rattle.io_edge.proofs.whole.fill.Goals as goal
 

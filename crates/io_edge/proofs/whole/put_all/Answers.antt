@@ -1,5 +1,5 @@
 -- A write goes behind the octets that were written before.
-use Rattle.std.proofs.Common.{rules, ◌≡◌, ◌+◌, ◌-◌, ◌≤◌, length, take, drop, length-take, arith}
+use Rattle.std.proofs.Common.{rules, ◌-◌, ◌≤◌, length, arith}
 use Rattle.io_edge.proofs.WriteLemmas.{write_behind}
 use Rattle.io_edge.proofs.whole.put_all.Goals as goal
 
