@@ -1,0 +1,8 @@
+//! The program: `replay` reads a conference file from standard input and writes framed RTP packets with the composed
+//! pictures to standard output.
+#![tactic(auto)]
+
+mod form;
+mod status;
+
+fn main() {}
