@@ -1,3 +1,4 @@
 pub mod Ends
 pub mod FirstForm
+pub mod Framed
 pub mod OnePacket

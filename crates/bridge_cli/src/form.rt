@@ -5,16 +5,17 @@ ghost use Rattle.std.specs.Prelude.{◌≡◌, ℕ, ◌+◌, ◌-◌, ◌<◌, �
 ghost use Rattle.pel_model.specs.declared.Quad.{Quad as Place};
 ghost use Rattle.pel_model.specs.Regions.{number_of};
 ghost use Rattle.bridge_cli.specs.FirstForm.{IsOutline};
+ghost use Rattle.bridge_cli.specs.Framed.{IsFramed};
 
 use pel_model::Quad;
 
 /// The number of octets of a file of the first form.
 pub const FORM_OCTETS: usize = 863;
 
-// What stands before the digit of the place, behind it up to the packet's second octet, and where the rest stands.
+// What stands before the digit of the place, and behind it up to the packet.
 const FRONT: &[u8] = b"H261CONF\x01\x01C\x09place ";
 
-const MIDDLE: &[u8] = b" 0P\x00\x03\x43\x80";
+const MIDDLE: &[u8] = b" 0P\x00\x03\x43";
 
 /// What a file of the first form says, but for its picture.
 pub struct Outline<'a> {
@@ -33,24 +34,31 @@ pub fn read_outline(file: &[u8]) -> Option<Outline<'_>>
     ensures some { IfSome result (λ o. IsOutline file.now o.place o.packet.now o.step) }
 {
     let place = place_of(file[18])?;
+    if !is_framed(file) {
+        return None;
+    }
+    Some(Outline {
+        place,
+        packet: &file[25..860],
+        step: file[861],
+    })
+}
+
+// Whether the entries round the packet and the packet's fields are those of the form.
+fn is_framed(file: &[u8]) -> bool
+    requires { length file.now ≡ FORM_OCTETS }
+    ensures { IsTrue result ↔ IsFramed file.now }
+{
     let step = file[861];
-    if stands_at(file, 0, FRONT)
+    stands_at(file, 0, FRONT)
         && stands_at(file, 19, MIDDLE)
-        && file[26] >= 128
+        && file[25] == 0x80
+        && file[26] >= 0x80
         && file[37] < 32
         && file[860] == b'T'
         && 1 <= step
         && step <= 31
         && file[862] == b'E'
-    {
-        Some(Outline {
-            place,
-            packet: &file[25..860],
-            step,
-        })
-    } else {
-        None
-    }
 }
 
 // The place of a digit from 1 to 4.
