@@ -1,0 +1,6 @@
+//! RTP on a byte stream: packets and their fixed header (RFC 3550), and the frames that carry them (RFC 4571).
+#![tactic(auto)]
+
+mod header;
+
+pub use header::{Packet, PacketFault, read_packet};
