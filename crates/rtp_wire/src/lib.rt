@@ -1,6 +1,8 @@
 //! RTP on a byte stream: packets and their fixed header (RFC 3550), and the frames that carry them (RFC 4571).
 #![tactic(auto)]
 
+mod frames;
 mod header;
 
-pub use header::{Packet, PacketFault, read_packet};
+pub use frames::{FrameEnd, Framer};
+pub use header::{Packet, PacketFault, read_packet, write_header};
