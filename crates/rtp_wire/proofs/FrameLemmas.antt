@@ -1,16 +1,19 @@
 -- What the two fillings of a frame, its length and its packet, make of a call of a framer.
-use Rattle.std.proofs.Common.{◌≡◌, ℕ, ◌+◌, ◌-◌, ◌*◌, ◌/◌, ◌%◌, ◌^◌, ◌<◌, ◌≤◌, Bool, true, false, List, [], ◌∷◌, ◌++◌, Option, Result, Ok, Err, ◌==◌, length, take, refl, sym, ap, subst, ◌∙◌, arith, length-append, length-take-le, take_all}
-use Rattle.std.specs.Io.KnownBytes.{Consumes, IsAtEnd}
+use Rattle.std.proofs.Common.{◌≡◌, ◌⊎◌, ℕ, ◌+◌, ◌-◌, ◌*◌, ◌/◌, ◌%◌, ◌^◌, ◌<◌, ◌≤◌, ◌==◌, nat_le, Bool, true, false, List, [], ◌∷◌, ◌++◌, Option, None, Some, Result, Ok, Err, inl, inr, length, take, drop, refl, sym, ap, ap₂, subst, ◌∙◌, arith, length-append, length-take-le, take_all, append-nil, append_assoc}
+use Rattle.std.specs.List.{flat_map}
+use Rattle.std.specs.Io.KnownBytes.{Consumes}
 use Rattle.std.proofs.KnownBytes.{Consumes-trans}
 use Rattle.byteorder.specs.Endian.{big_bytes}
-use Rattle.io_edge.specs.Causes.{Rose}
 use Rattle.io_edge.specs.Whole.{Fills, StopsFor}
 use Rattle.io_edge.specs.declared.whole.Filled.{Filled}
 use Rattle.io_edge.specs.declared.whole.FillStop.{FillStop}
 use Rattle.io_edge.specs.declared.whole.FillStop.TheVariants.{Full, Limited, AtEnd, Failing}
 use Rattle.rtp_wire.specs.declared.frames.FrameEnd.{FrameEnd}
-use Rattle.rtp_wire.specs.declared.frames.FrameEnd.TheVariants.{Cut, Fault, Limit}
-use Rattle.rtp_wire.specs.Frames.{frame, IsPartial, HasFrame, TakesFrame, TakesOne}
+use Rattle.rtp_wire.specs.declared.frames.FrameEnd.TheVariants.{End, Cut, Fault, Limit}
+use Rattle.std.proofs.Math.Seq.{take-append_seam, take-append-add, drop-append_seam}
+use Rattle.std.proofs.lemmas.Bool.{le-leb}
+use Rattle.std.proofs.lemmas.Bool.Decides.{nat_tests}
+use Rattle.rtp_wire.specs.Frames.{frame, IsPartial, HasFrame, has_frame, first_packet, end_before, next_frame, TakesFrame, TakesOne, ReadsFrame, ReadsOrStays, Framed, stream_of, LawOfAnswers, LawOfStreams}
 use Rattle.rtp_wire.specs.Stops.{end_for}
 
 -- a packet's length and fewer octets than it are no whole frame
@@ -87,3 +90,95 @@ packet_whole a b c f0 f1 f2 taken budget size head body first second within fits
       within = omega (arith, begun.in_room, rest.in_room);
       answer = (ap (λ h. h ++ body) (sym spelled) ∙ ap (λ n. big_bytes 2 n ++ body) (sym long), omega arith, filled'.1 ∙ filled.1);
     }
+
+-- what is less than a frame has none
+pub partial_has_none : (octets : List ℕ) → IsPartial octets → has_frame octets ≡ false
+partial_has_none [] h = refl
+partial_has_none (_ ∷ []) h = refl
+partial_has_none (high ∷ low ∷ octets) h = grind (arith, nat_tests)
+
+-- a frame at the front is one, whatever follows
+pub frame_is_first : (packet more : List ℕ) → HasFrame packet → (has_frame (frame packet ++ more) ≡ true) × (first_packet (frame packet ++ more) ≡ packet)
+frame_is_first packet more fits =
+    let size : length packet / 256 % 256 * 256 + length packet % 256 ≡ length packet = omega arith in (
+      le-leb _ _ (omega (arith, length-append packet more)),
+      ap (λ n. take n (packet ++ more)) size ∙ take-append_seam packet more,
+    )
+
+pub next_packet : (left : List ℕ) (taken budget : ℕ) (packet more : List ℕ) → left ≡ frame packet ++ more → HasFrame packet
+    → taken + length (frame packet) ≤ budget → next_frame left taken budget ≡ Ok packet
+unfolding next_frame
+next_packet left taken budget packet more whole fits room =
+    let k = budget - taken - length (frame packet) in
+    let sum : budget - taken ≡ length (frame packet) + k = omega arith in
+    let front : take (budget - taken) left ≡ frame packet ++ take k more =
+    ap₂ take sum whole ∙ take-append-add (frame packet) more k in
+    let here : has_frame (take (budget - taken) left) ≡ true = ap has_frame front ∙ (frame_is_first packet (take k more) fits).0 in
+    rw here (ap Ok (ap first_packet whole ∙ (frame_is_first packet more fits).1))
+
+pub next_limit : (left : List ℕ) (taken budget : ℕ) → IsPartial (take (budget - taken) left) → budget ≤ taken + length left → next_frame left taken budget ≡ Err Limit
+unfolding next_frame
+next_limit left taken budget part full =
+    let none : has_frame (take (budget - taken) left) ≡ false = partial_has_none (take (budget - taken) left) part in
+    let all : nat_le budget (taken + length left) ≡ true = le-leb _ _ full in
+    rw (none, all) refl
+
+pub next_end : (left : List ℕ) (taken budget : ℕ) → IsPartial left → taken + length left < budget → next_frame left taken budget ≡ Err (end_before left (taken + length left))
+unfolding next_frame
+next_end left taken budget part room =
+    let all : take (budget - taken) left ≡ left = take_all (budget - taken) left (omega arith) in
+    let none : has_frame (take (budget - taken) left) ≡ false = ap has_frame all ∙ partial_has_none left part in
+    let some : nat_le budget (taken + length left) ≡ false = grind (arith, nat_tests) in
+    rw (none, some) refl
+
+end_inside : (octets : List ℕ) (place : ℕ) → 0 < length octets → end_before octets place ≡ Cut place
+end_inside [] place some = absurd (omega arith)
+end_inside (_ ∷ _) place some = refl
+
+-- where a source tells its octets, a call's answer is fixed
+pub told : (left : List ℕ) (rest : Option (List ℕ)) (before now taken_before taken_now budget : ℕ) (result : Result (List ℕ) FrameEnd)
+    → TakesOne (Some left) rest before now taken_before taken_now budget result → (result ≡ Err Fault) ⊎ (result ≡ next_frame left taken_before budget)
+told left None before now taken_before taken_now budget result h = absurd h.bytes
+told left (Some ys) before now taken_before taken_now budget (Ok packet) h =
+    inr (sym (next_packet left taken_before budget packet ys (h.bytes ∙ ap (λ x. x ++ ys) h.answer.0) h.answer.1 (omega (arith, ap length h.answer.0, h.taken, h.within))))
+told left (Some ys) before now taken_before taken_now budget (Err End) h =
+    let empty : left ≡ [] = h.bytes ∙ ap₂ ◌++◌ h.answer.0 h.answer.1 in
+    let ends : Err End ≡ next_frame [] taken_before budget = sym (next_end [] taken_before budget tt (omega (arith, h.taken, ap length h.answer.0))) in
+    inr (ends ∙ ap (λ x. next_frame x taken_before budget) (sym empty))
+told left (Some ys) before now taken_before taken_now budget (Err (Cut place)) h =
+    let same : left ≡ h.took = h.bytes ∙ ap (λ x. h.took ++ x) h.answer.3 ∙ append-nil h.took in
+    let at : taken_before + length h.took ≡ place = sym h.taken ∙ sym h.answer.0 in
+    let ends = next_end h.took taken_before budget h.answer.2 (omega (arith, h.taken)) in
+    inr (sym (ap (λ x. next_frame x taken_before budget) same ∙ ends ∙ ap Err (end_inside h.took _ h.answer.1 ∙ ap Cut at)))
+told left (Some ys) before now taken_before taken_now budget (Err Limit) h =
+    let size : budget - taken_before ≡ length h.took = omega (arith, h.taken, h.answer.0) in
+    let front : take (budget - taken_before) left ≡ h.took = ap₂ take size h.bytes ∙ take-append_seam h.took ys in
+    inr (sym (next_limit left taken_before budget (subst IsPartial (sym front) h.answer.1) (omega (arith, h.taken, h.answer.0, ap length h.bytes, length-append h.took ys))))
+told left (Some ys) before now taken_before taken_now budget (Err Fault) h = inl refl
+
+-- and so is that of a framer that has not ended
+pub answers_fixed : LawOfAnswers
+answers_fixed left rest before now old new result going call =
+    let reads : ReadsFrame (Some left) rest before now old new result = subst (λ e. ReadsOrStays e (Some left) rest before now old new result) going call in
+    told left rest before now old.taken new.taken old.budget result reads.frame_taken
+
+-- a packet's frame, and then the stream of the others
+stream-cons : (packet : List ℕ) (packets : List (List ℕ)) (rest : List ℕ) → stream_of (packet ∷ packets) rest ≡ frame packet ++ stream_of packets rest
+stream-cons packet packets rest = append_assoc (frame packet) (flat_map frame packets) rest
+
+-- a stream gives its packets in order, and then its end
+pub frames_in_order : LawOfStreams
+frames_in_order [] rest taken budget fits part room = next_end rest taken budget part room
+frames_in_order (packet ∷ packets) rest taken budget fits part room =
+    let more = stream_of packets rest in
+    let whole : stream_of (packet ∷ packets) rest ≡ frame packet ++ more = stream-cons packet packets rest in
+    let long : length (stream_of (packet ∷ packets) rest) ≡ length packet + 2 + length more = omega (arith, ap length whole, length-append packet more) in
+    let first = next_packet (stream_of (packet ∷ packets) rest) taken budget packet more whole fits.0 (omega arith) in
+    let size : length packet + 2 ≡ length (frame packet) = omega arith in
+    let left : drop (length packet + 2) (stream_of (packet ∷ packets) rest) ≡ more =
+    ap₂ drop size whole ∙ drop-append_seam (frame packet) more in
+    let after = frames_in_order packets rest (taken + length packet + 2) budget fits.1 part (omega arith) in (
+      first,
+      subst (λ xs. Framed xs (taken + length packet + 2) budget packets (end_before rest (taken + length (stream_of (packet ∷ packets) rest)))) (sym left)
+          (subst (λ place. Framed more (taken + length packet + 2) budget packets (end_before rest place)) (omega arith) after),
+    )

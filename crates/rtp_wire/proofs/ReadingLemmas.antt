@@ -1,5 +1,5 @@
 -- What octets read as, by the conditions that they meet.
-use Rattle.std.proofs.Common.{◌≡◌, ℕ, ◌==◌, nat_lt, Bool, true, false, List, length, None, Ok, refl, sym, ap, ◌∙◌}
+use Rattle.std.proofs.Common.{◌≡◌, ℕ, ◌==◌, nat_lt, true, false, List, length, None, Ok, refl, sym, ap, ◌∙◌}
 use Rattle.rtp_wire.specs.Rtp.{Fields, version, sources_end, extension_is_cut, is_bad_padding, has_padding, body, unpadded, refusal, fields_of, read_unless, packet_of}
 
 -- octets that meet no condition of refusal read as the fields of their header, with what stands behind the headers

@@ -1,9 +1,10 @@
 -- Frames: RTP packets on a stream of octets (RFC 4571, 2). Each packet stands behind its length in octets, 16 bits in
 -- network order.
-use Rattle.std.specs.Prelude.{◌≡◌, ℕ, ◌+◌, ◌*◌, ◌^◌, ◌<◌, ◌≤◌, List, [], ◌∷◌, ◌++◌, length, take, Option, None, Some, Result, Ok, Err}
+use Rattle.std.specs.Prelude.{◌≡◌, ◌⊎◌, ℕ, ◌+◌, ◌-◌, ◌*◌, ◌^◌, ◌<◌, ◌≤◌, nat_le, Bool, false, if◌then◌else◌, List, [], ◌∷◌, ◌++◌, length, take, drop, Option, None, Some, Result, Ok, Err}
+use Rattle.std.specs.List.{flat_map, AllByRecursion}
 use Rattle.std.specs.Io.KnownBytes.{Consumes, Keeps, IsAtEnd}
 use Rattle.byteorder.specs.Endian.{big_bytes}
-use Rattle.io_edge.specs.Causes.{Rose, StaysCounted}
+use Rattle.io_edge.specs.Causes.{Rose}
 use Rattle.rtp_wire.specs.declared.frames.FrameEnd.{FrameEnd}
 use Rattle.rtp_wire.specs.declared.frames.FrameEnd.TheVariants.{End, Cut, Fault, Limit}
 use denote.Ref.{Bor}
@@ -21,6 +22,50 @@ abbrev pub IsPartial : List ℕ → Type 0
 IsPartial [] = Unit {0}
 IsPartial (_ ∷ []) = Unit {0}
 IsPartial (high ∷ low ∷ octets) = length octets < high * 256 + low
+
+-- a whole frame stands at the front
+abbrev pub has_frame : List ℕ → Bool
+has_frame [] = false
+has_frame (_ ∷ []) = false
+has_frame (high ∷ low ∷ octets) = nat_le (high * 256 + low) (length octets)
+
+-- its packet
+abbrev pub first_packet : List ℕ → List ℕ
+first_packet [] = []
+first_packet (_ ∷ []) = []
+first_packet (high ∷ low ∷ octets) = take (high * 256 + low) octets
+
+-- how a stream ends before a whole frame, of which nothing or something is there
+abbrev pub end_before : List ℕ → ℕ → FrameEnd
+end_before [] place = End
+end_before (_ ∷ _) place = Cut place
+
+-- What a call answers that meets no fault, where these octets are left, so many were taken and the budget is this:
+-- the first packet, where the budget lets its whole frame be taken; Limit, where the budget is used up before the
+-- source shows its end; and else the end, between two frames or inside one.
+unfoldable pub next_frame : List ℕ → ℕ → ℕ → Result (List ℕ) FrameEnd
+next_frame left taken budget =
+    if has_frame (take (budget - taken) left) then Ok (first_packet left)
+    else if nat_le budget (taken + length left) then Err Limit
+    else Err (end_before left (taken + length left))
+
+-- the packets that the calls give one after the other, and the end that comes then
+abbrev pub Framed : List ℕ → ℕ → ℕ → List (List ℕ) → FrameEnd → Type 0
+Framed left taken budget [] end = next_frame left taken budget ≡ Err end
+Framed left taken budget (packet ∷ packets) end =
+    (next_frame left taken budget ≡ Ok packet) × Framed (drop (length packet + 2) left) (taken + length packet + 2) budget packets end
+
+-- a stream of whole frames, and behind them less than one
+abbrev pub stream_of : List (List ℕ) → List ℕ → List ℕ
+stream_of packets rest = flat_map frame packets ++ rest
+
+-- The stream's packets are given in its order, each of them once and no others, and then its end: between two frames,
+-- or inside one at the number of its octets. The budget has to be greater than the octets.
+abbrev pub LawOfStreams : Type 0
+LawOfStreams =
+    (packets : List (List ℕ)) (rest : List ℕ) (taken budget : ℕ) → AllByRecursion HasFrame packets → IsPartial rest
+    → taken + length (stream_of packets rest) < budget
+    → Framed (stream_of packets rest) taken budget packets (end_before rest (taken + length (stream_of packets rest)))
 
 -- a framer, as its callers see it: the octets taken in all, the most that it may take, and how it ended, once it did
 pub record FramerState : Type 0 where
@@ -85,3 +130,10 @@ shown (Err end) = Err end
 abbrev pub in_buffer : List ℕ → Result ℕ FrameEnd → Result (List ℕ) FrameEnd
 in_buffer buffer (Ok size) = Ok (take size buffer)
 in_buffer buffer (Err end) = Err end
+
+-- Where the source tells its octets, they and the budget say what a framer that has not ended answers, unless the source
+-- fails.
+abbrev pub LawOfAnswers : Type 0
+LawOfAnswers =
+    (left : List ℕ) (rest : Option (List ℕ)) (before now : ℕ) (old new : FramerState) (result : Result (List ℕ) FrameEnd) → old.ended ≡ None
+    → CallsNext (Some left) rest before now old new result → (result ≡ Err Fault) ⊎ (result ≡ next_frame left old.taken old.budget)

@@ -3,6 +3,11 @@
 
 mod frames;
 mod header;
+mod laws;
 
 pub use frames::{FrameEnd, Framer};
 pub use header::{Packet, PacketFault, read_packet, write_header};
+pub use laws::{answers_of_a_framer, frames_of_a_stream};
+
+#[cfg(test)]
+mod tests;

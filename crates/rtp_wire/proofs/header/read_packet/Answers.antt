@@ -1,5 +1,5 @@
 -- Octets that meet no condition of refusal read as their fields.
-use Rattle.std.proofs.Common.{rules, ◌≡◌, ◌==◌, nat_lt, true, false, length, arith}
+use Rattle.std.proofs.Common.{arith}
 use Rattle.std.proofs.lemmas.Bool.Decides.{nat_tests}
 use Rattle.rtp_wire.proofs.ReadingLemmas.{read_whole}
 use Rattle.rtp_wire.proofs.header.read_packet.Goals as goal
@@ -10,5 +10,5 @@ returns c =
     record {
       exact =
           read_whole octets _ _ _ (grind (arith, nat_tests)) (grind (arith, nat_tests)) (grind (arith, nat_tests)) c.in-Some.ensures.0 c.in-Some.ensures.1
-          (rw (← c.is_padded.ensures) c.in-Some-without_padding.ensures.0) (rw (← c.is_padded.ensures) c.in-Some-without_padding.ensures.1) c.with_payload.ensures
+          (rw (← c.is_padded.ensures) c.in-Some-without_padding.ensures.0) (rw (← c.is_padded.ensures) c.in-Some-without_padding.ensures.1) c.with_payload.ensures;
     }
