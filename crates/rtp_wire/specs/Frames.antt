@@ -1,0 +1,139 @@
+-- Frames: RTP packets on a stream of octets (RFC 4571, 2). Each packet stands behind its length in octets, 16 bits in
+-- network order.
+use Rattle.std.specs.Prelude.{◌≡◌, ◌⊎◌, ℕ, ◌+◌, ◌-◌, ◌*◌, ◌^◌, ◌<◌, ◌≤◌, nat_le, Bool, false, if◌then◌else◌, List, [], ◌∷◌, ◌++◌, length, take, drop, Option, None, Some, Result, Ok, Err}
+use Rattle.std.specs.List.{flat_map, AllByRecursion}
+use Rattle.std.specs.Io.KnownBytes.{Consumes, Keeps, IsAtEnd}
+use Rattle.byteorder.specs.Endian.{big_bytes}
+use Rattle.io_edge.specs.Causes.{Rose}
+use Rattle.rtp_wire.specs.declared.frames.FrameEnd.{FrameEnd}
+use Rattle.rtp_wire.specs.declared.frames.FrameEnd.TheVariants.{End, Cut, Fault, Limit}
+use denote.Ref.{Bor}
+
+-- a packet as it stands on the stream
+abbrev pub frame : List ℕ → List ℕ
+frame packet = big_bytes 2 (length packet) ++ packet
+
+-- a packet of which the length fits the frame
+abbrev pub HasFrame : List ℕ → Type 0
+HasFrame packet = length packet < 2 ^ 16
+
+-- less than a whole frame: not yet its length, or fewer octets than the length says
+abbrev pub IsPartial : List ℕ → Type 0
+IsPartial [] = Unit {0}
+IsPartial (_ ∷ []) = Unit {0}
+IsPartial (high ∷ low ∷ octets) = length octets < high * 256 + low
+
+-- a whole frame stands at the front
+abbrev pub has_frame : List ℕ → Bool
+has_frame [] = false
+has_frame (_ ∷ []) = false
+has_frame (high ∷ low ∷ octets) = nat_le (high * 256 + low) (length octets)
+
+-- its packet
+abbrev pub first_packet : List ℕ → List ℕ
+first_packet [] = []
+first_packet (_ ∷ []) = []
+first_packet (high ∷ low ∷ octets) = take (high * 256 + low) octets
+
+-- how a stream ends before a whole frame, of which nothing or something is there
+abbrev pub end_before : List ℕ → ℕ → FrameEnd
+end_before [] place = End
+end_before (_ ∷ _) place = Cut place
+
+-- What a call answers that meets no fault, where these octets are left, so many were taken and the budget is this:
+-- the first packet, where the budget lets its whole frame be taken; Limit, where the budget is used up before the
+-- source shows its end; and else the end, between two frames or inside one.
+unfoldable pub next_frame : List ℕ → ℕ → ℕ → Result (List ℕ) FrameEnd
+next_frame left taken budget =
+    if has_frame (take (budget - taken) left) then Ok (first_packet left)
+    else if nat_le budget (taken + length left) then Err Limit
+    else Err (end_before left (taken + length left))
+
+-- the packets that the calls give one after the other, and the end that comes then
+abbrev pub Framed : List ℕ → ℕ → ℕ → List (List ℕ) → FrameEnd → Type 0
+Framed left taken budget [] end = next_frame left taken budget ≡ Err end
+Framed left taken budget (packet ∷ packets) end =
+    (next_frame left taken budget ≡ Ok packet) × Framed (drop (length packet + 2) left) (taken + length packet + 2) budget packets end
+
+-- a stream of whole frames, and behind them less than one
+abbrev pub stream_of : List (List ℕ) → List ℕ → List ℕ
+stream_of packets rest = flat_map frame packets ++ rest
+
+-- The stream's packets are given in its order, each of them once and no others, and then its end: between two frames,
+-- or inside one at the number of its octets. The budget has to be greater than the octets.
+abbrev pub LawOfStreams : Type 0
+LawOfStreams =
+    (packets : List (List ℕ)) (rest : List ℕ) (taken budget : ℕ) → AllByRecursion HasFrame packets → IsPartial rest
+    → taken + length (stream_of packets rest) < budget
+    → Framed (stream_of packets rest) taken budget packets (end_before rest (taken + length (stream_of packets rest)))
+
+-- a framer, as its callers see it: the octets taken in all, the most that it may take, and how it ended, once it did
+pub record FramerState : Type 0 where
+  pub taken : ℕ
+  pub budget : ℕ
+  pub ended : Option FrameEnd
+
+abbrev pub end_of : Result (List ℕ) FrameEnd → Option FrameEnd
+end_of (Ok packet) = None
+end_of (Err end) = Some end
+
+-- what a call answers, by the octets that it took, what the source has left, the octets taken in all, the budget, and
+-- the source's faults before and after
+abbrev pub TakesFrame : Result (List ℕ) FrameEnd → List ℕ → Option (List ℕ) → ℕ → ℕ → ℕ → ℕ → Type 0
+-- a whole frame was taken and no octet more
+TakesFrame (Ok packet) took left taken budget before now = (took ≡ frame packet) × HasFrame packet × (now ≡ before)
+-- the source ended between two frames
+TakesFrame (Err End) took left taken budget before now = (took ≡ []) × IsAtEnd left × (taken < budget) × (now ≡ before)
+-- the source ended inside a frame; the place is the number of octets taken in all
+TakesFrame (Err (Cut place)) took left taken budget before now =
+    (place ≡ taken) × (0 < length took) × IsPartial took × IsAtEnd left × (taken < budget) × (now ≡ before)
+-- the budget was taken, and no whole frame was
+TakesFrame (Err Limit) took left taken budget before now = (taken ≡ budget) × IsPartial took × (now ≡ before)
+-- the source failed
+TakesFrame (Err Fault) took left taken budget before now = Rose before now × IsPartial took × (taken < budget)
+
+-- a call that may ask: it took octets from the source, which say what it answers
+pub record TakesOne (source rest : Option (List ℕ)) (before now taken_before taken_now budget : ℕ) (result : Result (List ℕ) FrameEnd) : Type 0 where
+  pub took : List ℕ
+  pub bytes : Consumes source rest took
+  pub taken : taken_now ≡ taken_before + length took
+  pub within : taken_now ≤ budget
+  pub answer : TakesFrame result took rest taken_now budget before now
+
+-- a call of a framer that has not ended
+pub record ReadsFrame (source rest : Option (List ℕ)) (before now : ℕ) (old new : FramerState) (result : Result (List ℕ) FrameEnd) : Type 0 where
+  pub frame_taken : TakesOne source rest before now old.taken new.taken old.budget result
+  pub budget : new.budget ≡ old.budget
+  pub ended : new.ended ≡ end_of result
+
+-- a call of a framer that has ended: it answers the same end again, and changes nothing
+pub record StaysEnded (source rest : Option (List ℕ)) (before now : ℕ) (old new : FramerState) (end : FrameEnd) (result : Result (List ℕ) FrameEnd) : Type 0 where
+  pub answer : result ≡ Err end
+  pub framer : new ≡ old
+  pub bytes : Keeps source rest
+  pub faults : now ≡ before
+
+abbrev pub ReadsOrStays : Option FrameEnd → (source rest : Option (List ℕ)) (before now : ℕ) (old new : FramerState) (result : Result (List ℕ) FrameEnd) → Type 0
+ReadsOrStays None source rest before now old new result = ReadsFrame source rest before now old new result
+ReadsOrStays (Some end) source rest before now old new result = StaysEnded source rest before now old new end result
+
+-- what a call of a framer does
+abbrev pub CallsNext : (source rest : Option (List ℕ)) (before now : ℕ) (old new : FramerState) (result : Result (List ℕ) FrameEnd) → Type 0
+CallsNext source rest before now old new result = ReadsOrStays old.ended source rest before now old new result
+
+-- the packet behind the borrow that the call gives
+abbrev pub shown : Result (Bor (List ℕ)) FrameEnd → Result (List ℕ) FrameEnd
+shown (Ok packet) = Ok packet.now
+shown (Err end) = Err end
+
+-- the packet of a buffer, of which the first octets were filled
+abbrev pub in_buffer : List ℕ → Result ℕ FrameEnd → Result (List ℕ) FrameEnd
+in_buffer buffer (Ok size) = Ok (take size buffer)
+in_buffer buffer (Err end) = Err end
+
+-- Where the source tells its octets, they and the budget say what a framer that has not ended answers, unless the source
+-- fails.
+abbrev pub LawOfAnswers : Type 0
+LawOfAnswers =
+    (left : List ℕ) (rest : Option (List ℕ)) (before now : ℕ) (old new : FramerState) (result : Result (List ℕ) FrameEnd) → old.ended ≡ None
+    → CallsNext (Some left) rest before now old new result → (result ≡ Err Fault) ⊎ (result ≡ next_frame left old.taken old.budget)

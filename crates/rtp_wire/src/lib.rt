@@ -1,0 +1,13 @@
+//! RTP on a byte stream: packets and their fixed header (RFC 3550), and the frames that carry them (RFC 4571).
+#![tactic(auto)]
+
+mod frames;
+mod header;
+mod laws;
+
+pub use frames::{FrameEnd, Framer};
+pub use header::{Packet, PacketFault, read_packet, write_header};
+pub use laws::{answers_of_a_framer, frames_of_a_stream};
+
+#[cfg(test)]
+mod tests;
