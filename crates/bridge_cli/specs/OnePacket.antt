@@ -1,45 +1,34 @@
 -- The packet that is written for the first form.
-use Rattle.std.specs.Prelude.{◌≡◌, ℕ, ◌+◌, ◌-◌, ◌*◌, ◌/◌, ◌%◌, ◌^◌, zero, suc, Bool, false, List, [], ◌∷◌, ◌++◌, length, replicate, codes}
+use Rattle.std.specs.Prelude.{◌≡◌, ℕ, ◌+◌, ◌-◌, ◌*◌, Bool, true, List, [], ◌∷◌, ◌++◌, length}
+use Rattle.bridge_cli.specs.FirstForm.{FirstForm}
+use Rattle.pel_bits.specs.Bits.{number}
+use Rattle.pel_bits.specs.Buffer.{whole, filled_up}
 use Rattle.pel_model.specs.declared.Format.TheVariants.{Cif}
-use Rattle.pel_model.specs.Bits.{number}
 use Rattle.pel_model.specs.Plain.{plain_picture}
 use Rattle.pel_model.specs.Regions.{shown_in}
 use Rattle.pel_model.specs.Text.{text}
-use Rattle.bridge_cli.specs.FirstForm.{FirstForm}
-
--- n as so many octets in network order
-abbrev pub network : ℕ → ℕ → List ℕ
-network zero n = []
-network (suc k) n = (n / 256 ^ k % 256) ∷ network k n
-
--- how many bits of the last octet stand behind these bits
-abbrev pub spare_bits : List Bool → ℕ
-spare_bits bits = 8 * ((length bits + 7) / 8) - length bits
+use Rattle.rtp_wire.specs.Frames.{frame}
+use Rattle.rtp_wire.specs.Rtp.{octets_of, plain}
 
 -- bits as octets, eight to each
-abbrev pub octets_of : List Bool → List ℕ
-octets_of (a ∷ b ∷ c ∷ d ∷ e ∷ f ∷ g ∷ h ∷ bits) = number (a ∷ b ∷ c ∷ d ∷ e ∷ f ∷ g ∷ h ∷ []) ∷ octets_of bits
-octets_of _ = []
+unfoldable pub packed : List Bool → List ℕ
+packed (a ∷ b ∷ c ∷ d ∷ e ∷ f ∷ g ∷ h ∷ bits) = number (a ∷ b ∷ c ∷ d ∷ e ∷ f ∷ g ∷ h ∷ []) ∷ packed bits
+packed _ = []
 
--- the fixed header (RFC 3550, 5.1): version 2, the marker bit, payload type 31, sequence number 0, the timestamp, and
--- the SSRC `H261`
-abbrev pub fixed_header : ℕ → List ℕ
-fixed_header timestamp = 128 ∷ 159 ∷ 0 ∷ 0 ∷ network 4 timestamp ++ codes "H261"
-
--- the payload header (RFC 4587, 4.1) of a packet that begins with a picture header: SBIT 0, EBIT, I 0, V 1, zeros
+-- the payload header (RFC 4587, 4.1) of a packet that begins with a picture header: SBIT 0, EBIT, I 0, V 1, and zeros
 abbrev pub payload_header : ℕ → List ℕ
 payload_header ebit = (4 * ebit + 1) ∷ 0 ∷ 0 ∷ 0 ∷ []
 
--- a picture's bits in one packet
-abbrev pub packet_of : ℕ → List Bool → List ℕ
-packet_of timestamp bits =
-    fixed_header timestamp ++ payload_header (spare_bits bits) ++ octets_of (bits ++ replicate (spare_bits bits) false)
+-- a picture in one packet, the bits filled up with EBIT zeros
+abbrev pub payload : List Bool → List ℕ
+payload bits = payload_header (whole (length bits) - length bits) ++ packed (filled_up bits)
 
--- a packet with its length before it (RFC 4571, 2)
-abbrev pub framed : List ℕ → List ℕ
-framed packet = network 2 (length packet) ++ packet
+-- a whole picture in the first packet that is written, with the SSRC `H261`
+unfoldable pub one_packet : ℕ → List Bool → List ℕ
+one_packet timestamp bits =
+    octets_of (plain (record { marker = true; kind = 31; seq = 0; stamp = timestamp; ssrc = 1211250225; payload = payload bits }))
 
--- what is written for a file of the first form: the picture in its place, with the step as TR and 3,003 ticks of the
+-- what is written for a file of the first form: the picture in its place, with the step as TR, and 3,003 ticks of the
 -- clock of 90 kHz for each step
-abbrev pub answer : FirstForm → List ℕ
-answer f = framed (packet_of (3003 * f.step) (text Cif (shown_in f.place f.step (plain_picture f.picture))))
+unfoldable pub answer : FirstForm → List ℕ
+answer f = frame (one_packet (3003 * f.step) (text Cif (shown_in f.place f.step (plain_picture f.picture))))

@@ -3,6 +3,7 @@
 #![tactic(auto)]
 
 mod form;
+mod send;
 mod status;
 
 fn main() {}
