@@ -90,12 +90,12 @@ pub frame-of-pieces : (timestamp : ℕ) (picture : List Bool) (size fixed octets
 frame-of-pieces timestamp picture size fixed octets len n small bits_are len_is n_is size_is fixed_is =
     let head : List ℕ = payload_header (whole len - len) in
     let long : 8 * length octets ≡ whole (length picture) =
-        sym (length-bits octets) ∙ ap length bits_are ∙ length-append picture (zeros (whole (length picture) - length picture))
-        ∙ omega (arith, length-replicate (whole (length picture) - length picture) false) in
+    sym (length-bits octets) ∙ ap length bits_are ∙ length-append picture (zeros (whole (length picture) - length picture))
+    ∙ omega (arith, length-replicate (whole (length picture) - length picture) false) in
     let sum : n ≡ 16 + length octets = omega arith in
     append_assoc size fixed (head ++ octets)
     ∙ sym (frame-pieces timestamp picture size fixed head octets
-        (sym (packed-bits octets small) ∙ ap packed bits_are)
-        (ap (λ k. payload_header (whole k - k)) len_is)
-        fixed_is
-        (size_is ∙ append-nil (big_bytes 2 n) ∙ ap (big_bytes 2) sum))
+    (sym (packed-bits octets small) ∙ ap packed bits_are)
+    (ap (λ k. payload_header (whole k - k)) len_is)
+    fixed_is
+    (size_is ∙ append-nil (big_bytes 2 n) ∙ ap (big_bytes 2) sum))

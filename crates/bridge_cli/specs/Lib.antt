@@ -2,3 +2,4 @@ pub mod Ends
 pub mod FirstForm
 pub mod Framed
 pub mod OnePacket
+pub mod Shown

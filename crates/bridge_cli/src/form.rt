@@ -18,6 +18,7 @@ const FRONT: &[u8] = b"H261CONF\x01\x01C\x09place ";
 const MIDDLE: &[u8] = b" 0P\x00\x03\x43";
 
 /// What a file of the first form says, but for its picture.
+#[derive(Clone, Copy)]
 pub struct Outline<'a> {
     /// The place in which the lane is shown.
     pub place: Quad,

@@ -3,7 +3,9 @@
 #![tactic(auto)]
 
 mod form;
+mod run;
 mod send;
+mod show;
 mod status;
 
 fn main() {}

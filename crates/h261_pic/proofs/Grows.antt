@@ -59,24 +59,24 @@ empty_group_text format number =
 
 -- ---- a group that is copied
 
-abbrev no_view : GroupView
+abbrev pub no_view : GroupView
 no_view = record { number = 0; quant = 0; from = 0; len = 0 }
 
-abbrev no_group : Group
+abbrev pub no_group : Group
 no_group = record { number = 0; quant = 0; macroblocks = [] }
 
-view-number : (at : ℕ) (gs : List Group) (i : ℕ) → i < length gs → (slice_index_or (views at gs) i no_view).number ≡ (slice_index_or gs i no_group).number
+pub view-number : (at : ℕ) (gs : List Group) (i : ℕ) → i < length gs → (slice_index_or (views at gs) i no_view).number ≡ (slice_index_or gs i no_group).number
 view-number at [] i below = absurd (omega arith)
 view-number at (g ∷ gs) zero below = refl
 view-number at (g ∷ gs) (suc i) below = view-number (at + length (group_text g)) gs i (omega arith)
 
-view-quant : (at : ℕ) (gs : List Group) (i : ℕ) → i < length gs → (slice_index_or (views at gs) i no_view).quant ≡ (slice_index_or gs i no_group).quant
+pub view-quant : (at : ℕ) (gs : List Group) (i : ℕ) → i < length gs → (slice_index_or (views at gs) i no_view).quant ≡ (slice_index_or gs i no_group).quant
 view-quant at [] i below = absurd (omega arith)
 view-quant at (g ∷ gs) zero below = refl
 view-quant at (g ∷ gs) (suc i) below = view-quant (at + length (group_text g)) gs i (omega arith)
 
 -- what the view of a picture's group holds is what the group sends
-bits-of-view : (format : Format) (p : Picture) (i : ℕ) → i < length p.groups
+pub bits-of-view : (format : Format) (p : Picture) (i : ℕ) → i < length p.groups
     → macroblock_bits (coding format p) i ≡ macroblocks_text None (slice_index_or p.groups i no_group).macroblocks
 bits-of-view format p i below =
     ap (λ (at : ℕ). take (slice_index_or (views at p.groups) i no_view).len (drop (slice_index_or (views at p.groups) i no_view).from (picture_header format p.tr ++ flat_map group_text p.groups)))

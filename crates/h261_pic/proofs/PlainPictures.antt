@@ -368,14 +368,14 @@ length-levels (dcs ∷ levels) six =
     length-append (mb_word dcs) (flat_map mb_word levels)
     ∙ omega (arith, length-mb_word dcs ((six 0 dcs (omega arith)).0), length-levels levels (λ k d l. six (suc k) d (omega arith)))
 
-length-group_head : (number quant : ℕ) → length (group_header number quant) ≡ 26
+pub length-group_head : (number quant : ℕ) → length (group_header number quant) ≡ 26
 unfolding group_header field
 length-group_head number quant = refl
 
 plain-group-text : (number : ℕ) (g : PlainGroup) → group_text (plain_group number g) ≡ group_header number g.quant ++ flat_map mb_word g.levels
 plain-group-text number g = ap (λ t. group_header number g.quant ++ t) (levels-text None 0 g.levels refl)
 
-length-plain-group : (number : ℕ) (g : PlainGroup) → IsPlainGroup g → length (group_text (plain_group number g)) ≡ 2171
+pub length-plain-group : (number : ℕ) (g : PlainGroup) → IsPlainGroup g → length (group_text (plain_group number g)) ≡ 2171
 length-plain-group number g plain =
     ap length (plain-group-text number g) ∙ length-append (group_header number g.quant) (flat_map mb_word g.levels)
     ∙ omega (arith, length-group_head number g.quant, length-levels g.levels plain.levels, plain.whole)
