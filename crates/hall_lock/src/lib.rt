@@ -1,0 +1,13 @@
+//! A turn lock: callers draw tickets, wait for their turn, and step one machine that goes from seat to seat. It is
+//! proved once for every machine, and its contracts tell each caller the history that it was part of.
+#![tactic(auto)]
+
+mod machine;
+mod plays;
+mod seat;
+mod steps;
+mod view;
+
+pub use machine::Machine;
+pub use seat::Seat;
+pub use view::Turn;
