@@ -50,6 +50,11 @@ module _ {A : Type 0} where
   of_two xs ys zs p q true e = (q, prefix_shorter xs ys zs p q (grind (arith, nat_tests)))
   of_two xs ys zs p q false e = (p, prefix_shorter ys xs zs q p (grind (arith, nat_tests)))
 
+  -- neither is longer than the longer one
+  pub longest : (xs ys : List A) (b : Bool) → leb (length xs) (length ys) ≡ b → (length xs ≤ length (cond b ys xs)) × (length ys ≤ length (cond b ys xs))
+  longest xs ys true e = (grind (arith, nat_tests), omega arith)
+  longest xs ys false e = (omega arith, grind (arith, nat_tests))
+
 module _ {M C R S : Type 0} (shape : M → S) (fits : S → C → Type 0) (steps : M → C → R → M → Type 0) where
   goes_on : (m n k : M) (ts : List (Turn C R)) (t : Turn C R) → Goes shape fits steps m ts n → steps n t.call t.reply k → Goes shape fits steps m (ts ++ t ∷ []) k
   goes_on m n k [] t g st = (k, subst (λ x. steps x t.call t.reply k) (sym g) st, refl)

@@ -1,12 +1,14 @@
 -- What each step tells the seat that made it: of what it knew, the number that it read, and what it knows after.
-use Rattle.std.specs.Prelude.{◌≡◌, ℕ, ◌+◌, ◌-◌, ◌<◌, ◌≤◌, ◌==◌, max, Bool, true, false, ◌||◌, List, [], ◌∷◌, ◌++◌, length, Option, Some, None, Box, MatchBool}
+use Rattle.std.specs.Prelude.{◌≡◌, ℕ, ◌+◌, ◌-◌, ◌^◌, ◌<◌, ◌≤◌, ◌==◌, max, Bool, true, false, ◌||◌, List, [], ◌∷◌, ◌++◌, length, Option, Some, None, Box, MatchBool}
 use Rattle.std.specs.Global.{Global}
 use mathlib.Core.List.{IsPrefix}
+use mathlib.Core.Option.{some}
+use lib.ListN.{get_elem?}
 use Rattle.atomic_table.specs.Table.{Me, Step, rest}
 use Rattle.hall_lock.specs.declared.view.Turn.{Turn}
 use Rattle.hall_lock.specs.declared.view.View.{View}
 use Rattle.hall_lock.specs.Turns.{Leads}
-use Rattle.hall_lock.specs.Places.{AtMostOnce}
+use Rattle.hall_lock.specs.Places.{AtMostOnce, EachOnce}
 use Rattle.hall_lock.specs.Seats.{longer, shorter, Lock, AtLock}
 use Rattle.hall_lock.specs.Rule.{is_at, spent_view}
 use Rattle.atomic_table.specs.Seated.{TableId}
@@ -23,6 +25,9 @@ Stepped M = Step (Option (Box M Global))
 abbrev pub IsTable : TableId → TableId → Type 0
 IsTable z seat = (z.words ≡ 2) × (z.slots ≡ 1) × (seat ≡ z)
 
+abbrev pub turn_of : {C R : Type 0} → C → R → Turn C R
+turn_of call reply = record { call = call; reply = reply }
+
 module _ {M C R : Type 0} where
   abbrev pub IsSame : Seat (Option (Box M Global)) (View M C R) → Seat (Option (Box M Global)) (View M C R) → Type 0
   IsSame old new = (new.table_id ≡ old.table_id) × (new.id ≡ old.id)
@@ -38,6 +43,10 @@ module _ {M C R : Type 0} where
   -- what contracts see of a view
   abbrev pub shown : TableId → View M C R → AtLock M C R
   shown z v = record { lock = record { name = z; opening = v.opening; turns = v.turns }; share = v.share; seen = v.seen; mine = v.mine; past = v.past; front = v.front; full = v.full; looks = v.looks }
+
+  -- the view of the first seat
+  abbrev pub first_view : M → ℕ → View M C R
+  first_view m most = record { opening = Some m; turns = most; share = 2 ^ 32; seen = []; met = []; mine = []; past = []; front = 0; ticket = None; at_turn = false; full = false; looks = 0; spent = false }
 
   -- a load of `tickets`
   abbrev pub saw_tickets : Stepped M → Sitting M C R → ℕ → Sitting M C R → Type 0
@@ -95,3 +104,13 @@ module _ {M C R S : Type 0} (shape : M → S) (fits : S → C → Type 0) (steps
   -- a load of `turn`
   abbrev pub looked : Stepped M → Sitting M C R → ℕ → Sitting M C R → Type 0
   looked st me n me' = (length me.0.seen ≤ n) × (me.0.front ≤ n) × (n ≤ me.0.turns) × MatchBool (is_at n me.0.ticket) (TakesBox me n me') (me' ≡ (looking me.0 n, me.1))
+
+  -- the lock as it is closed: the box is home, and every turn passed is accounted for by the one seat
+  pub record IsClosing (words : List ℕ) (slots : List (Option (Box M Global))) (v : View M C R) : Type 0 where
+    pub box : Box M Global
+    pub word : get_elem? words 1 ≡ some (length v.seen)
+    pub slot : get_elem? slots 0 ≡ some (Some box)
+    pub leads : LeadsFrom v.opening v.seen box.value
+    pub places : EachOnce (length v.seen) (v.mine ++ v.past)
+    pub front : v.front ≤ length v.seen
+    pub full : v.full ≡ true → length v.seen ≡ v.turns

@@ -47,12 +47,12 @@ pub struct LockRule<M> {
 }
 
 impl<M: Machine> TableRule<Option<Box<M>>, View<M, M::Call, M::Reply>, Opening<M>> for LockRule<M> {
-    ghost use Rattle.std.specs.Prelude.{◌^◌, [], Some, None, false};
     ghost use Rattle.hall_lock.specs.Rule.{IsKept};
+    ghost use Rattle.hall_lock.specs.Steps.{first_view};
 
     ghost holds = { λ key s. IsKept M.shape M.fits M.steps key.machine.value key.turns s };
 
-    ghost first = { λ key. record { opening = Some key.machine.value; turns = key.turns; share = 2 ^ 32; seen = []; met = []; mine = []; past = []; front = 0; ticket = None; at_turn = false; full = false; looks = 0; spent = false } };
+    ghost first = { λ key. first_view key.machine.value key.turns };
 }
 
 pub type LockTable<M> = Table<
