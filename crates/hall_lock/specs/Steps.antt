@@ -60,6 +60,27 @@ module _ {M C R : Type 0} where
   abbrev pub drew : Stepped M → Sitting M C R → ℕ → Sitting M C R → Type 0
   drew st me n me' = MatchBool (n == st.first) ((me' ≡ (record me.0 { ticket = Some st.first }, me.1)) × (me.0.full ≡ false)) (me' ≡ me)
 
+  -- the seat has its ticket, and is not at the turn
+  pub record IsWaiting (me : Sitting M C R) (ticket : ℕ) : Type 0 where
+    pub live : me.0.spent ≡ false
+    pub drawn : me.0.ticket ≡ Some ticket
+    pub waits : me.0.at_turn ≡ false
+    pub holds_nothing : me.1 ≡ []
+
+  -- the seat is at its turn
+  pub record IsTurning (me : Sitting M C R) (ticket : ℕ) : Type 0 where
+    pub live : me.0.spent ≡ false
+    pub drawn : me.0.ticket ≡ Some ticket
+    pub here : me.0.at_turn ≡ true
+
+  -- loads of `turn` changed `front` and `looks` alone
+  pub record Waits (me me' : Sitting M C R) : Type 0 where
+    pub front : ℕ
+    pub looks : ℕ
+    pub after : me' ≡ (record me.0 { front = front; looks = looks }, me.1)
+    pub not_fallen : me.0.front ≤ front
+    pub not_fewer : me.0.looks ≤ looks
+
   -- the view after a load of `turn`
   abbrev pub looking : View M C R → ℕ → View M C R
   looking v n = record v { front = n; looks = v.looks + 1 }
@@ -104,6 +125,26 @@ module _ {M C R S : Type 0} (shape : M → S) (fits : S → C → Type 0) (steps
   -- a load of `turn`
   abbrev pub looked : Stepped M → Sitting M C R → ℕ → Sitting M C R → Type 0
   looked st me n me' = (length me.0.seen ≤ n) × (me.0.front ≤ n) × (n ≤ me.0.turns) × MatchBool (is_at n me.0.ticket) (TakesBox me n me') (me' ≡ (looking me.0 n, me.1))
+
+  -- the machine that the view names may be asked this call
+  abbrev pub FitsFrom : Option M → C → Type 0
+  FitsFrom o call = (m : M) × (o ≡ Some m) × fits (shape m) call
+
+  -- the seat has the box, to which all that it has seen leads
+  abbrev pub HasBox : Sitting M C R → Type 0
+  HasBox me = (b : Box M Global) × (me.1 ≡ (0, Some b) ∷ []) × LeadsFrom me.0.opening me.0.seen b.value
+
+  -- the seat came to its turn, the n-th, after one or more loads of `turn`
+  pub record Arrives (me : Sitting M C R) (n : ℕ) (me' : Sitting M C R) : Type 0 where
+    pub log : List (Turn C R)
+    pub box : Box M Global
+    pub looks : ℕ
+    pub after : me' ≡ (record me.0 { front = n; looks = looks; at_turn = true; seen = log }, (0, Some box) ∷ [])
+    pub looked_more : me.0.looks < looks
+    pub not_fallen : me.0.front ≤ n
+    pub grows : IsPrefix me.0.seen log
+    pub long : length log ≡ n
+    pub leads : LeadsFrom me.0.opening log box.value
 
   -- the lock as it is closed: the box is home, and every turn passed is accounted for by the one seat
   pub record IsClosing (words : List ℕ) (slots : List (Option (Box M Global))) (v : View M C R) : Type 0 where

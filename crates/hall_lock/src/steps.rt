@@ -3,12 +3,12 @@ ghost use Rattle.std.specs.Prelude.{◌≡◌, ◌+◌, ◌^◌, ◌<◌, ◌≤
 ghost use mathlib.Core.List.{IsPrefix};
 ghost use Rattle.hall_lock.specs.Rule.{is_at};
 ghost use Rattle.hall_lock.specs.Places.{AtMostOnce};
-ghost use Rattle.hall_lock.specs.Steps.{IsTable, IsSame, IsAtRest, TakesBox, LeadsFrom, looking, passing, cut_left, cut_right, glued, turn_of};
+ghost use Rattle.hall_lock.specs.Seats.{longer, shorter};
+ghost use Rattle.hall_lock.specs.Steps.{IsTable, IsSame, IsAtRest, IsTurning, TakesBox, LeadsFrom, HasBox, looking, passing, cut_left, cut_right, glued, turn_of};
 
 use crate::machine::Machine;
 use crate::plays::{Adds, Cut, Draw, Glue, Look, Part, Pass, Recall, SeeTickets};
 use crate::view::{BOX, LockSeat, LockTable, TICKETS, TURN};
-use std::marker::Brand;
 use std::snapshot::Snapshot;
 
 /// Loads `tickets`.
@@ -83,4 +83,54 @@ pub fn put_home<M: Machine>(table: &LockTable<M>, seat: &mut LockSeat<M>, machin
         None => {}
         Some(_) => unreachable!(),
     }
+}
+
+/// Stores `turn`, which adds the turn to the history. The call of it picks `J`.
+pub fn pass_as<M: Machine, J: Adds<M::Call, M::Reply>>(
+    table: &LockTable<M>,
+    seat: &mut LockSeat<M>,
+    ticket: u64,
+    call: &Snapshot<M::Call>,
+    reply: &M::Reply,
+)
+    requires table { IsTable table.now.shared.table_id seat.old.table_id }
+    requires picked { J.added ≡ turn_of call.now.value reply.now ∷ [] }
+    requires turn { IsTurning seat.old.me ticket }
+    requires fits { ticket + 1 < 2 ^ 64 }
+    requires box_led { (b : _) × (seat.old.me.1 ≡ (0, Some b) ∷ []) × LeadsFrom M.shape M.fits M.steps seat.old.me.0.opening (seat.old.me.0.seen ++ turn_of call.now.value reply.now ∷ []) b.value }
+    ensures same { IsSame seat.old seat.new }
+    ensures told { seat.new.me ≡ (passing seat.old.me.0 (turn_of call.now.value reply.now ∷ []), []) }
+    ensures rest { IsAtRest seat.new.me }
+{
+    table.shared.store::<Pass<J>>(seat, TURN, ticket + 1);
+}
+
+/// Gives a part of the share to a new seat. The call of it picks `J`.
+pub fn cut_as<M: Machine, J: Part>(
+    table: &LockTable<M>,
+    seat: &mut LockSeat<M>,
+    part: u64,
+) -> LockSeat<M>
+    requires table { IsTable table.now.shared.table_id seat.old.table_id }
+    requires picked { J.part ≡ part }
+    requires rest { IsAtRest seat.old.me }
+    requires part { (1 ≤ part) × (part < seat.old.me.0.share) }
+    ensures same { IsSame seat.old seat.new × (result.table_id ≡ seat.old.table_id) }
+    ensures left { seat.new.me ≡ (cut_left part seat.old.me.0, []) }
+    ensures right { result.me ≡ (cut_right part seat.old.me.0, []) }
+{
+    table.shared.split_seat::<Cut<J>>(seat)
+}
+
+/// Joins the other seat into this one.
+pub fn glue<M: Machine>(table: &LockTable<M>, seat: &mut LockSeat<M>, other: LockSeat<M>)
+    requires table { IsTable table.now.shared.table_id seat.old.table_id × IsTable table.now.shared.table_id other.table_id }
+    requires rest { IsAtRest seat.old.me × IsAtRest other.me }
+    ensures same { IsSame seat.old seat.new }
+    ensures told { seat.new.me ≡ (glued seat.old.me.0 other.me.0, []) }
+    ensures line { IsPrefix (shorter seat.old.me.0.seen other.me.0.seen) (longer seat.old.me.0.seen other.me.0.seen) }
+    ensures rest { IsAtRest seat.new.me }
+{
+    table.shared.join_seat::<Glue>(seat, other);
+    recall(table, seat);
 }
