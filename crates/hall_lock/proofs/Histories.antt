@@ -10,7 +10,7 @@ use Rattle.hall_lock.specs.Rule.{waits, is_at}
 use Rattle.hall_lock.specs.declared.view.Turn.{Turn}
 use Rattle.hall_lock.specs.Turns.{Goes, Leads}
 use Rattle.hall_lock.specs.Places.{times, one_below}
-use Rattle.hall_lock.specs.Seats.{longer, shorter}
+use Rattle.hall_lock.specs.Steps.{LeadsFrom, FitsFrom, turn_of}
 
 module _ {A : Type 0} where
   -- each list begins with itself
@@ -68,6 +68,14 @@ module _ {M C R S : Type 0} (shape : M → S) (fits : S → C → Type 0) (steps
   pub shape_stays : ((m : M) (c : C) (r : R) (n : M) → steps m c r n → shape n ≡ shape m) → (m n : M) (ts : List (Turn C R)) → Goes shape fits steps m ts n → shape n ≡ shape m
   shape_stays law m n [] g = ap shape (sym g)
   shape_stays law m n (t ∷ ts) g = shape_stays law g.0 n ts g.2 ∙ law m t.call t.reply g.0 g.1
+
+  module _ (law : (m : M) (c : C) (r : R) (n : M) → steps m c r n → shape n ≡ shape m) where
+    -- a call that the opening machine may be asked may be asked of each later one
+    pub fits_there : (o : Option M) (ts : List (Turn C R)) (n : M) (c : C) → LeadsFrom shape fits steps o ts n → FitsFrom shape fits steps o c → fits (shape n) c
+    fits_there o ts n c led asked = subst (λ (x : S). fits x c) (ap shape (cc (asked.1, led.1)) ∙ sym (shape_stays law led.0 n ts led.2.goes)) asked.2
+
+    pub led_on : (o : Option M) (ts : List (Turn C R)) (n k : M) (c : C) (r : R) → LeadsFrom shape fits steps o ts n → FitsFrom shape fits steps o c → steps n c r k → LeadsFrom shape fits steps o (ts ++ turn_of c r ∷ []) k
+    led_on o ts n k c r led asked st = (led.0, led.1, leads_on led.0 n k ts (turn_of c r) led.2 (subst (λ (x : M). fits (shape x) c) (cc (asked.1, led.1)) asked.2) st)
 
 pub times-append : (x : ℕ) (xs ys : List ℕ) → times x (xs ++ ys) ≡ times x xs + times x ys
 times-append x xs ys = sum_by-append (λ (y : ℕ). cond (eqb y x) 1 0) xs ys

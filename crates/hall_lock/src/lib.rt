@@ -5,9 +5,12 @@
 mod machine;
 mod plays;
 mod seat;
+mod shared;
 mod steps;
+mod turns;
 mod view;
 
 pub use machine::Machine;
-pub use seat::Seat;
+pub use seat::{Past, Seat};
+pub use shared::{Closed, Over, Shared};
 pub use view::Turn;

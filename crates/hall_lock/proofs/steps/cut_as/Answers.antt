@@ -1,5 +1,5 @@
 use Rattle.std.proofs.Common.{rules, ◌<◌, ◌≤◌, sym, subst, ℕ}
-use Rattle.hall_lock.proofs.Shares.{cuts}
+use Rattle.hall_lock.proofs.Sharing.{cuts}
 use Rattle.hall_lock.proofs.steps.cut_as.Goals as goal
 
 pub split_seat-requires : goal.split_seat-requires

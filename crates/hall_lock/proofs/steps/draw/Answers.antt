@@ -1,5 +1,5 @@
 use Rattle.std.proofs.Common.{rules}
-use Rattle.hall_lock.proofs.Turns.{draws}
+use Rattle.hall_lock.proofs.Passing.{draws}
 use Rattle.hall_lock.proofs.steps.draw.Goals as goal
 
 pub compare_exchange-requires : goal.compare_exchange-requires

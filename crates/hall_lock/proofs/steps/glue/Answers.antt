@@ -1,5 +1,5 @@
 use Rattle.std.proofs.Common.{rules}
-use Rattle.hall_lock.proofs.Shares.{glues}
+use Rattle.hall_lock.proofs.Sharing.{glues}
 use Rattle.hall_lock.proofs.steps.glue.Goals as goal
 
 pub join_seat-requires : goal.join_seat-requires

@@ -1,5 +1,5 @@
 use Rattle.std.proofs.Common.{rules}
-use Rattle.hall_lock.proofs.Turns.{looks}
+use Rattle.hall_lock.proofs.Passing.{looks}
 use Rattle.hall_lock.proofs.steps.look.Goals as goal
 
 pub load-requires : goal.load-requires

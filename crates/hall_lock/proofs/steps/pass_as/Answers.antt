@@ -1,5 +1,5 @@
 use Rattle.std.proofs.Common.{rules}
-use Rattle.hall_lock.proofs.Turns.{passes}
+use Rattle.hall_lock.proofs.Passing.{passes}
 use Rattle.hall_lock.proofs.steps.pass_as.Goals as goal
 
 pub store-requires : goal.store-requires

@@ -1,6 +1,6 @@
 use Rattle.std.proofs.Common.{rules}
 use Rattle.hall_lock.proofs.Kept.{recalls}
-use Rattle.hall_lock.proofs.Shares.{cuts}
+use Rattle.hall_lock.proofs.Sharing.{cuts}
 use Rattle.hall_lock.proofs.Ends.{closes}
 use Rattle.hall_lock.proofs.steps.recall.Goals as goal
 

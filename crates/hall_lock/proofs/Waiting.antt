@@ -1,0 +1,37 @@
+-- A seat that waits comes to its turn.
+use Rattle.std.proofs.Common.{◌≡◌, ℕ, ◌+◌, ◌≤◌, ◌<◌, Bool, true, List, [], ◌∷◌, sym, ap, ◌∙◌, subst, arith, Option, Some, Box, MatchBool}
+use Rattle.std.specs.Global.{Global}
+use Rattle.hall_lock.specs.declared.view.View.{View}
+use Rattle.hall_lock.specs.Rule.{is_at}
+use Rattle.hall_lock.specs.Steps.{Sitting, IsWaiting, Waits, TakesBox, Arrives, looking, turning}
+use Rattle.hall_lock.proofs.Histories.{is_at-here}
+
+module _ {M C R S : Type 0} (shape : M → S) (fits : S → C → Type 0) (steps : M → C → R → M → Type 0) where
+  arrives_at : (me last : Sitting M C R) (n front looks : ℕ) (other : Type 0) → IsWaiting me n → me.0.looks ≤ looks → me.0.front ≤ n
+      → MatchBool (is_at n me.0.ticket) (TakesBox shape fits steps (record me.0 { front = front; looks = looks }, me.1) n last) other → Arrives shape fits steps me n last
+  arrives_at me last n front looks other waiting more ahead told =
+      let mine : is_at n me.0.ticket ≡ true = ap (is_at n) waiting.drawn ∙ is_at-here n in
+      let before : Sitting M C R = (record me.0 { front = front; looks = looks }, me.1) in
+      let took : TakesBox shape fits steps before n last = subst (λ (b : Bool). MatchBool b (TakesBox shape fits steps before n last) other) mine told in
+      let empty : me.1 ≡ [] = waiting.holds_nothing in record {
+        log = took.log;
+        box = took.box;
+        looks = looks + 1;
+        after = took.after ∙ ap (λ (cs : List (ℕ × Option (Box M Global))). let z : Sitting M C R = (turning before.0 n took.log, (0, Some took.box) ∷ cs) in z) empty;
+        looked_more = omega arith;
+        not_fallen = ahead;
+        grows = took.grows;
+        long = took.long;
+        leads = took.leads;
+      }
+
+  pub arrives : (me now last : Sitting M C R) (k n : ℕ) → IsWaiting me k → Waits me now → n ≡ k → now.0.front ≤ n
+      → MatchBool (is_at n now.0.ticket) (TakesBox shape fits steps now n last) (last ≡ (looking now.0 n, now.1)) → Arrives shape fits steps me k last
+  arrives me now last k n waiting waits is ahead told =
+      let P : ℕ → Sitting M C R → Type 0 = λ x z. z.0.front ≤ x → MatchBool (is_at x z.0.ticket) (TakesBox shape fits steps z x last) (last ≡ (looking z.0 x, z.1)) → Arrives shape fits steps me k last in
+      let at_rest : P k (record me.0 { front = waits.front; looks = waits.looks }, me.1) = λ far t. arrives_at me last k waits.front waits.looks _ waiting waits.not_fewer (omega (arith, far, waits.not_fallen)) t in
+      subst (λ (q : ℕ × Sitting M C R). P q.0 q.1) (λ i. (sym is i, sym waits.after i)) at_rest ahead told
+
+-- the slot's box is one
+pub same_box : {B : Type 0} (held : List (ℕ × Option B)) (a b : B) → held ≡ (0, Some a) ∷ [] → held ≡ (0, Some b) ∷ [] → a ≡ b
+same_box held a b p q = cc (p, q)
