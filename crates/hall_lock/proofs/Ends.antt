@@ -1,7 +1,8 @@
 -- The lock as it is made, and as it is closed by the seat that has every share.
-use Rattle.std.proofs.Common.{◌≡◌, ◌≢◌, ◌⊎◌, ℕ, zero, suc, ◌+◌, ◌-◌, ◌≤◌, ◌<◌, ◌^◌, Bool, true, false, cond, eqb, List, [], ◌∷◌, ◌++◌, length, sum_by, sym, ap, refl, ◌∙◌, subst, ⊎_elim, inl, inr, arith, lt_of_not-le, Option, Some, None, Box}
+use Rattle.std.proofs.Common.{◌≡◌, ◌≢◌, ◌⊎◌, ℕ, zero, suc, ◌+◌, ◌-◌, ◌≤◌, ◌<◌, ◌^◌, Bool, true, false, cond, eqb, List, [], ◌∷◌, ◌++◌, length, sum_by, sym, ap, refl, ◌∙◌, subst, ⊎_elim, inl, inr, arith, lt_of_not-le, Option, Some, None, Box, unwrap_or, is_some}
 use Rattle.std.specs.Global.{Global}
 use Rattle.std.proofs.lemmas.Bool.Decides.{nat_tests}
+use mathlib.Core.Bool.{true≢false}
 use mathlib.Core.Logic.{dite}
 use mathlib.Core.List.{IsPrefix}
 use mathlib.Core.Option.{none, some}
@@ -109,3 +110,17 @@ module _ {M C R S : Type 0} (shape : M → S) (fits : S → C → Type 0) (steps
   pub closes : (ws : List ℕ) (xs : List (Option (Box M Global))) (i : ℕ) (v : View M C R) → v.spent ≡ false → v.ticket ≡ None → v.at_turn ≡ false → v.share ≡ 2 ^ 32
       → Final (Seen Rule i v) ws xs → IsClosing shape fits steps ws xs v
   closes ws xs i v live free waits_not whole f = closes_state f.0 f.1.0 ws xs i v f.1.1 live free waits_not whole f.2 f.4
+
+module _ {B : Type 0} where
+  -- what a slot had is what was taken out of it
+  taken : (o : maybe.Option (Option B)) (x : Option B) (b : B) → o ≡ some x → o ≡ some (Some b) → x ≡ Some b
+  taken o x b p q = maybe.some-injective x (Some b) (sym p ∙ q)
+
+  pub not_empty : (o : maybe.Option (Option B)) (x : Option B) (b : B) → o ≡ some x → o ≡ some (Some b) → x ≡ None → ⊥
+  not_empty o x b p q e = true≢false (sym (ap is_some (sym e ∙ taken o x b p q)))
+
+  pub same_taken : (o : maybe.Option (Option B)) (x : Option B) (a b : B) → o ≡ some x → x ≡ Some a → o ≡ some (Some b) → b ≡ a
+  same_taken o x a b p e q = sym (ap (λ (z : Option B). unwrap_or z a) (sym e ∙ taken o x b p q))
+
+pub same_number : (o : maybe.Option ℕ) (x y : ℕ) → o ≡ some x → o ≡ some y → x ≡ y
+same_number o x y p q = maybe.some-injective x y (sym p ∙ q)

@@ -1,12 +1,16 @@
 -- A seat that waits comes to its turn.
-use Rattle.std.proofs.Common.{◌≡◌, ℕ, ◌+◌, ◌≤◌, ◌<◌, Bool, true, List, [], ◌∷◌, sym, ap, ◌∙◌, subst, arith, Option, Some, Box, MatchBool}
+use Rattle.std.proofs.Common.{◌≡◌, ℕ, ◌+◌, ◌≤◌, ◌<◌, Bool, true, List, [], ◌∷◌, sym, ap, ◌∙◌, subst, arith, Option, Some, Box, MatchBool, refl, unwrap_or}
 use Rattle.std.specs.Global.{Global}
 use Rattle.hall_lock.specs.declared.view.View.{View}
 use Rattle.hall_lock.specs.Rule.{is_at}
-use Rattle.hall_lock.specs.Steps.{Sitting, IsWaiting, Waits, TakesBox, Arrives, looking, turning}
+use Rattle.hall_lock.specs.Steps.{Sitting, IsWaiting, Waits, TakesBox, Arrives, HasBox, looking, turning}
 use Rattle.hall_lock.proofs.Histories.{is_at-here}
 
 module _ {M C R S : Type 0} (shape : M → S) (fits : S → C → Type 0) (steps : M → C → R → M → Type 0) where
+  -- who came to the turn has the box
+  pub has_box : (me now : Sitting M C R) (n : ℕ) → Arrives shape fits steps me n now → HasBox shape fits steps now
+  has_box me now n came = subst (HasBox shape fits steps) (sym came.after) (came.box, refl, came.leads)
+
   arrives_at : (me last : Sitting M C R) (n front looks : ℕ) (other : Type 0) → IsWaiting me n → me.0.looks ≤ looks → me.0.front ≤ n
       → MatchBool (is_at n me.0.ticket) (TakesBox shape fits steps (record me.0 { front = front; looks = looks }, me.1) n last) other → Arrives shape fits steps me n last
   arrives_at me last n front looks other waiting more ahead told =
@@ -32,6 +36,11 @@ module _ {M C R S : Type 0} (shape : M → S) (fits : S → C → Type 0) (steps
       let at_rest : P k (record me.0 { front = waits.front; looks = waits.looks }, me.1) = λ far t. arrives_at me last k waits.front waits.looks _ waiting waits.not_fewer (omega (arith, far, waits.not_fallen)) t in
       subst (λ (q : ℕ × Sitting M C R). P q.0 q.1) (λ i. (sym is i, sym waits.after i)) at_rest ahead told
 
+box_or : {B : Type 0} → B → List (ℕ × Option B) → B
+box_or d [] = d
+box_or d (x ∷ xs) = unwrap_or x.1 d
+
 -- the slot's box is one
 pub same_box : {B : Type 0} (held : List (ℕ × Option B)) (a b : B) → held ≡ (0, Some a) ∷ [] → held ≡ (0, Some b) ∷ [] → a ≡ b
-same_box held a b p q = cc (p, q)
+unfolding box_or
+same_box held a b p q = ap (box_or a) (sym p ∙ q)

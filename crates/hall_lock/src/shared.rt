@@ -8,8 +8,8 @@ ghost use Rattle.hall_lock.specs.Turns.{Leads};
 use crate::machine::Machine;
 use crate::seat::{Past, Seat};
 use crate::steps::{cut_as, glue, look};
-use crate::turns::{draw_ticket, make_turn, wait_turn};
-use crate::view::{BOX, LockTable, Opening, TURN};
+use crate::turns::{draw_ticket, make_turn, open_up, wait_turn};
+use crate::view::{LockTable, Opening};
 use atomic_table::Table;
 use pel_bits::NoMemory;
 use std::alloc::Global;
@@ -67,10 +67,16 @@ impl<M: Machine> Shared<M> {
             machine: Snapshot::of(&machine),
             turns,
         };
-        let machine = Box::new(alloc, machine)?;
+        let Ok(machine) = Box::new(alloc, machine) else {
+            return Err(NoMemory);
+        };
         let mut slots = Vec::new(alloc);
-        slots.push(Some(machine))?;
-        let (table, seat) = Table::new(alloc, &[0, 0], slots, &about)?;
+        let Ok(()) = slots.push(Some(machine)) else {
+            return Err(NoMemory);
+        };
+        let Ok((table, seat)) = Table::new(alloc, &[0, 0], slots, &about) else {
+            return Err(NoMemory);
+        };
         Ok((Shared { table, turns }, Seat { seat }))
     }
 
@@ -150,13 +156,7 @@ impl<M: Machine> Shared<M> {
         let known = Snapshot::of(&seat);
         let Shared { table, turns: _ } = self;
         let Seat { seat } = seat;
-        let mut closed = table.close_with(seat);
-        let turns = closed.word(TURN);
-        let machine = match closed.take(BOX) {
-            Some(machine) => machine,
-            None => unreachable!(),
-        };
-        closed.free();
+        let (machine, turns) = open_up(table, seat);
         Closed {
             machine,
             turns,

@@ -1,10 +1,11 @@
 //! One call at the lock: a ticket is drawn, its turn is waited for, and the machine makes one step.
-ghost use Rattle.std.specs.Prelude.{◌≡◌, ◌+◌, ◌^◌, ◌<◌, [], ◌∷◌, ◌++◌, false, true, Some, IfSome, IfNone};
+ghost use Rattle.std.specs.Prelude.{◌≡◌, ◌+◌, ◌^◌, ◌<◌, ◌≤◌, [], ◌∷◌, ◌++◌, length, false, true, Some, IfSome, IfNone};
+ghost use Rattle.hall_lock.specs.Places.{EachOnce};
 ghost use Rattle.hall_lock.specs.Steps.{IsTable, IsSame, IsAtRest, IsWaiting, IsTurning, Arrives, HasBox, LeadsFrom, FitsFrom, passing, turn_of};
 
 use crate::machine::Machine;
 use crate::steps::{draw, look, pass_as, put_home, see_tickets, take_out};
-use crate::view::{LockSeat, LockTable, TICKETS, TURN};
+use crate::view::{BOX, LockSeat, LockTable, TICKETS, TURN};
 use std::hint::spin_loop;
 use std::marker::Brand;
 use std::snapshot::Snapshot;
@@ -128,4 +129,24 @@ pub fn make_turn<M: Machine>(
     put_home(table, seat, machine);
     pass(table, seat, ticket, &asked, &reply);
     reply
+}
+
+/// Ends the table by the seat that has the whole share: the box, and the number of turns passed.
+pub fn open_up<M: Machine>(table: LockTable<M>, seat: LockSeat<M>) -> (Box<M>, u64)
+    requires table { IsTable table.shared.table_id seat.table_id }
+    requires rest { IsAtRest seat.me }
+    requires whole { seat.me.0.share ≡ 2 ^ 32 }
+    ensures history { LeadsFrom M.shape M.fits M.steps seat.me.0.opening seat.me.0.seen result.0.value }
+    ensures turns { (result.1 ≡ length seat.me.0.seen) × (seat.me.0.front ≤ result.1) }
+    ensures places { EachOnce result.1 (seat.me.0.mine ++ seat.me.0.past) }
+    ensures full { seat.me.0.full ≡ true → result.1 ≡ seat.me.0.turns }
+{
+    let mut closed = table.close_with(seat);
+    let turns = closed.word(TURN);
+    let machine = match closed.take(BOX) {
+        Some(machine) => machine,
+        None => unreachable!(),
+    };
+    closed.free();
+    (machine, turns)
 }
