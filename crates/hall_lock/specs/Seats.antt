@@ -12,7 +12,7 @@ pub record Lock (M : Type 0) : Type 0 where
   pub opening : M
   pub turns : ℕ
 
-pub record AtLock (M C R : Type 0) : Type 0 where
+pub record SeatState (M C R : Type 0) : Type 0 where
   -- the lock that the seat is of
   pub lock : Lock (Option M)
   -- its part of the whole, which is 2 ^ 32
@@ -37,7 +37,7 @@ lock_code {M} m = code_by (TableId × (M × ℕ)) (coded× table_id_coded (coded
 abbrev pub turn_code : {C R : Type 0} → Coded C → Coded R → Coded (Turn C R)
 turn_code {C} {R} c r = code_by (C × R) (coded× c r) (λ t. (t.call, t.reply)) (λ p. record { call = p.0; reply = p.1 }) (λ _. refl)
 
-abbrev pub seat_code : {M C R : Type 0} → Coded M → Coded C → Coded R → Coded (AtLock M C R)
+abbrev pub seat_code : {M C R : Type 0} → Coded M → Coded C → Coded R → Coded (SeatState M C R)
 seat_code {M} {C} {R} m c r = code_by (Lock (Option M) × (ℕ × (List (Turn C R) × (List ℕ × (List ℕ × (ℕ × (Bool × ℕ)))))))
     (coded× (lock_code (coded_option m)) (coded× coded_ℕ (coded× (coded_list (turn_code c r)) (coded× (coded_list coded_ℕ) (coded× (coded_list coded_ℕ) (coded× coded_ℕ (coded× coded_bool coded_ℕ)))))))
     (λ s. (s.lock, (s.share, (s.seen, (s.mine, (s.past, (s.front, (s.full, s.looks))))))))
@@ -57,31 +57,31 @@ named l = record { name = l.name; opening = Some l.opening; turns = l.turns }
 
 module _ {M C R : Type 0} where
   -- the seat is of this lock: it came from the `reserve` that made it, at once or by splits
-  abbrev pub IsOf : Lock M → AtLock M C R → Type 0
+  abbrev pub IsOf : Lock M → SeatState M C R → Type 0
   IsOf l s = s.lock ≡ named l
 
   -- its places are places of what it has seen, each once
-  abbrev pub OwnsPlaces : AtLock M C R → Type 0
+  abbrev pub OwnsPlaces : SeatState M C R → Type 0
   OwnsPlaces s = AtMostOnce (length s.seen) (s.mine ++ s.past)
 
   -- the seat that comes with a new lock
-  abbrev pub first_seat : Lock M → AtLock M C R
+  abbrev pub first_seat : Lock M → SeatState M C R
   first_seat l = record { lock = named l; share = 2 ^ 32; seen = []; mine = []; past = []; front = 0; full = false; looks = 0 }
 
   -- a part of the seat, which knows what the seat knows, and has made no turn
-  abbrev pub part_of : AtLock M C R → ℕ → AtLock M C R
+  abbrev pub part_of : SeatState M C R → ℕ → SeatState M C R
   part_of s part = record s { share = part; mine = []; past = []; looks = 0 }
 
   -- what is left where a part is split off
-  abbrev pub left_of : AtLock M C R → ℕ → AtLock M C R
+  abbrev pub left_of : SeatState M C R → ℕ → SeatState M C R
   left_of s part = record s { share = s.share - part }
 
   -- a seat and another that was joined into it
-  abbrev pub joined : AtLock M C R → AtLock M C R → AtLock M C R
+  abbrev pub joined : SeatState M C R → SeatState M C R → SeatState M C R
   joined s o = record s { share = s.share + o.share; seen = longer s.seen o.seen; past = s.past ++ (o.mine ++ o.past); front = max s.front o.front; full = s.full || o.full }
 
   -- the seat has made this call and got this reply, and nothing but its own turn and what led to it has come to it
-  pub record TakesTurn (call : C) (reply : R) (old new : AtLock M C R) : Type 0 where
+  pub record TakesTurn (call : C) (reply : R) (old new : SeatState M C R) : Type 0 where
     -- the turns before it
     pub before : List (Turn C R)
     pub begins : IsPrefix old.seen before

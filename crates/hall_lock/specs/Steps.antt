@@ -9,7 +9,7 @@ use Rattle.hall_lock.specs.declared.view.Turn.{Turn}
 use Rattle.hall_lock.specs.declared.view.View.{View}
 use Rattle.hall_lock.specs.Turns.{Leads}
 use Rattle.hall_lock.specs.Places.{AtMostOnce, EachOnce}
-use Rattle.hall_lock.specs.Seats.{longer, shorter, Lock, AtLock}
+use Rattle.hall_lock.specs.Seats.{longer, shorter, Lock, SeatState}
 use Rattle.hall_lock.specs.Rule.{is_at, spent_view}
 use Rattle.atomic_table.specs.Seated.{TableId}
 use Rattle.atomic_table.specs.declared.shared.Seat.{Seat}
@@ -41,7 +41,7 @@ module _ {M C R : Type 0} where
     pub own : AtMostOnce (length me.0.seen) (me.0.mine ++ me.0.past)
 
   -- what contracts see of a view
-  abbrev pub shown : TableId → View M C R → AtLock M C R
+  abbrev pub shown : TableId → View M C R → SeatState M C R
   shown z v = record { lock = record { name = z; opening = v.opening; turns = v.turns }; share = v.share; seen = v.seen; mine = v.mine; past = v.past; front = v.front; full = v.full; looks = v.looks }
 
   -- the view of the first seat

@@ -2,6 +2,7 @@
 //! proved once for every machine, and its contracts tell each caller the history that it was part of.
 #![tactic(auto)]
 
+mod ending;
 mod machine;
 mod plays;
 mod seat;

@@ -8,35 +8,35 @@ use atomic_table::{Join, Play, Split};
 use std::marker::{Brand, PhantomData};
 
 /// A load of `tickets`.
-pub struct SeeTickets;
+pub(crate) struct SeeTickets;
 
 impl<M, C, R> Play<Option<Box<M>>, View<M, C, R>> for SeeTickets {
     ghost then = { saw_tickets };
 }
 
 /// A load of `tickets` whose number is let go.
-pub struct Recall;
+pub(crate) struct Recall;
 
 impl<M, C, R> Play<Option<Box<M>>, View<M, C, R>> for Recall {
     ghost then = { recalled };
 }
 
 /// A compare and exchange of `tickets`.
-pub struct Draw;
+pub(crate) struct Draw;
 
 impl<M, C, R> Play<Option<Box<M>>, View<M, C, R>> for Draw {
     ghost then = { drew };
 }
 
 /// A load of `turn`.
-pub struct Look;
+pub(crate) struct Look;
 
 impl<M: Machine> Play<Option<Box<M>>, View<M, M::Call, M::Reply>> for Look {
     ghost then = { looked M.shape M.fits M.steps };
 }
 
 /// The turn that a store of `turn` adds to the history. The call picks it, for the store carries a number alone.
-pub trait Adds<C, R> {
+pub(crate) trait Adds<C, R> {
     ghost use Rattle.std.specs.Prelude.{List};
     ghost use Rattle.hall_lock.specs.declared.view.Turn.{Turn};
 
@@ -50,7 +50,7 @@ impl<C, R> Adds<C, R> for Brand {
 }
 
 /// A store of `turn`.
-pub struct Pass<J> {
+pub(crate) struct Pass<J> {
     turn: PhantomData<J>,
 }
 
@@ -59,7 +59,7 @@ impl<M, C, R, J: Adds<C, R>> Play<Option<Box<M>>, View<M, C, R>> for Pass<J> {
 }
 
 /// The part of a share that a split gives away. The call picks it.
-pub trait Part {
+pub(crate) trait Part {
     ghost use Rattle.std.specs.Prelude.{ℕ};
 
     ghost part: { ℕ };
@@ -69,7 +69,7 @@ impl Part for Brand {
     ghost part = { 0 };
 }
 
-pub struct Cut<J> {
+pub(crate) struct Cut<J> {
     part: PhantomData<J>,
 }
 
@@ -79,7 +79,7 @@ impl<M, C, R, J: Part> Split<View<M, C, R>> for Cut<J> {
     ghost right = { cut_right J.part };
 }
 
-pub struct Glue;
+pub(crate) struct Glue;
 
 impl<M, C, R> Join<View<M, C, R>> for Glue {
     ghost both = { glued };

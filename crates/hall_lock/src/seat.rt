@@ -6,7 +6,7 @@ use std::snapshot::Snapshot;
 
 /// A seat at a lock, with which one thread calls. It has no bytes.
 ///
-/// Contracts see of it, as a record `AtLock` of `specs/Seats.antt`:
+/// Contracts see of it, as a record `SeatState` of `specs/Seats.antt`:
 /// - `lock`, the lock that it is of, and `share`, its part of the whole, which is 2^32;
 /// - `seen`, a list of turns, each a call with its reply: a beginning of the lock's history;
 /// - `mine`, the places in `seen` of its own turns, and `past`, those of the seats that were joined into it;
@@ -19,10 +19,10 @@ pub struct Seat<M: Machine> {
 }
 
 impl<M: Machine> Model for Seat<M> {
-    ghost use Rattle.hall_lock.specs.Seats.{AtLock, seat_code};
+    ghost use Rattle.hall_lock.specs.Seats.{SeatState, seat_code};
     ghost use Rattle.hall_lock.specs.Steps.{shown, IsAtRest};
 
-    ghost Value = { AtLock M M.Call M.Reply };
+    ghost Value = { SeatState M M.Call M.Reply };
 
     ghost coded = { seat_code M.code M.Call.code M.Reply.code };
 

@@ -5,10 +5,11 @@ ghost use Rattle.hall_lock.specs.Places.{EachOnce};
 ghost use Rattle.hall_lock.specs.Seats.{IsOf, OwnsPlaces, first_seat, part_of, left_of, joined, TakesTurn};
 ghost use Rattle.hall_lock.specs.Turns.{Leads};
 
+use crate::ending::open_up;
 use crate::machine::Machine;
 use crate::seat::{Past, Seat};
 use crate::steps::{cut_as, glue, look};
-use crate::turns::{draw_ticket, make_turn, open_up, wait_turn};
+use crate::turns::{draw_ticket, make_turn, wait_turn};
 use crate::view::{LockTable, Opening};
 use atomic_table::Table;
 use pel_bits::NoMemory;
@@ -82,16 +83,18 @@ impl<M: Machine> Shared<M> {
 
     /// Waits for the next turn that is free, and steps the machine by the call. It answers `Over` exactly where its
     /// draw of a turn read that all turns were drawn.
-    pub fn call<R: Wait>(
+    pub fn call(
         &self,
-        rt: &R,
+        rt: &impl Wait,
         seat: &mut Seat<M>,
         call: M::Call,
     ) -> Result<M::Reply, Over<M::Call>>
         requires seat { IsOf self.now seat.old }
         requires fits { M.fits (M.shape self.now.opening) call }
+        ensures seat { IsOf self.now seat.new }
         ensures turn { IfOk result (λ reply. TakesTurn call reply seat.old seat.new) }
         ensures history { IfOk result (λ _. (machine : _) × Leads M.shape M.fits M.steps self.now.opening seat.new.seen machine) }
+        ensures within { IfOk result (λ _. length seat.new.seen ≤ self.now.turns) }
         ensures over { IfErr result (λ over. (over.0 ≡ call) × (seat.new ≡ record seat.old { full = true })) }
         ensures places { OwnsPlaces seat.new }
     {
@@ -105,6 +108,7 @@ impl<M: Machine> Shared<M> {
     /// The number of turns passed. It waits for no one.
     pub fn glance(&self, seat: &mut Seat<M>) -> u64
         requires { IsOf self.now seat.old }
+        ensures same { IsOf self.now seat.new }
         ensures reaches { (length seat.old.seen ≤ result) × (seat.old.front ≤ result) × (result ≤ self.now.turns) }
         ensures seat { seat.new ≡ record seat.old { front = result; looks = seat.old.looks + 1 } }
         ensures places { OwnsPlaces seat.new }
@@ -116,6 +120,7 @@ impl<M: Machine> Shared<M> {
     pub fn split(&self, seat: &mut Seat<M>, part: u64) -> Seat<M>
         requires seat { IsOf self.now seat.old }
         requires part { (1 ≤ part) × (part < seat.old.share) }
+        ensures same { IsOf self.now seat.new × IsOf self.now result }
         ensures left { seat.new ≡ left_of seat.old part }
         ensures new { result ≡ part_of seat.old part }
         ensures places { OwnsPlaces seat.new × OwnsPlaces result }
@@ -128,6 +133,7 @@ impl<M: Machine> Shared<M> {
     /// Joins the other seat into this one, which then knows what either knew.
     pub fn join(&self, seat: &mut Seat<M>, other: Seat<M>) -> Past<M>
         requires { IsOf self.now seat.old × IsOf self.now other }
+        ensures same { IsOf self.now seat.new }
         ensures seat { seat.new ≡ joined seat.old other }
         // one of the two histories begins the other
         ensures line { IsPrefix seat.old.seen seat.new.seen × IsPrefix other.seen seat.new.seen }

@@ -12,7 +12,7 @@ use crate::view::{BOX, LockSeat, LockTable, TICKETS, TURN};
 use std::snapshot::Snapshot;
 
 /// Loads `tickets`.
-pub fn see_tickets<M: Machine>(table: &LockTable<M>, seat: &mut LockSeat<M>) -> u64
+pub(crate) fn see_tickets<M: Machine>(table: &LockTable<M>, seat: &mut LockSeat<M>) -> u64
     requires table { IsTable table.now.shared.table_id seat.old.table_id }
     requires live { seat.old.me.0.spent ≡ false }
     ensures same { IsSame seat.old seat.new }
@@ -23,7 +23,7 @@ pub fn see_tickets<M: Machine>(table: &LockTable<M>, seat: &mut LockSeat<M>) -> 
 }
 
 /// Draws the ticket, where `tickets` stands at it.
-pub fn draw<M: Machine>(table: &LockTable<M>, seat: &mut LockSeat<M>, ticket: u64) -> bool
+pub(crate) fn draw<M: Machine>(table: &LockTable<M>, seat: &mut LockSeat<M>, ticket: u64) -> bool
     requires table { IsTable table.now.shared.table_id seat.old.table_id }
     requires live { (seat.old.me.0.spent ≡ false) × (seat.old.me.0.ticket ≡ None) }
     requires left { ticket < seat.old.me.0.turns }
@@ -38,7 +38,7 @@ pub fn draw<M: Machine>(table: &LockTable<M>, seat: &mut LockSeat<M>, ticket: u6
 }
 
 /// Loads `turn`, and takes the slot where it stands at the seat's ticket.
-pub fn look<M: Machine>(table: &LockTable<M>, seat: &mut LockSeat<M>) -> u64
+pub(crate) fn look<M: Machine>(table: &LockTable<M>, seat: &mut LockSeat<M>) -> u64
     requires table { IsTable table.now.shared.table_id seat.old.table_id }
     requires live { (seat.old.me.0.spent ≡ false) × (seat.old.me.0.at_turn ≡ false) }
     ensures same { IsSame seat.old seat.new }
@@ -49,7 +49,7 @@ pub fn look<M: Machine>(table: &LockTable<M>, seat: &mut LockSeat<M>) -> u64
 }
 
 /// Loads `tickets` and lets the number go. It tells what the rule says of the seat's own lists.
-pub fn recall<M: Machine>(table: &LockTable<M>, seat: &mut LockSeat<M>)
+pub(crate) fn recall<M: Machine>(table: &LockTable<M>, seat: &mut LockSeat<M>)
     requires table { IsTable table.now.shared.table_id seat.old.table_id }
     requires live { seat.old.me.0.spent ≡ false }
     ensures same { IsSame seat.old seat.new × (seat.new.me ≡ seat.old.me) }
@@ -60,7 +60,7 @@ pub fn recall<M: Machine>(table: &LockTable<M>, seat: &mut LockSeat<M>)
 }
 
 /// Takes the box out of the slot.
-pub fn take_out<M: Machine>(table: &LockTable<M>, seat: &mut LockSeat<M>) -> Box<M>
+pub(crate) fn take_out<M: Machine>(table: &LockTable<M>, seat: &mut LockSeat<M>) -> Box<M>
     requires table { IsTable table.now.shared.table_id seat.old.table_id }
     requires holds { (b : _) × (seat.old.me.1 ≡ (0, Some b) ∷ []) }
     ensures same { IsSame seat.old seat.new }
@@ -73,7 +73,7 @@ pub fn take_out<M: Machine>(table: &LockTable<M>, seat: &mut LockSeat<M>) -> Box
 }
 
 /// Puts the box home into the slot.
-pub fn put_home<M: Machine>(table: &LockTable<M>, seat: &mut LockSeat<M>, machine: Box<M>)
+pub(crate) fn put_home<M: Machine>(table: &LockTable<M>, seat: &mut LockSeat<M>, machine: Box<M>)
     requires table { IsTable table.now.shared.table_id seat.old.table_id }
     requires holds { seat.old.me.1 ≡ (0, None) ∷ [] }
     ensures same { IsSame seat.old seat.new }
@@ -86,7 +86,7 @@ pub fn put_home<M: Machine>(table: &LockTable<M>, seat: &mut LockSeat<M>, machin
 }
 
 /// Stores `turn`, which adds the turn to the history. The call of it picks `J`.
-pub fn pass_as<M: Machine, J: Adds<M::Call, M::Reply>>(
+pub(crate) fn pass_as<M: Machine, J: Adds<M::Call, M::Reply>>(
     table: &LockTable<M>,
     seat: &mut LockSeat<M>,
     ticket: u64,
@@ -106,7 +106,7 @@ pub fn pass_as<M: Machine, J: Adds<M::Call, M::Reply>>(
 }
 
 /// Gives a part of the share to a new seat. The call of it picks `J`.
-pub fn cut_as<M: Machine, J: Part>(
+pub(crate) fn cut_as<M: Machine, J: Part>(
     table: &LockTable<M>,
     seat: &mut LockSeat<M>,
     part: u64,
@@ -123,7 +123,7 @@ pub fn cut_as<M: Machine, J: Part>(
 }
 
 /// Joins the other seat into this one.
-pub fn glue<M: Machine>(table: &LockTable<M>, seat: &mut LockSeat<M>, other: LockSeat<M>)
+pub(crate) fn glue<M: Machine>(table: &LockTable<M>, seat: &mut LockSeat<M>, other: LockSeat<M>)
     requires table { IsTable table.now.shared.table_id seat.old.table_id × IsTable table.now.shared.table_id other.table_id }
     requires rest { IsAtRest seat.old.me × IsAtRest other.me }
     ensures same { IsSame seat.old seat.new }

@@ -1,21 +1,20 @@
 //! One call at the lock: a ticket is drawn, its turn is waited for, and the machine makes one step.
-ghost use Rattle.std.specs.Prelude.{◌≡◌, ◌+◌, ◌^◌, ◌<◌, ◌≤◌, [], ◌∷◌, ◌++◌, length, false, true, Some, IfSome, IfNone};
-ghost use Rattle.hall_lock.specs.Places.{EachOnce};
+ghost use Rattle.std.specs.Prelude.{◌≡◌, ◌+◌, ◌^◌, ◌<◌, [], ◌∷◌, ◌++◌, false, true, Some, IfSome, IfNone};
 ghost use Rattle.hall_lock.specs.Steps.{IsTable, IsSame, IsAtRest, IsWaiting, IsTurning, Arrives, HasBox, LeadsFrom, FitsFrom, passing, turn_of};
 
 use crate::machine::Machine;
 use crate::steps::{draw, look, pass_as, put_home, see_tickets, take_out};
-use crate::view::{BOX, LockSeat, LockTable, TICKETS, TURN};
+use crate::view::{LockSeat, LockTable, TICKETS, TURN};
 use std::hint::spin_loop;
 use std::marker::Brand;
 use std::snapshot::Snapshot;
 use std::sync::Wait;
 
 /// How often a caller looks for its turn before it sleeps.
-const LOOKS: u32 = 64;
+const ROUNDS: u32 = 64;
 
 /// Draws the next ticket, or answers `None` where all turns are drawn.
-pub fn draw_ticket<M: Machine, R: Wait>(
+pub(crate) fn draw_ticket<M: Machine, R: Wait>(
     rt: &R,
     table: &LockTable<M>,
     seat: &mut LockSeat<M>,
@@ -41,10 +40,10 @@ pub fn draw_ticket<M: Machine, R: Wait>(
 }
 
 /// Waits until `turn` is no longer what was found there: a few times by looking again at once, and then asleep.
-fn wait_while<M: Machine, R: Wait>(rt: &R, table: &LockTable<M>, found: u64, looks: u32)
+fn wait_while<M: Machine, R: Wait>(rt: &R, table: &LockTable<M>, found: u64, rounds: u32)
     requires { IsTable table.now.shared.table_id table.now.shared.table_id }
 {
-    if looks < LOOKS {
+    if rounds < ROUNDS {
         spin_loop();
     } else {
         table.shared.park(rt, TURN, (found & u64::from(u32::MAX)) as u32);
@@ -52,7 +51,7 @@ fn wait_while<M: Machine, R: Wait>(rt: &R, table: &LockTable<M>, found: u64, loo
 }
 
 /// Waits until the ticket is at its turn, and takes the slot.
-pub fn wait_turn<M: Machine, R: Wait>(
+pub(crate) fn wait_turn<M: Machine, R: Wait>(
     rt: &R,
     table: &LockTable<M>,
     seat: &mut LockSeat<M>,
@@ -63,14 +62,14 @@ pub fn wait_turn<M: Machine, R: Wait>(
     ensures same { IsSame seat.old seat.new }
     ensures told { Arrives M.shape M.fits M.steps seat.old.me ticket seat.new.me }
 {
-    let mut looks = 0;
+    let mut rounds = 0;
     for _ in rt.forever() {
         let found = look(table, seat);
         if found == ticket {
             return;
         }
-        wait_while(rt, table, found, looks);
-        looks = looks.saturating_add(1);
+        wait_while(rt, table, found, rounds);
+        rounds = rounds.saturating_add(1);
     }
     unreachable!()
 }
@@ -107,7 +106,7 @@ fn pass<M: Machine>(
 }
 
 /// Makes the turn: takes the box out of the slot, steps the machine, and brings the box home.
-pub fn make_turn<M: Machine>(
+pub(crate) fn make_turn<M: Machine>(
     table: &LockTable<M>,
     seat: &mut LockSeat<M>,
     ticket: u64,
@@ -129,24 +128,4 @@ pub fn make_turn<M: Machine>(
     put_home(table, seat, machine);
     pass(table, seat, ticket, &asked, &reply);
     reply
-}
-
-/// Ends the table by the seat that has the whole share: the box, and the number of turns passed.
-pub fn open_up<M: Machine>(table: LockTable<M>, seat: LockSeat<M>) -> (Box<M>, u64)
-    requires table { IsTable table.shared.table_id seat.table_id }
-    requires rest { IsAtRest seat.me }
-    requires whole { seat.me.0.share ≡ 2 ^ 32 }
-    ensures history { LeadsFrom M.shape M.fits M.steps seat.me.0.opening seat.me.0.seen result.0.value }
-    ensures turns { (result.1 ≡ length seat.me.0.seen) × (seat.me.0.front ≤ result.1) }
-    ensures places { EachOnce result.1 (seat.me.0.mine ++ seat.me.0.past) }
-    ensures full { seat.me.0.full ≡ true → result.1 ≡ seat.me.0.turns }
-{
-    let mut closed = table.close_with(seat);
-    let turns = closed.word(TURN);
-    let machine = match closed.take(BOX) {
-        Some(machine) => machine,
-        None => unreachable!(),
-    };
-    closed.free();
-    (machine, turns)
 }

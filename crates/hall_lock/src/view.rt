@@ -13,7 +13,7 @@ pub struct Turn<C, R> {
 }
 
 /// What one seat knows. Only contracts see it; the program makes none.
-pub struct View<M, C, R> {
+pub(crate) struct View<M, C, R> {
     /// The machine that the lock was opened with; none in a view that was joined into another.
     pub opening: Option<M>,
     /// The number of turns that the lock was made for.
@@ -37,12 +37,12 @@ pub struct View<M, C, R> {
 
 /// What the lock is told when it is made.
 #[derive(Drop)]
-pub struct Opening<M> {
+pub(crate) struct Opening<M> {
     pub machine: Snapshot<M>,
     pub turns: u64,
 }
 
-pub struct LockRule<M> {
+pub(crate) struct LockRule<M> {
     machine: PhantomData<M>,
 }
 
@@ -55,7 +55,7 @@ impl<M: Machine> TableRule<Option<Box<M>>, View<M, M::Call, M::Reply>, Opening<M
     ghost first = { λ key. first_view key.machine.value key.turns };
 }
 
-pub type LockTable<M> = Table<
+pub(crate) type LockTable<M> = Table<
     Option<Box<M>>,
     View<M, <M as Machine>::Call, <M as Machine>::Reply>,
     Opening<M>,
@@ -63,16 +63,16 @@ pub type LockTable<M> = Table<
     Global,
 >;
 
-pub type LockSeat<M> = Seat<
+pub(crate) type LockSeat<M> = Seat<
     Option<Box<M>>,
     View<M, <M as Machine>::Call, <M as Machine>::Reply>,
 >;
 
 /// The word that counts the turns drawn.
-pub const TICKETS: usize = 0;
+pub(crate) const TICKETS: usize = 0;
 
 /// The word that counts the turns passed.
-pub const TURN: usize = 1;
+pub(crate) const TURN: usize = 1;
 
 /// The slot of the box.
-pub const BOX: usize = 0;
+pub(crate) const BOX: usize = 0;

@@ -3,7 +3,7 @@ use Rattle.std.specs.Global.{Global}
 use Rattle.hall_lock.specs.Places.{EachOnce}
 use Rattle.hall_lock.specs.Steps.{LeadsFrom}
 use Rattle.hall_lock.proofs.Ends.{closes, not_empty, same_taken, same_number}
-use Rattle.hall_lock.proofs.turns.open_up.Goals as goal
+use Rattle.hall_lock.proofs.ending.open_up.Goals as goal
 
 pub unreachable-requires : goal.unreachable-requires
 unreachable-requires g c =
