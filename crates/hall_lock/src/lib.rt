@@ -8,6 +8,8 @@ mod plays;
 mod seat;
 mod shared;
 mod steps;
+#[cfg(test)]
+mod tests;
 mod turns;
 mod view;
 
