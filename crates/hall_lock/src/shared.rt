@@ -170,3 +170,21 @@ impl<M: Machine> Shared<M> {
         }
     }
 }
+
+fn is_shared<T: Sync>() {}
+
+fn is_sent<T: Send>() {}
+
+/// Threads may share a lock, and a seat, and what is left of one, may go to another thread, where the machine, its
+/// calls and its replies may.
+pub fn crosses_threads<M: Machine + Send>()
+where
+    M::Call: Send,
+    M::Reply: Send,
+{
+    is_shared::<Shared<M>>();
+    is_sent::<Shared<M>>();
+    is_sent::<Seat<M>>();
+    is_sent::<Past<M>>();
+    is_sent::<Closed<M>>();
+}

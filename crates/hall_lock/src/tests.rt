@@ -54,3 +54,114 @@ fn one_turn_then_over(rt: HostRuntime) -> Result<(), Fail> {
     assert!(rt; closed.turns == 1 && closed.machine.total == 5);
     Ok(())
 }
+
+/// Makes calls of 1.
+fn add_ones<R: Wait>(rt: &R, lock: &Shared<Total>, mut seat: Seat<Total>, calls: u32) -> Seat<Total>
+    requires { IsOf lock.now seat }
+    ensures { IsOf lock.now result × (result.share ≡ seat.share) × (result.past ≡ seat.past) }
+{
+    for _ in 0..calls {
+        let _reply = lock.call(rt, &mut seat, 1);
+    }
+    seat
+}
+
+/// Calls with two seats in two threads, and joins the second one into the first.
+fn in_two_threads<R: Threads + Wait + Sync>(
+    rt: &R,
+    lock: &Shared<Total>,
+    one: Seat<Total>,
+    two: Seat<Total>,
+    calls: u32,
+) -> (Seat<Total>, Past<Total>)
+    requires { IsOf lock.now one × IsOf lock.now two }
+    ensures seat { IsOf lock.now result.0 × (result.0.share ≡ one.share + two.share) }
+    ensures past { result.0.past ≡ one.past ++ (result.1.seat.value.mine ++ two.past) }
+{
+    let (mut one, two) = thread::join(
+        rt,
+        || -> Seat<Total>
+            requires { IsOf lock.now one }
+            ensures { IsOf lock.entry.now result × (result.share ≡ one.share) × (result.past ≡ one.past) }
+        { add_ones(rt, lock, one, calls) },
+        || -> Seat<Total>
+            requires { IsOf lock.now two }
+            ensures { IsOf lock.entry.now result × (result.share ≡ two.share) × (result.past ≡ two.past) }
+        { add_ones(rt, lock, two, calls) },
+    );
+    let past = lock.join(&mut one, two);
+    (one, past)
+}
+
+/// Two threads call, and every turn is in `mine` of one of their two seats.
+fn close_after_two<R: Threads + Wait + Sync>(
+    rt: &R,
+    lock: Shared<Total>,
+    mut one: Seat<Total>,
+    calls: u32,
+) -> (Closed<Total>, Past<Total>)
+    requires { IsOf lock one × (one.share ≡ 2 ^ 32) × (one.past ≡ []) }
+    ensures { EachOnce result.0.turns (result.0.seat.value.mine ++ result.1.seat.value.mine) }
+{
+    let two = lock.split(&mut one, 1 << 31);
+    let (one, past) = in_two_threads(rt, &lock, one, two, calls);
+    (lock.close(one), past)
+}
+
+/// Splits the seat for two threads, and joins the two halves again.
+fn in_halves<R: Threads + Wait + Sync>(
+    rt: &R,
+    lock: &Shared<Total>,
+    mut seat: Seat<Total>,
+    part: u64,
+    calls: u32,
+) -> Seat<Total>
+    requires { IsOf lock.now seat × (1 ≤ part) × (part < seat.share) }
+    ensures { IsOf lock.now result × (result.share ≡ seat.share) }
+{
+    let half = lock.split(&mut seat, part);
+    in_two_threads(rt, lock, seat, half, calls).0
+}
+
+#[test]
+fn two_threads_close_at_two_thousand(rt: HostRuntime) -> Result<(), Fail> {
+    let (lock, seat) = Shared::reserve(rt.alloc(), Total { total: 0 }, 2_000)?;
+    let (closed, _past) = close_after_two(&rt, lock, seat, 1_000);
+    assert!(rt; closed.turns == 2_000 && closed.machine.total == 2_000);
+    Ok(())
+}
+
+/// Four threads: each of two halves of the seat is split for two threads, and all are joined again.
+fn in_a_tree<R: Threads + Wait + Sync>(
+    rt: &R,
+    lock: &Shared<Total>,
+    mut one: Seat<Total>,
+    calls: u32,
+) -> Seat<Total>
+    requires { IsOf lock.now one × (one.share ≡ 2 ^ 32) }
+    ensures { IsOf lock.now result × (result.share ≡ 2 ^ 32) }
+{
+    let two = lock.split(&mut one, 1 << 31);
+    let (mut one, two) = thread::join(
+        rt,
+        || -> Seat<Total>
+            requires { IsOf lock.now one × (one.share ≡ 2 ^ 31) }
+            ensures { IsOf lock.entry.now result × (result.share ≡ 2 ^ 31) }
+        { in_halves(rt, lock, one, 1 << 30, calls) },
+        || -> Seat<Total>
+            requires { IsOf lock.now two × (two.share ≡ 2 ^ 31) }
+            ensures { IsOf lock.entry.now result × (result.share ≡ 2 ^ 31) }
+        { in_halves(rt, lock, two, 1 << 30, calls) },
+    );
+    lock.join(&mut one, two);
+    one
+}
+
+#[test]
+fn four_threads_with_seats_split_and_joined_in_a_tree(rt: HostRuntime) -> Result<(), Fail> {
+    let (lock, seat) = Shared::reserve(rt.alloc(), Total { total: 0 }, 2_000)?;
+    let seat = in_a_tree(&rt, &lock, seat, 500);
+    let closed = lock.close(seat);
+    assert!(rt; closed.turns == 2_000 && closed.machine.total == 2_000);
+    Ok(())
+}
