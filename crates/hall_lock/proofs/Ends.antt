@@ -1,10 +1,9 @@
 -- The lock as it is made, and as it is closed by the seat that has every share.
-use Rattle.std.proofs.Common.{◌≡◌, ◌≢◌, ◌⊎◌, ℕ, zero, suc, ◌+◌, ◌-◌, ◌≤◌, ◌<◌, ◌^◌, Bool, true, false, cond, eqb, List, [], ◌∷◌, ◌++◌, length, sum_by, sym, ap, refl, ◌∙◌, subst, ⊎_elim, inl, inr, arith, lt_of_not-le, Option, Some, None, Box, unwrap_or, is_some}
+use Rattle.std.proofs.Common.{◌≡◌, ◌≢◌, ℕ, ◌≤◌, ◌^◌, Bool, true, false, cond, List, [], ◌∷◌, length, sum_by, sym, ap, refl, ◌∙◌, subst, ⊎_elim, inr, arith, lt_of_not-le, Option, Some, None, Box, unwrap_or, is_some}
 use Rattle.std.specs.Global.{Global}
 use Rattle.std.proofs.lemmas.Bool.Decides.{nat_tests}
 use mathlib.Core.Bool.{true≢false}
 use mathlib.Core.Logic.{dite}
-use mathlib.Core.List.{IsPrefix}
 use mathlib.Core.Option.{none, some}
 use mathlib.Core.Option as maybe
 use native.Mathlib.Decide.{dec_le}
@@ -14,11 +13,11 @@ use Rattle.atomic_table.proofs.Lists.{at_snoc}
 use Rattle.hall_lock.specs.declared.view.Turn.{Turn}
 use Rattle.hall_lock.specs.declared.view.View.{View}
 use Rattle.hall_lock.specs.Turns.{Leads}
-use Rattle.hall_lock.specs.Places.{EachOnce, one_below, times}
+use Rattle.hall_lock.specs.Places.{one_below}
 use Rattle.hall_lock.specs.Rule.{IsKept, IsSeated, Slot, spent_view, share_of, has_ticket, has_place, turns_at, is_at, waits}
-use Rattle.hall_lock.specs.Steps.{LeadsFrom, first_view, IsClosing}
+use Rattle.hall_lock.specs.Steps.{first_view, IsClosing}
 use Rattle.hall_lock.proofs.Sums.{two_at_least, one_counts}
-use Rattle.hall_lock.proofs.Histories.{prefix_self, prefix_whole, prefix_length, one_below-yes, waits-le}
+use Rattle.hall_lock.proofs.Histories.{prefix_whole, one_below-yes}
 
 abbrev one_if : Bool → ℕ
 one_if b = cond b 1 0
@@ -90,7 +89,7 @@ module _ {M C R S : Type 0} (shape : M → S) (fits : S → C → Type 0) (steps
       let none_there : sum_by turns_at s.views ≡ 0 = sum turns_at refl ∙ ap one_if waits_not in
       let placed : (y : ℕ) → has_place y v ≡ one_below r.turn y = λ y. sym (sum (has_place y) refl) ∙ r.places y in
       let seen_all : r.turn ≤ length v.seen = dite (dec_le r.turn (length v.seen)) (λ h. h)
-          (λ short. absurd (omega (arith, placed (length v.seen), it.places (length v.seen) (omega arith), one_below-yes r.turn (length v.seen) (lt_of_not-le short)))) in
+      (λ short. absurd (omega (arith, placed (length v.seen), it.places (length v.seen) (omega arith), one_below-yes r.turn (length v.seen) (lt_of_not-le short)))) in
       let whole_log : v.seen ≡ r.log = prefix_whole v.seen r.log it.knows (omega (arith, r.long)) in
       let long : length v.seen ≡ r.turn = ap (λ (ts : List (Turn C R)). length ts) whole_log ∙ r.long in
       let home = box_there r.log s.homes (sum_by turns_at s.views) r.slot none_there in record {

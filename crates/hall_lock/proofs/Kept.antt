@@ -1,20 +1,18 @@
 -- Steps that change one view, in what no sum counts.
-use Rattle.std.proofs.Common.{◌≡◌, ◌≢◌, ℕ, ◌+◌, ◌≤◌, ◌<◌, ◌^◌, Bool, true, false, cond, eqb, List, [], ◌∷◌, ◌++◌, length, get_or, set, sum_by, sym, ap, refl, ◌∙◌, subst, ⊎_elim, arith, lt_of_not-le, Option, Some, None, Box, MatchBool, eq-eqb, ne_eqb, slice_index, slice_set}
+use Rattle.std.proofs.Common.{◌≡◌, ◌≢◌, ℕ, ◌≤◌, Bool, true, false, cond, List, ◌++◌, length, get_or, set, sym, ap, refl, ◌∙◌, subst, ⊎_elim, arith, lt_of_not-le, Option, Box, MatchBool, eq-eqb, ne_eqb}
 use Rattle.std.specs.Global.{Global}
 use mathlib.Core.Logic.{dite}
-use mathlib.Core.List.{IsPrefix}
 use mathlib.Core.Option.{none, some}
-use mathlib.Core.Option as maybe
 use native.Mathlib.Decide.{ℕ_discrete, dec_le}
 use lib.ListN.{get_elem?}
 use lib.Seq.{set-get_or}
-use Rattle.atomic_table.specs.Table.{State, Me, step, Act, keeps, takes, gives, stepped, Allows}
+use Rattle.atomic_table.specs.Table.{State, step, keeps, Allows}
 use Rattle.atomic_table.proofs.Lists.{at_set}
 use Rattle.hall_lock.specs.declared.view.Turn.{Turn}
 use Rattle.hall_lock.specs.declared.view.View.{View}
-use Rattle.hall_lock.specs.Places.{AtMostOnce, one_below, times}
+use Rattle.hall_lock.specs.Places.{AtMostOnce, times}
 use Rattle.hall_lock.specs.Rule.{IsKept, IsSeated, Slot, spent_view, share_of, has_ticket, has_place, turns_at, is_at}
-use Rattle.hall_lock.specs.Steps.{Sitting, saw_tickets, recalled, looking}
+use Rattle.hall_lock.specs.Steps.{Sitting, saw_tickets, recalled}
 use Rattle.hall_lock.proofs.Sums.{sum_by-kept, at_least}
 use Rattle.hall_lock.proofs.Histories.{one_below-le, one_below-yes}
 
@@ -78,23 +76,31 @@ module _ {M C R S : Type 0} (shape : M → S) (fits : S → C → Type 0) (steps
       let bound : n ≤ v.turns = omega (arith, r.bounded, it.limited) in
       dite (ℕ_discrete n v.turns)
       (λ e. let w : View M C R = record v { full = true } in
-        let seated : IsSeated m most r.tickets r.turn r.log w = record {
-          opened = it.opened;
-          limited = it.limited;
-          part = it.part;
-          knows = it.knows;
-          heard = it.heard;
-          behind = it.behind;
-          places = it.places;
-          holds_turn = it.holds_turn;
-          sold_out = λ _. omega (arith, it.limited);
-        } in
-        let after : Sitting M C R = (w, me.1) in
-        (w, keeps, tt, quiet s r 0 id v w at live refl refl refl refl refl seated,
-          (bound, subst (λ (b : Bool). MatchBool b (after ≡ after) (after ≡ me)) (sym (eq-eqb n v.turns e)) refl)))
-      (λ ne. let after : Sitting M C R = (record v { full = true }, me.1) in
-        (v, keeps, tt, quiet s r 0 id v v at live refl refl refl refl refl it,
-          (bound, subst (λ (b : Bool). MatchBool b (me ≡ after) (me ≡ me)) (sym (ne_eqb n v.turns ne)) refl)))
+      let seated : IsSeated m most r.tickets r.turn r.log w = record {
+        opened = it.opened;
+        limited = it.limited;
+        part = it.part;
+        knows = it.knows;
+        heard = it.heard;
+        behind = it.behind;
+        places = it.places;
+        holds_turn = it.holds_turn;
+        sold_out = λ _. omega (arith, it.limited);
+      } in
+      let after : Sitting M C R = (w, me.1) in (
+        w,
+        keeps,
+        tt,
+        quiet s r 0 id v w at live refl refl refl refl refl seated,
+        (bound, subst (λ (b : Bool). MatchBool b (after ≡ after) (after ≡ me)) (sym (eq-eqb n v.turns e)) refl),
+      ))
+      (λ ne. let after : Sitting M C R = (record v { full = true }, me.1) in (
+        v,
+        keeps,
+        tt,
+        quiet s r 0 id v v at live refl refl refl refl refl it,
+        (bound, subst (λ (b : Bool). MatchBool b (me ≡ after) (me ≡ me)) (sym (ne_eqb n v.turns ne)) refl),
+      ))
 
   pub recalls : (slots id : ℕ) (me : Sitting M C R) → me.0.spent ≡ false → Allows Rule slots id me 0 (λ n. n) (recalled (step slots 0 0 0 none) me)
   recalls slots id me live s r sized at small =

@@ -1,5 +1,5 @@
 -- The steps of a turn: a ticket is drawn, the box is taken at its turn, and it is brought home with one turn more.
-use Rattle.std.proofs.Common.{◌≡◌, ◌≢◌, ℕ, ◌+◌, ◌≤◌, ◌<◌, ◌^◌, Bool, true, false, cond, eqb, List, [], ◌∷◌, ◌++◌, length, get_or, set, sum_by, sym, ap, refl, ◌∙◌, subst, ⊎_elim, inl, inr, arith, append_assoc, length-append, lt_of_not-le, Option, Some, None, Box, MatchBool, eq-eqb, ne_eqb}
+use Rattle.std.proofs.Common.{◌≡◌, ℕ, ◌+◌, ◌≤◌, ◌<◌, Bool, true, false, cond, eqb, List, [], ◌∷◌, ◌++◌, length, get_or, set, sum_by, sym, ap, refl, ◌∙◌, subst, ⊎_elim, inl, inr, arith, length-append, Option, Some, None, Box, MatchBool, eq-eqb, ne_eqb}
 use Rattle.std.specs.Global.{Global}
 use mathlib.Core.Logic.{dite}
 use mathlib.Core.List.{IsPrefix}
@@ -9,13 +9,13 @@ use native.Mathlib.Decide.{ℕ_discrete}
 use lib.ListN.{get_elem?}
 use lib.Seq.{set-get_or}
 use prog.Atomic.{either}
-use Rattle.atomic_table.specs.Table.{State, Me, step, Act, keeps, takes, gives, stepped, carried_after, Valid, Allows}
+use Rattle.atomic_table.specs.Table.{State, step, Act, keeps, takes, gives, stepped, carried_after, Valid, Allows}
 use Rattle.atomic_table.proofs.Lists.{exchanged}
 use Rattle.hall_lock.specs.declared.view.Turn.{Turn}
 use Rattle.hall_lock.specs.declared.view.View.{View}
 use Rattle.hall_lock.specs.Turns.{Leads}
-use Rattle.hall_lock.specs.Places.{AtMostOnce, one_below, times}
-use Rattle.hall_lock.specs.Rule.{IsKept, IsSeated, Slot, spent_view, share_of, has_ticket, has_place, turns_at, is_at, waits}
+use Rattle.hall_lock.specs.Places.{one_below}
+use Rattle.hall_lock.specs.Rule.{IsKept, IsSeated, Slot, share_of, has_ticket, has_place, turns_at, is_at, waits}
 use Rattle.hall_lock.specs.Steps.{Sitting, drew, looked, passed, looking, turning, passing, TakesBox, LeadsFrom}
 use Rattle.hall_lock.proofs.Sums.{sum_by-put, sum_by-kept, at_least, two_at_least, none_counts}
 use Rattle.hall_lock.proofs.Histories.{prefix_self, prefix_more, prefix_trans, prefix_length, one_below-more, waits-drawn, waits-passed, waits-le, waits-here, is_at-yes, is_at-here, times-append, times_one, set_at_here}
@@ -62,26 +62,26 @@ module _ {M C R S : Type 0} (shape : M → S) (fits : S → C → Type 0) (steps
         places = λ y. sum_by-kept (has_place y) s.views i v w at refl ∙ r.places y;
         shares = sum_by-kept share_of s.views i v w at refl ∙ r.shares;
         seats = seats_after m most s.views i w (k + 1) r.turn r.log (λ _. record {
-            opened = it.opened;
-            limited = it.limited;
-            part = it.part;
-            knows = it.knows;
-            heard = it.heard;
-            behind = it.behind;
-            places = it.places;
-            holds_turn = λ e. absurd (cc (e, waits_not));
-            sold_out = λ e. absurd (cc (e, not_full));
-          }) (λ j u _ there alive. let o = r.seats j u there alive in record {
-            opened = o.opened;
-            limited = o.limited;
-            part = o.part;
-            knows = o.knows;
-            heard = o.heard;
-            behind = o.behind;
-            places = o.places;
-            holds_turn = o.holds_turn;
-            sold_out = λ e. absurd (omega (arith, o.sold_out e));
-          });
+          opened = it.opened;
+          limited = it.limited;
+          part = it.part;
+          knows = it.knows;
+          heard = it.heard;
+          behind = it.behind;
+          places = it.places;
+          holds_turn = λ e. absurd (cc (e, waits_not));
+          sold_out = λ e. absurd (cc (e, not_full));
+        }) (λ j u _ there alive. let o = r.seats j u there alive in record {
+          opened = o.opened;
+          limited = o.limited;
+          part = o.part;
+          knows = o.knows;
+          heard = o.heard;
+          behind = o.behind;
+          places = o.places;
+          holds_turn = o.holds_turn;
+          sold_out = λ e. absurd (omega (arith, o.sold_out e));
+        });
         gone = gone_after s.views i w (not_gone w live) r.gone;
       }
 
@@ -98,7 +98,7 @@ module _ {M C R S : Type 0} (shape : M → S) (fits : S → C → Type 0) (steps
       let F : ℕ → Type 0 = λ y. (w : View M C R) × (a : Act (Option (Box M Global))) × Valid s.homes me.1 a × Rule (stepped s 0 y id me.1 w a) × Told (eqb n k) (w, carried_after me.1 a) in
       exchanged n k (k + 1) F
       (λ e. let not_full : v.full ≡ false = full_is v.full refl it e read in
-        (hit_view, keeps, tt, gains s r id k v at live free not_full (sym read ∙ e) (omega (arith, it.limited)), subst (λ (b : Bool). Told b hit) (sym (eq-eqb n k e)) (refl, not_full)))
+      (hit_view, keeps, tt, gains s r id k v at live free not_full (sym read ∙ e) (omega (arith, it.limited)), subst (λ (b : Bool). Told b hit) (sym (eq-eqb n k e)) (refl, not_full)))
       (λ ne. (v, keeps, tt, quiet shape fits steps m most s r 0 id v v at live refl refl refl refl refl it, subst (λ (b : Bool). Told b me) (sym (ne_eqb n k ne)) refl))
     where
       full_is : (b : Bool) → me.0.full ≡ b → IsSeated m most r.tickets r.turn r.log me.0 → get_or s.words 0 0 ≡ k → get_or s.words 0 0 ≡ r.tickets → b ≡ false
@@ -135,21 +135,23 @@ module _ {M C R S : Type 0} (shape : M → S) (fits : S → C → Type 0) (steps
         bounded = r.bounded;
         queue = λ y. sum_by-kept (has_ticket y) s.views i v w at refl ∙ r.queue y;
         long = r.long;
-        slot = inl (ap (λ (hs : List (maybe.Option (Option (Box M Global)))). set hs 0 none) home,
-            omega (arith, sum_by-put turns_at s.views i v w at, ap one_if not_yet, none_at_turn s r i v at ticket not_yet));
+        slot = inl (
+          ap (λ (hs : List (maybe.Option (Option (Box M Global)))). set hs 0 none) home,
+          omega (arith, sum_by-put turns_at s.views i v w at, ap one_if not_yet, none_at_turn s r i v at ticket not_yet),
+        );
         places = λ y. sum_by-kept (has_place y) s.views i v w at refl ∙ r.places y;
         shares = sum_by-kept share_of s.views i v w at refl ∙ r.shares;
         seats = seats_after m most s.views i w r.tickets r.turn r.log (λ _. record {
-            opened = it.opened;
-            limited = it.limited;
-            part = it.part;
-            knows = prefix_self r.log;
-            heard = prefix_trans v.met v.seen r.log it.heard it.knows;
-            behind = omega arith;
-            places = λ y past. it.places y (omega (arith, prefix_length v.seen r.log it.knows));
-            holds_turn = λ _. (ticket, refl);
-            sold_out = it.sold_out;
-          }) (λ j u _ there alive. r.seats j u there alive);
+          opened = it.opened;
+          limited = it.limited;
+          part = it.part;
+          knows = prefix_self r.log;
+          heard = prefix_trans v.met v.seen r.log it.heard it.knows;
+          behind = omega arith;
+          places = λ y past. it.places y (omega (arith, prefix_length v.seen r.log it.knows));
+          holds_turn = λ _. (ticket, refl);
+          sold_out = it.sold_out;
+        }) (λ j u _ there alive. r.seats j u there alive);
         gone = gone_after s.views i w (not_gone w live) r.gone;
       }
 
@@ -178,11 +180,18 @@ module _ {M C R S : Type 0} (shape : M → S) (fits : S → C → Type 0) (steps
       let read : n ≡ r.turn = found ∙ ap (λ (ws : List ℕ). get_or ws 1 0) r.words in
       let ticket : v.ticket ≡ Some r.turn = is_at-yes n v.ticket e ∙ ap Some read in
       let home = box_is_home r.log s.homes (sum_by turns_at s.views) r.slot (none_at_turn s r id v at ticket not_yet) in
-      let knows = prefix_length v.seen r.log it.knows in
-      (turning v n r.log, takes 0 (Some home.0), ap (λ (hs : Homes). get_elem? hs 0) home.1,
+      let knows = prefix_length v.seen r.log it.knows in (
+        turning v n r.log,
+        takes 0 (Some home.0),
+        ap (λ (hs : Homes). get_elem? hs 0) home.1,
         enters s r id 1 v at live ticket not_yet (some (Some home.0)) home.1 n read,
-        (omega (arith, knows, r.long, read), omega (arith, it.behind, read), omega (arith, r.drawn, r.bounded, it.limited, read),
-          record { log = r.log; box = home.0; after = refl; grows = it.knows; long = r.long ∙ sym read; leads = (m, it.opened, home.2) }))
+        (
+          omega (arith, knows, r.long, read),
+          omega (arith, it.behind, read),
+          omega (arith, r.drawn, r.bounded, it.limited, read),
+          record { log = r.log; box = home.0; after = refl; grows = it.knows; long = r.long ∙ sym read; leads = (m, it.opened, home.2) },
+        ),
+      )
   looks_by s r id me live not_yet at n found false e =
       let v = me.0 in
       let it = r.seats id me.0 at live in
@@ -199,9 +208,13 @@ module _ {M C R S : Type 0} (shape : M → S) (fits : S → C → Type 0) (steps
         places = it.places;
         holds_turn = it.holds_turn;
         sold_out = it.sold_out;
-      } in
-      (w, keeps, tt, quiet shape fits steps m most s r 1 id v w at live refl refl refl refl refl seated,
-        (omega (arith, knows, r.long, read), omega (arith, it.behind, read), omega (arith, r.drawn, r.bounded, it.limited, read), refl))
+      } in (
+        w,
+        keeps,
+        tt,
+        quiet shape fits steps m most s r 1 id v w at live refl refl refl refl refl seated,
+        (omega (arith, knows, r.long, read), omega (arith, it.behind, read), omega (arith, r.drawn, r.bounded, it.limited, read), refl),
+      )
 
   pub looks : (slots id : ℕ) (me : Sitting M C R) → me.0.spent ≡ false → me.0.at_turn ≡ false → Allows Rule slots id me 1 (λ n. n) (looked shape fits steps (step slots 1 0 0 none) me)
   looks slots id me live not_yet s r sized at small = looks_by s r id me live not_yet at (get_or s.words 1 0) refl (is_at (get_or s.words 1 0) me.0.ticket) refl
@@ -223,7 +236,7 @@ module _ {M C R S : Type 0} (shape : M → S) (fits : S → C → Type 0) (steps
       let long : length v.seen ≡ r.turn = ap (λ (ts : List (Turn C R)). length ts) held.1 ∙ r.long in
       let led' : Leads shape fits steps m log' b.value = subst (λ (ts : List (Turn C R)). Leads shape fits steps m (ts ++ t ∷ []) b.value) held.1 (subst (λ (x : M). Leads shape fits steps x (v.seen ++ t ∷ []) b.value) (cc (led.1, it.opened)) led.2) in
       let placed : (y : ℕ) → has_place y w ≡ has_place y v + one_if (eqb r.turn y) = λ y.
-          omega (arith, times-append y (v.mine ++ length v.seen ∷ []) v.past, times-append y v.mine (length v.seen ∷ []), times-append y v.mine v.past, times_one y (length v.seen), ap (λ (z : ℕ). one_if (eqb z y)) long) in record {
+      omega (arith, times-append y (v.mine ++ length v.seen ∷ []) v.past, times-append y v.mine (length v.seen ∷ []), times-append y v.mine v.past, times_one y (length v.seen), ap (λ (z : ℕ). one_if (eqb z y)) long) in record {
         tickets = r.tickets;
         turn = k + 1;
         log = log';
@@ -238,29 +251,29 @@ module _ {M C R S : Type 0} (shape : M → S) (fits : S → C → Type 0) (steps
         places = λ y. omega (arith, sum_by-put (has_place y) s.views i v w at, placed y, r.places y, one_below-more r.turn y, ap (λ (z : ℕ). one_below (z + 1) y) now);
         shares = sum_by-kept share_of s.views i v w at refl ∙ r.shares;
         seats = seats_after m most s.views i w r.tickets (k + 1) log' (λ _. record {
-            opened = it.opened;
-            limited = it.limited;
-            part = it.part;
-            knows = subst (λ (ts : List (Turn C R)). IsPrefix (v.seen ++ t ∷ []) (ts ++ t ∷ [])) held.1 (prefix_self (v.seen ++ t ∷ []));
-            heard = prefix_trans v.met v.seen (v.seen ++ t ∷ []) it.heard (prefix_more v.seen (t ∷ []));
-            behind = omega (arith, it.behind, now);
-            places = λ y past. let wide : length v.seen + 1 ≤ y = omega (arith, length-append v.seen (t ∷ [])) in
-                omega (arith, placed y, it.places y (omega arith), ap one_if (ne_eqb r.turn y (λ e. omega (arith, long))));
-            holds_turn = λ e. absurd cc;
-            sold_out = it.sold_out;
-          }) (λ j u apart there alive. let o = r.seats j u there alive in record {
-            opened = o.opened;
-            limited = o.limited;
-            part = o.part;
-            knows = prefix_trans u.seen r.log log' o.knows (prefix_more r.log (t ∷ []));
-            heard = o.heard;
-            behind = omega (arith, o.behind, now);
-            places = o.places;
-            holds_turn = λ e. let theirs = o.holds_turn e in
-                let counts : has_ticket r.turn u ≡ 1 = ap (λ (z : Option ℕ). one_if (is_at r.turn z)) theirs.0 ∙ ap one_if (is_at-here r.turn) in
-                absurd (omega (arith, two_at_least (has_ticket r.turn) s.views i j v u apart at there, counted, counts, r.queue r.turn, waits-le r.turn r.tickets r.turn));
-            sold_out = o.sold_out;
-          });
+          opened = it.opened;
+          limited = it.limited;
+          part = it.part;
+          knows = subst (λ (ts : List (Turn C R)). IsPrefix (v.seen ++ t ∷ []) (ts ++ t ∷ [])) held.1 (prefix_self (v.seen ++ t ∷ []));
+          heard = prefix_trans v.met v.seen (v.seen ++ t ∷ []) it.heard (prefix_more v.seen (t ∷ []));
+          behind = omega (arith, it.behind, now);
+          places = λ y past. let wide : length v.seen + 1 ≤ y = omega (arith, length-append v.seen (t ∷ [])) in
+              omega (arith, placed y, it.places y (omega arith), ap one_if (ne_eqb r.turn y (λ e. omega (arith, long))));
+          holds_turn = λ e. absurd cc;
+          sold_out = it.sold_out;
+        }) (λ j u apart there alive. let o = r.seats j u there alive in record {
+          opened = o.opened;
+          limited = o.limited;
+          part = o.part;
+          knows = prefix_trans u.seen r.log log' o.knows (prefix_more r.log (t ∷ []));
+          heard = o.heard;
+          behind = omega (arith, o.behind, now);
+          places = o.places;
+          holds_turn = λ e. let theirs = o.holds_turn e in
+              let counts : has_ticket r.turn u ≡ 1 = ap (λ (z : Option ℕ). one_if (is_at r.turn z)) theirs.0 ∙ ap one_if (is_at-here r.turn) in
+              absurd (omega (arith, two_at_least (has_ticket r.turn) s.views i j v u apart at there, counted, counts, r.queue r.turn, waits-le r.turn r.tickets r.turn));
+          sold_out = o.sold_out;
+        });
         gone = gone_after s.views i w (not_gone w live) r.gone;
       }
 

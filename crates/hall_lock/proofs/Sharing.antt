@@ -1,13 +1,11 @@
 -- A share is split, and two are joined.
-use Rattle.std.proofs.Common.{◌≡◌, ◌≢◌, ◌⊎◌, ℕ, ◌+◌, ◌-◌, ◌≤◌, ◌<◌, ◌^◌, max, Bool, true, false, cond, eqb, leb, ◌||◌, List, [], ◌∷◌, ◌++◌, length, set, sum_by, sym, ap, refl, ◌∙◌, subst, ⊎_elim, inl, inr, arith, Option, Some, None, Box}
+use Rattle.std.proofs.Common.{◌≡◌, ◌⊎◌, ℕ, ◌+◌, ◌≤◌, ◌<◌, Bool, true, false, cond, leb, ◌||◌, List, [], ◌∷◌, ◌++◌, length, set, sum_by, sym, ap, refl, ◌∙◌, subst, ⊎_elim, inl, inr, arith, Option, None, Box}
 use Rattle.std.specs.Global.{Global}
 use Rattle.std.proofs.lemmas.List.Sums.{sum_by_push}
-use mathlib.Core.List.{IsPrefix}
 use mathlib.Core.Option.{some}
 use lib.ListN.{get_elem?}
 use Rattle.atomic_table.specs.Table.{State, Splits, Joins}
 use Rattle.atomic_table.proofs.Lists.{at_snoc, set_else}
-use Rattle.hall_lock.specs.declared.view.Turn.{Turn}
 use Rattle.hall_lock.specs.declared.view.View.{View}
 use Rattle.hall_lock.specs.Rule.{IsKept, IsSeated, Slot, spent_view, share_of, has_ticket, has_place, turns_at, is_at}
 use Rattle.hall_lock.specs.Steps.{cut_left, cut_right, glued}
@@ -87,7 +85,7 @@ module _ {M C R S : Type 0} (shape : M → S) (fits : S → C → Type 0) (steps
       let two = of_two v.seen w.seen r.log it.knows their.knows (leb (length v.seen) (length w.seen)) refl in
       let wide = longest v.seen w.seen (leb (length v.seen) (length w.seen)) refl in
       let placed : (y : ℕ) → has_place y both ≡ has_place y v + has_place y w = λ y.
-          omega (arith, times-append y v.mine (v.past ++ (w.mine ++ w.past)), times-append y v.past (w.mine ++ w.past), times-append y v.mine v.past) in
+      omega (arith, times-append y v.mine (v.past ++ (w.mine ++ w.past)), times-append y v.past (w.mine ++ w.past), times-append y v.mine v.past) in
       let seated : IsSeated m most r.tickets r.turn r.log both = record {
         opened = it.opened;
         limited = it.limited;

@@ -1,7 +1,6 @@
 -- A seat that waits comes to its turn.
-use Rattle.std.proofs.Common.{◌≡◌, ℕ, ◌+◌, ◌≤◌, ◌<◌, Bool, true, List, [], ◌∷◌, sym, ap, ◌∙◌, subst, arith, Option, Some, Box, MatchBool, refl, unwrap_or}
+use Rattle.std.proofs.Common.{◌≡◌, ℕ, ◌+◌, ◌≤◌, Bool, true, List, [], ◌∷◌, sym, ap, ◌∙◌, subst, arith, Option, Some, Box, MatchBool, refl, unwrap_or}
 use Rattle.std.specs.Global.{Global}
-use Rattle.hall_lock.specs.declared.view.View.{View}
 use Rattle.hall_lock.specs.Rule.{is_at}
 use Rattle.hall_lock.specs.Steps.{Sitting, IsWaiting, Waits, TakesBox, Arrives, HasBox, looking, turning}
 use Rattle.hall_lock.proofs.Histories.{is_at-here}

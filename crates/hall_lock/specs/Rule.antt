@@ -1,6 +1,6 @@
 -- The rule of the lock, which every step keeps: what holds at each moment of its two words, its slot and the views of all seats.
 -- Word 0 is `tickets`, the number of turns drawn, and word 1 is `turn`, the number of turns passed. The slot is for the box with the machine.
-use Rattle.std.specs.Prelude.{◌≡◌, ◌⊎◌, ℕ, ◌+◌, ◌^◌, ◌<◌, ◌≤◌, ◌==◌, Bool, true, false, ◌&&◌, List, [], ◌∷◌, ◌++◌, length, sum_by, nat_lt, nat_le, if◌then◌else◌, Option, Some, None, Box}
+use Rattle.std.specs.Prelude.{◌≡◌, ◌⊎◌, ℕ, ◌^◌, ◌≤◌, ◌==◌, Bool, true, false, ◌&&◌, List, [], ◌∷◌, ◌++◌, length, sum_by, nat_lt, nat_le, if◌then◌else◌, Option, Some, None, Box}
 use Rattle.std.specs.Global.{Global}
 use mathlib.Core.List.{IsPrefix}
 use mathlib.Core.Option.{none, some}

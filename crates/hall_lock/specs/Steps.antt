@@ -1,5 +1,5 @@
 -- What each step tells the seat that made it: of what it knew, the number that it read, and what it knows after.
-use Rattle.std.specs.Prelude.{◌≡◌, ℕ, ◌+◌, ◌-◌, ◌^◌, ◌<◌, ◌≤◌, ◌==◌, max, Bool, true, false, ◌||◌, List, [], ◌∷◌, ◌++◌, length, Option, Some, None, Box, MatchBool}
+use Rattle.std.specs.Prelude.{◌≡◌, ℕ, ◌+◌, ◌-◌, ◌^◌, ◌<◌, ◌≤◌, ◌==◌, max, true, false, ◌||◌, List, [], ◌∷◌, ◌++◌, length, Option, Some, None, Box, MatchBool}
 use Rattle.std.specs.Global.{Global}
 use mathlib.Core.List.{IsPrefix}
 use mathlib.Core.Option.{some}
@@ -9,8 +9,8 @@ use Rattle.hall_lock.specs.declared.view.Turn.{Turn}
 use Rattle.hall_lock.specs.declared.view.View.{View}
 use Rattle.hall_lock.specs.Turns.{Leads}
 use Rattle.hall_lock.specs.Places.{AtMostOnce, EachOnce}
-use Rattle.hall_lock.specs.Seats.{longer, shorter, Lock, SeatState}
-use Rattle.hall_lock.specs.Rule.{is_at, spent_view}
+use Rattle.hall_lock.specs.Seats.{longer, shorter, SeatState}
+use Rattle.hall_lock.specs.Rule.{is_at}
 use Rattle.atomic_table.specs.Seated.{TableId}
 use Rattle.atomic_table.specs.declared.shared.Seat.{Seat}
 

@@ -6,6 +6,7 @@ ghost use Rattle.std.specs.Prelude.{◌≡◌};
 /// shape may be asked.
 pub trait Machine {
     type Call;
+
     type Reply;
     /// Plain data that no step changes.
     type Shape;

@@ -54,11 +54,7 @@ pub struct Closed<M: Machine> {
 
 impl<M: Machine> Shared<M> {
     /// Puts the machine under a lock for a number of turns. The seat has the whole share.
-    pub fn reserve(
-        alloc: Global,
-        machine: M,
-        turns: u64,
-    ) -> Result<(Shared<M>, Seat<M>), NoMemory>
+    pub fn reserve(alloc: Global, machine: M, turns: u64) -> Result<(Shared<M>, Seat<M>), NoMemory>
     where
         M: Drop,
         requires { (1 ≤ turns) × (turns ≤ 2 ^ 62) }

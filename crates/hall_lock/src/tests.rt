@@ -18,7 +18,9 @@ struct Total {
 
 impl Machine for Total {
     type Call = u64;
+
     type Reply = u64;
+
     type Shape = ();
 
     ghost shape = { λ _. tt };

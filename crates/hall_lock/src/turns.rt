@@ -46,7 +46,9 @@ fn wait_while<M: Machine, R: Wait>(rt: &R, table: &LockTable<M>, found: u64, rou
     if rounds < ROUNDS {
         spin_loop();
     } else {
-        table.shared.park(rt, TURN, (found & u64::from(u32::MAX)) as u32);
+        table
+            .shared
+            .park(rt, TURN, (found & u64::from(u32::MAX)) as u32);
     }
 }
 

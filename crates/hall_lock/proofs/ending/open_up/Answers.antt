@@ -1,4 +1,4 @@
-use Rattle.std.proofs.Common.{◌≡◌, ◌≤◌, sym, subst, ap, ◌∙◌, ℕ, ◌++◌, length, Box}
+use Rattle.std.proofs.Common.{◌≡◌, ◌≤◌, sym, subst, ◌∙◌, ℕ, ◌++◌, length, Box}
 use Rattle.std.specs.Global.{Global}
 use Rattle.hall_lock.specs.Places.{EachOnce}
 use Rattle.hall_lock.specs.Steps.{LeadsFrom}

@@ -1,7 +1,5 @@
 use Rattle.std.proofs.Common.{rules}
 use Rattle.hall_lock.proofs.Kept.{recalls}
-use Rattle.hall_lock.proofs.Sharing.{cuts}
-use Rattle.hall_lock.proofs.Ends.{closes}
 use Rattle.hall_lock.proofs.steps.recall.Goals as goal
 
 pub load-requires : goal.load-requires

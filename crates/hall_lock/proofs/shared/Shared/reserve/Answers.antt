@@ -1,4 +1,4 @@
-use Rattle.std.proofs.Common.{rules, ◌≡◌, [], ◌∷◌, sym, subst, ◌∙◌, Some, List, Option, Box}
+use Rattle.std.proofs.Common.{rules, ◌≡◌, [], ◌∷◌, sym, subst, Some, List, Option, Box}
 use Rattle.std.specs.Global.{Global}
 use Rattle.atomic_table.specs.Table.{opening}
 use Rattle.hall_lock.specs.Rule.{IsKept}
