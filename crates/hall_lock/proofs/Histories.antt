@@ -56,7 +56,7 @@ module _ {A : Type 0} where
   longest xs ys false e = (omega arith, grind (arith, nat_tests))
 
 module _ {M C R S : Type 0} (shape : M → S) (fits : S → C → Type 0) (steps : M → C → R → M → Type 0) where
-  goes_on : (m n k : M) (ts : List (Turn C R)) (t : Turn C R) → Goes shape fits steps m ts n → steps n t.call t.reply k → Goes shape fits steps m (ts ++ t ∷ []) k
+  goes_on : (m n k : M) (ts : List (Turn C R)) (t : Turn C R) → Goes steps m ts n → steps n t.call t.reply k → Goes steps m (ts ++ t ∷ []) k
   goes_on m n k [] t g st = (k, subst (λ x. steps x t.call t.reply k) (sym g) st, refl)
   goes_on m n k (u ∷ us) t g st = (g.0, g.1, goes_on g.0 n k us t g.2 st)
 
@@ -65,7 +65,7 @@ module _ {M C R S : Type 0} (shape : M → S) (fits : S → C → Type 0) (steps
   leads_on m n k ts t l fit st = record { calls_fit = All-push (λ (u : Turn C R). fits (shape m) u.call) ts t l.calls_fit fit; goes = goes_on m n k ts t l.goes st }
 
   -- the shape stays
-  pub shape_stays : ((m : M) (c : C) (r : R) (n : M) → steps m c r n → shape n ≡ shape m) → (m n : M) (ts : List (Turn C R)) → Goes shape fits steps m ts n → shape n ≡ shape m
+  pub shape_stays : ((m : M) (c : C) (r : R) (n : M) → steps m c r n → shape n ≡ shape m) → (m n : M) (ts : List (Turn C R)) → Goes steps m ts n → shape n ≡ shape m
   shape_stays law m n [] g = ap shape (sym g)
   shape_stays law m n (t ∷ ts) g = shape_stays law g.0 n ts g.2 ∙ law m t.call t.reply g.0 g.1
 

@@ -1,9 +1,10 @@
--- A seat that waits comes to its turn.
-use Rattle.std.proofs.Common.{◌≡◌, ℕ, ◌+◌, ◌≤◌, Bool, true, List, [], ◌∷◌, sym, ap, ◌∙◌, subst, arith, Option, Some, Box, MatchBool, refl, unwrap_or}
+-- A seat that waits comes to its turn, and steps the machine in its box.
+use Rattle.std.proofs.Common.{◌≡◌, ℕ, ◌+◌, ◌≤◌, Bool, true, List, [], ◌∷◌, ◌++◌, sym, ap, ◌∙◌, subst, arith, Option, Some, Box, MatchBool, refl, unwrap_or}
 use Rattle.std.specs.Global.{Global}
+use Rattle.hall_lock.specs.declared.view.View.{View}
 use Rattle.hall_lock.specs.Rule.{is_at}
-use Rattle.hall_lock.specs.Steps.{Sitting, IsWaiting, Waits, TakesBox, Arrives, HasBox, looking, turning}
-use Rattle.hall_lock.proofs.Histories.{is_at-here}
+use Rattle.hall_lock.specs.Steps.{Sitting, IsWaiting, Waits, TakesBox, Arrives, HasBox, LeadsFrom, FitsFrom, turn_of, looking, turning}
+use Rattle.hall_lock.proofs.Histories.{is_at-here, fits_there, led_on}
 
 module _ {M C R S : Type 0} (shape : M → S) (fits : S → C → Type 0) (steps : M → C → R → M → Type 0) where
   -- who came to the turn has the box
@@ -40,6 +41,25 @@ box_or d [] = d
 box_or d (x ∷ xs) = unwrap_or x.1 d
 
 -- the slot's box is one
-pub same_box : {B : Type 0} (held : List (ℕ × Option B)) (a b : B) → held ≡ (0, Some a) ∷ [] → held ≡ (0, Some b) ∷ [] → a ≡ b
+same_box : {B : Type 0} (held : List (ℕ × Option B)) (a b : B) → held ≡ (0, Some a) ∷ [] → held ≡ (0, Some b) ∷ [] → a ≡ b
 unfolding box_or
 same_box held a b p q = ap (box_or a) (sym p ∙ q)
+
+module _ {M C R S : Type 0} (shape : M → S) (fits : S → C → Type 0) (steps : M → C → R → M → Type 0) (law : (m : M) (c : C) (r : R) (n : M) → steps m c r n → shape n ≡ shape m) where
+  -- the machine in the box that was taken out may be asked the call
+  pub fits_in_box : (me : Sitting M C R) (b : Box M Global) (c : C) → HasBox shape fits steps me → me.1 ≡ (0, Some b) ∷ [] → FitsFrom shape fits steps me.0.opening c → fits (shape b.value) c
+  fits_in_box me b c has taken asked = subst (λ (x : Box M Global). fits (shape x.value) c) (same_box me.1 has.0 b has.1 taken) (fits_there shape fits steps law me.0.opening me.0.seen has.0.value c has.2 asked)
+
+  -- and after its step the history with this turn leads to it
+  pub led_in_box : (me : Sitting M C R) (b : Box M Global) (c : C) (r : R) (k : M) → HasBox shape fits steps me → me.1 ≡ (0, Some b) ∷ [] → FitsFrom shape fits steps me.0.opening c → steps b.value c r k
+      → LeadsFrom shape fits steps me.0.opening (me.0.seen ++ turn_of c r ∷ []) k
+  led_in_box me b c r k has taken asked stepped =
+      led_on shape fits steps law me.0.opening me.0.seen has.0.value k c r has.2 asked (subst (λ (x : Box M Global). steps x.value c r k) (sym (same_box me.1 has.0 b has.1 taken)) stepped)
+
+  -- what the box is put home with, where nothing but the slot has changed since
+  pub put_in_box : (me mid now : Sitting M C R) (b : Box M Global) (c c' : C) (r : R) (slot : List (ℕ × Option (Box M Global))) → mid ≡ (me.0, slot) → now ≡ (mid.0, (0, Some b) ∷ []) → c' ≡ c
+      → LeadsFrom shape fits steps me.0.opening (me.0.seen ++ turn_of c r ∷ []) b.value
+      → (x : Box M Global) × (now.1 ≡ (0, Some x) ∷ []) × LeadsFrom shape fits steps now.0.opening (now.0.seen ++ turn_of c' r ∷ []) x.value
+  put_in_box me mid now b c c' r slot out put asked led =
+      let view : now.0 ≡ me.0 = ap (λ (z : Sitting M C R). z.0) put ∙ ap (λ (z : Sitting M C R). z.0) out in
+      (b, ap (λ (z : Sitting M C R). z.1) put, subst (λ (q : View M C R × C). LeadsFrom shape fits steps q.0.opening (q.0.seen ++ turn_of q.1 r ∷ []) b.value) (λ i. (sym view i, sym asked i)) led)

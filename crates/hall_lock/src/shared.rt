@@ -173,7 +173,7 @@ fn is_sent<T: Send>() {}
 
 /// Threads may share a lock, and a seat, and what is left of one, may go to another thread, where the machine, its
 /// calls and its replies may.
-pub fn crosses_threads<M: Machine + Send>()
+fn crosses_threads<M: Machine + Send>()
 where
     M::Call: Send,
     M::Reply: Send,

@@ -1,5 +1,6 @@
-//! One machine under the lock: a total, which each call adds to.
-ghost use Rattle.std.specs.Prelude.{◌≡◌, ◌+◌, ◌^◌, ◌%◌, ◌++◌, ◌<◌, ◌≤◌, ⊤, [], refl};
+//! Two machines under the lock: a total, which each call adds to, and a dial, which each call turns to a mark.
+ghost use Rattle.std.specs.Prelude.{◌≡◌, ◌+◌, ◌^◌, ◌%◌, ◌++◌, ◌<◌, ◌≤◌, ⊤, [], sum_by, refl};
+ghost use Rattle.std.proofs.Common.{ap};
 ghost use Rattle.hall_lock.specs.Places.{EachOnce};
 ghost use Rattle.hall_lock.specs.Seats.{IsOf};
 
@@ -37,6 +38,43 @@ impl Machine for Total {
     }
 }
 
+/// A dial with so many marks. A call names a mark, and the reply is the mark where the dial stood before.
+#[derive(Drop)]
+struct Dial {
+    marks: u64,
+    at: u64,
+}
+
+impl Machine for Dial {
+    type Call = u64;
+
+    type Reply = u64;
+
+    type Shape = u64;
+
+    ghost shape = { λ d. d.marks };
+
+    ghost fits = { λ marks mark. mark < marks };
+
+    ghost steps = { λ m c r n. (r ≡ m.at) × (n ≡ record m { at = c }) };
+
+    ghost keeps_shape = { λ m c r n s. ap (λ d. d.marks) s.1 };
+
+    fn step(&mut self, call: u64) -> u64 {
+        let before = self.at;
+        self.at = call;
+        before
+    }
+}
+
+/// The total at the end is the sum of all calls in the history.
+fn close_at_the_sum(lock: Shared<Total>, seat: Seat<Total>) -> u64
+    requires { IsOf lock seat × (seat.share ≡ 2 ^ 32) × (lock.opening.total ≡ 0) }
+    ensures { result ≡ sum_by (λ t. t.call) seat.seen % 2 ^ 64 }
+{
+    lock.close(seat).machine.total
+}
+
 #[test]
 fn three_turns_and_a_glance(rt: HostRuntime) -> Result<(), Fail> {
     let (lock, mut seat) = Shared::reserve(rt.alloc(), Total { total: 0 }, 3)?;
@@ -54,6 +92,14 @@ fn one_turn_then_over(rt: HostRuntime) -> Result<(), Fail> {
     assert!(rt; matches!(lock.call(&rt, &mut seat, 7), Err(Over(7))));
     let closed = lock.close(seat);
     assert!(rt; closed.turns == 1 && closed.machine.total == 5);
+    Ok(())
+}
+
+#[test]
+fn calls_that_fit_the_shape(rt: HostRuntime) -> Result<(), Fail> {
+    let (lock, mut seat) = Shared::reserve(rt.alloc(), Dial { marks: 12, at: 0 }, 2)?;
+    assert!(rt; matches!(lock.call(&rt, &mut seat, 3), Ok(0)));
+    assert!(rt; matches!(lock.call(&rt, &mut seat, 11), Ok(3)));
     Ok(())
 }
 
@@ -163,7 +209,6 @@ fn in_a_tree<R: Threads + Wait + Sync>(
 fn four_threads_with_seats_split_and_joined_in_a_tree(rt: HostRuntime) -> Result<(), Fail> {
     let (lock, seat) = Shared::reserve(rt.alloc(), Total { total: 0 }, 2_000)?;
     let seat = in_a_tree(&rt, &lock, seat, 500);
-    let closed = lock.close(seat);
-    assert!(rt; closed.turns == 2_000 && closed.machine.total == 2_000);
+    assert_eq!(rt; close_at_the_sum(lock, seat), 2_000);
     Ok(())
 }

@@ -41,7 +41,7 @@ pub(crate) fn draw_ticket<M: Machine, R: Wait>(
 
 /// Waits until `turn` is no longer what was found there: a few times by looking again at once, and then asleep.
 fn wait_while<M: Machine, R: Wait>(rt: &R, table: &LockTable<M>, found: u64, rounds: u32)
-    requires { IsTable table.now.shared.table_id table.now.shared.table_id }
+    requires { table.now.shared.table_id.words ≡ 2 }
 {
     if rounds < ROUNDS {
         spin_loop();
