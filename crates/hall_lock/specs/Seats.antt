@@ -80,7 +80,7 @@ module _ {M C R : Type 0} where
   abbrev pub joined : SeatState M C R → SeatState M C R → SeatState M C R
   joined s o = record s { share = s.share + o.share; seen = longer s.seen o.seen; past = s.past ++ (o.mine ++ o.past); front = max s.front o.front; full = s.full || o.full }
 
-  -- the seat has made this call and got this reply, and nothing but its own turn and what led to it has come to it
+  -- The seat has made one turn: the call with its reply stands behind the turns that came before it, which begin with all that the seat had seen
   pub record TakesTurn (call : C) (reply : R) (old new : SeatState M C R) : Type 0 where
     -- the turns before it
     pub before : List (Turn C R)

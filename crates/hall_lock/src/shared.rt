@@ -18,8 +18,10 @@ use std::marker::{Brand, Model};
 use std::snapshot::Snapshot;
 use std::sync::Wait;
 
-/// A machine under a turn lock. Contracts see which lock it is, the machine that it was opened with, and the number
-/// of turns that it was made for.
+/// A machine under a turn lock. Threads share it by reference, and each calls with a seat of its own.
+///
+/// Contracts see of it, as a record `Lock` of `specs/Seats.antt`, which lock it is (`name`), the machine that it was
+/// opened with (`opening`) and the number of turns that it was made for (`turns`).
 #[derive(Drop)]
 pub struct Shared<M: Machine> {
     table: LockTable<M>,
@@ -53,7 +55,8 @@ pub struct Closed<M: Machine> {
 }
 
 impl<M: Machine> Shared<M> {
-    /// Puts the machine under a lock for a number of turns. The seat has the whole share.
+    /// Puts the machine under a lock that makes up to so many turns, from 1 to 2^62. The seat has the whole share,
+    /// 2^32. This is the one call that takes memory, and where there is none it answers `NoMemory`.
     pub fn reserve(alloc: Global, machine: M, turns: u64) -> Result<(Shared<M>, Seat<M>), NoMemory>
     where
         M: Drop,
@@ -77,8 +80,8 @@ impl<M: Machine> Shared<M> {
         Ok((Shared { table, turns }, Seat { seat }))
     }
 
-    /// Waits for the next turn that is free, and steps the machine by the call. It answers `Over` exactly where its
-    /// draw of a turn read that all turns were drawn.
+    /// Draws the next turn, waits until all turns before it are made, and steps the machine by the call, which has to
+    /// fit the shape of the opening machine. It answers `Over` exactly where its draw read that all turns were drawn.
     pub fn call(
         &self,
         rt: &impl Wait,
@@ -101,7 +104,7 @@ impl<M: Machine> Shared<M> {
         Ok(make_turn(&self.table, &mut seat.seat, ticket, call))
     }
 
-    /// The number of turns passed. It waits for no one.
+    /// The number of turns passed, read from the lock in this call. It waits for no one.
     pub fn glance(&self, seat: &mut Seat<M>) -> u64
         requires { IsOf self.now seat.old }
         ensures same { IsOf self.now seat.new }
@@ -112,7 +115,8 @@ impl<M: Machine> Shared<M> {
         look(&self.table, &mut seat.seat)
     }
 
-    /// Splits a part of the seat's share off, for a new seat that knows what this one knows.
+    /// Splits a part of the seat's share off, at least 1 and less than all, for a new seat that knows what this one
+    /// knows and has made no turn.
     pub fn split(&self, seat: &mut Seat<M>, part: u64) -> Seat<M>
         requires seat { IsOf self.now seat.old }
         requires part { (1 ≤ part) × (part < seat.old.share) }
@@ -126,7 +130,7 @@ impl<M: Machine> Shared<M> {
         }
     }
 
-    /// Joins the other seat into this one, which then knows what either knew.
+    /// Joins the other seat into this one, which then knows what either knew and has both shares.
     pub fn join(&self, seat: &mut Seat<M>, other: Seat<M>) -> Past<M>
         requires { IsOf self.now seat.old × IsOf self.now other }
         ensures same { IsOf self.now seat.new }
@@ -144,7 +148,7 @@ impl<M: Machine> Shared<M> {
         past
     }
 
-    /// Ends the lock, where the seat has the whole share again.
+    /// Ends the lock, where the seat has the whole share again. The machine comes back with every turn made.
     pub fn close(self, seat: Seat<M>) -> Closed<M>
         requires seat { IsOf self seat }
         requires whole { seat.share ≡ 2 ^ 32 }

@@ -212,3 +212,11 @@ fn four_threads_with_seats_split_and_joined_in_a_tree(rt: HostRuntime) -> Result
     assert_eq!(rt; close_at_the_sum(lock, seat), 2_000);
     Ok(())
 }
+
+#[test]
+fn two_threads_draw_no_more_than_all_turns(rt: HostRuntime) -> Result<(), Fail> {
+    let (lock, seat) = Shared::reserve(rt.alloc(), Total { total: 0 }, 1_500)?;
+    let (closed, _past) = close_after_two(&rt, lock, seat, 1_000);
+    assert!(rt; closed.turns == 1_500 && closed.machine.total == 1_500);
+    Ok(())
+}
