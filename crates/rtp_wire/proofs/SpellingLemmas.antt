@@ -20,15 +20,18 @@ chain false true false true e g f h = absurd (cc)
 chain false true false false true g f h = absurd (cc)
 chain false true false false false g f h = (refl, refl, refl, refl, refl, cc)
 
+-- octets that are read passed each test
 passed : (octets : List ℕ) (f : Fields) → packet_of octets ≡ Ok f
     → (nat_lt (length octets) 12 ≡ false) × ((version octets == 2) ≡ true) × (nat_lt (length octets) (sources_end octets) ≡ false) × (extension_is_cut octets ≡ false)
     × (is_bad_padding (has_padding octets) (body octets) ≡ false) × (fields_of octets ≡ f)
 unfolding packet_of refusal
 passed octets f h = chain _ _ _ _ _ _ _ h
 
+-- a first octet is made of its bits
 first_back : (b : ℕ) → b / 64 ≡ 2 → b ≡ 2 * 64 + flag (b / 32 % 2 == 1) 32 + flag (b / 16 % 2 == 1) 16 + b % 16
 first_back b h = grind (arith, nat_tests)
 
+-- and so is a second one
 second_back : (b : ℕ) → b < 256 → b ≡ flag (b / 128 == 1) 128 + b % 128
 second_back b h = grind (arith, nat_tests)
 
@@ -146,6 +149,7 @@ spelled b0 b1 b2 b3 b4 b5 b6 b7 b8 b9 b10 b11 rest f small read =
       ap₂ ◌∷◌ first (ap₂ ◌∷◌ (second_back b1 (small 1)) (numbers_back b2 b3 b4 b5 b6 b7 b8 b9 b10 b11 rest _ (λ i. small (suc (suc i))) tail)),
     )
 
+-- whatever their first twelve are
 read_spelled : (octets : List ℕ) (f : Fields) → 12 ≤ length octets → AreOctets octets → packet_of octets ≡ Ok f → IsPacketOf octets (fields_of octets)
 read_spelled [] f long small read = absurd (omega arith)
 read_spelled (b0 ∷ []) f long small read = absurd (omega arith)
