@@ -29,7 +29,7 @@ get_listed f i zero k d h = absurd (omega arith)
 get_listed f i (suc n) zero d h = ap f (omega arith)
 get_listed f i (suc n) (suc k) d h = get_listed f (i + 1) n k d (omega arith) ∙ ap f (omega arith)
 
-listed_at : {A : Type 0} (f : ℕ → A) (n k : ℕ) (d : A) → k < n → get_or (listed f 0 n) k d ≡ f k
+pub listed_at : {A : Type 0} (f : ℕ → A) (n k : ℕ) (d : A) → k < n → get_or (listed f 0 n) k d ≡ f k
 listed_at f n k d h = get_listed f 0 n k d h ∙ ap f (zero-add k)
 
 -- these bits alone decide whether the word stands at the front of them and of more

@@ -8,13 +8,13 @@ use Rattle.pel_bits.specs.Bits.{field, number}
 use Rattle.pel_bits.proofs.Fields.{length-field, field-add, field-mod, number-field, number-fits, field-number}
 use Rattle.pel_model.specs.Codes.{begins, is_prefix_free}
 use Rattle.vlc_codes.specs.declared.lookup.Cell.{Cell}
-use Rattle.vlc_codes.specs.Lookup.{cell_of, no_cell, code_word, cell_or_cause, place_of}
+use Rattle.vlc_codes.specs.Lookup.{cell_of, no_cell, code_word, cell_or_cause, place_of, TakesPlace}
 use Rattle.pel_model.specs.Bits as model
-use Rattle.pel_model.specs.Walk.{Step, Good, Bad, Row, cause, read, whole_word, word_at}
+use Rattle.pel_model.specs.Walk.{Step, Good, Bad, Row, cause, read, whole_word, word_at, TakesWord}
 use Rattle.pel_model.specs.declared.Why.{Why}
 use Rattle.pel_model.specs.declared.Why.TheVariants.{Cut, NoCode}
 use Rattle.pel_bits.specs.Reading.{zeros}
-use Rattle.std.proofs.lemmas.List.{take_at, length-take-le, length-append, length-replicate}
+use Rattle.std.proofs.lemmas.List.{take_at, length-take-le, length-append, length-replicate, length-map, get_or-map}
 
 pub begins_length : (w bits : List Bool) → begins w bits ≡ true → length w ≤ length bits
 begins_length [] bits h = omega arith
@@ -57,11 +57,11 @@ begins_both (false ∷ v) (true ∷ w) (false ∷ bits) p q h = absurd cc
 begins_both (false ∷ v) (false ∷ w) (true ∷ bits) p q h = absurd cc
 begins_both (false ∷ v) (false ∷ w) (false ∷ bits) p q h = begins_both v w bits p q (omega arith)
 
-and_left : (a b : Bool) → (a && b) ≡ true → a ≡ true
+pub and_left : (a b : Bool) → (a && b) ≡ true → a ≡ true
 and_left true b h = refl
 and_left false b h = h
 
-and_right : (a b : Bool) → (a && b) ≡ true → b ≡ true
+pub and_right : (a b : Bool) → (a && b) ≡ true → b ≡ true
 and_right true b h = h
 and_right false b h = absurd cc
 
@@ -363,3 +363,44 @@ whole-good row bits fits =
 pub whole-cut : {E : Type 0} (row : Row E) (bits : List Bool) → length bits < length row.code + row.tail → whole_word row bits ≡ Bad Cut
 whole-cut row bits short =
     if-true (nat_lt (length bits) (length row.code + row.tail)) (Bad Cut) (Good (row.make (model.number (take row.tail (drop (length row.code) bits)))) (length row.code + row.tail)) (lt-ltb (length bits) (length row.code + row.tail) short)
+
+-- ---- rows that are their code alone
+
+abbrev plain_row : List Bool → Row ℕ
+plain_row w = record { code = w; tail = 0; make = λ n. n }
+
+codes-plain : (ws : List (List Bool)) → codes_of_rows (map (λ w. plain_row w) ws) ≡ ws
+codes-plain [] = refl
+codes-plain (w ∷ ws) = ap (λ (t : List (List Bool)). w ∷ t) (codes-plain ws)
+
+-- the word that stands at the front is one of the list, and is no longer than the bits
+pub place_within : (ws : List (List Bool)) (bits : List Bool) (cell : Cell) → place_of ws bits ≡ Ok cell → (cell.value < length ws) × (cell.len ≤ length bits)
+place_within ws bits cell is =
+    let found = read-found (map (λ w. plain_row w) ws) ws bits cell (codes-plain ws) is in
+    (omega (arith, found.inside, length-map ws (λ w. plain_row w)), found.fits)
+
+module _ {E X : Type 0} (rows : List (Row E)) (ws : List (List Bool)) (element : X → E) (meanings : List X) (codes : codes_of_rows rows ≡ ws) where
+  -- the meaning of the word that stands at the front
+  pub took_word : map (λ row. row.tail) rows ≡ map (λ row. 0) rows → map (λ row. row.make 0) rows ≡ map element meanings → (place : ℕ) (d : X) (old new : List Bool × ℕ) → TakesPlace ws (Ok place) old new → TakesWord element (read rows old.0) (Ok (get_or meanings place d)) old new
+  unfolding model.number
+  took_word tails makes place d old new took =
+      let found = read-found rows ws old.0 (record { len = took.0; value = place }) codes took.1 in
+      let row = found.row in
+      let at : get_or rows place row ≡ row = found.at row in
+      let tail : row.tail ≡ 0 =
+          ap (λ (row : Row E). row.tail) (sym at) ∙ (sym (get_or-map (λ (row : Row E). row.tail) rows place row 0 found.inside)
+              ∙ (ap (λ (ns : List ℕ). get_or ns place 0) tails ∙ get_or-map (λ (row : Row E). 0) rows place row 0 found.inside)) in
+      let inside : place < length meanings =
+          omega (arith, found.inside, length-map rows (λ row. row.make 0), ap length makes, length-map meanings element) in
+      let make : row.make 0 ≡ element (get_or meanings place d) =
+          ap (λ (row : Row E). row.make 0) (sym at) ∙ (sym (get_or-map (λ (row : Row E). row.make 0) rows place row (row.make 0) found.inside)
+              ∙ (ap (λ (es : List E). get_or es place (row.make 0)) makes ∙ get_or-map element meanings place d (row.make 0) inside)) in
+      let size : length row.code + row.tail ≡ took.0 = omega (arith, found.long, tail) in
+      let good : whole_word row old.0 ≡ Good (row.make (model.number (take row.tail (drop (length row.code) old.0)))) (length row.code + row.tail) = whole-good row old.0 (omega (arith, size, found.fits)) in
+      let element_is : row.make (model.number (take row.tail (drop (length row.code) old.0))) ≡ element (get_or meanings place d) =
+          ap (λ (n : ℕ). row.make (model.number (take n (drop (length row.code) old.0)))) tail ∙ make in
+      (took.0, found.is ∙ (good ∙ (ap (λ (e : E). Good e (length row.code + row.tail)) element_is ∙ ap (Good (element (get_or meanings place d))) size)), took.2)
+
+  -- no word stands there
+  pub took_none : list_all (λ w. nat_lt 0 (length w)) ws ≡ true → (why : Why) (old new : List Bool × ℕ) → TakesPlace ws (Err why) old new → TakesWord {X = X} element (read rows old.0) (Err why) old new
+  took_none some why old new took = (read-none rows ws old.0 why codes some took.0, took.1)

@@ -1,7 +1,8 @@
 -- The lists of words, and which word of a list stands at the front of some bits.
-use Rattle.std.specs.Prelude.{ℕ, ◌+◌, ◌-◌, ◌*◌, ◌/◌, ◌^◌, ◌==◌, Bool, List, [], ◌∷◌, ◌++◌, length, map, Result, Ok, Err, if◌then◌else◌, nat_lt, slice_index_or}
+use Rattle.std.specs.Prelude.{◌≡◌, ℕ, ◌+◌, ◌-◌, ◌*◌, ◌/◌, ◌^◌, ◌==◌, Bool, List, [], ◌∷◌, ◌++◌, length, map, Result, Ok, Err, if◌then◌else◌, nat_lt, slice_index_or}
 use Rattle.std.specs.Int.{leading_zeros, w32}
 use Rattle.pel_bits.specs.Bits.{field}
+use Rattle.pel_bits.specs.Reading.{skipped}
 use Rattle.pel_model.specs.Codes.{begins, mba_table, stuffing_word, mtype_table, mvd_table, cbp_table, tcoeff_table, first_one_word, later_one_word, escape_word, end_of_block_word}
 use Rattle.pel_model.specs.Walk.{cause}
 use Rattle.pel_model.specs.declared.Why.{Why}
@@ -35,6 +36,12 @@ cell_or_cause words bits cell = if cell.len == 0 then Err (cause words bits) els
 
 abbrev pub place_of : List (List Bool) → List Bool → Result Cell Why
 place_of words bits = cell_or_cause words bits (cell_of words 0 bits)
+
+-- the word that stands there was taken, and its place is this; else nothing was
+abbrev pub TakesPlace : List (List Bool) → Result ℕ Why → List Bool × ℕ → List Bool × ℕ → Type 0
+TakesPlace words (Ok place) old new =
+    (n : ℕ) × (place_of words old.0 ≡ Ok (record { len = n; value = place })) × (new ≡ skipped n old)
+TakesPlace words (Err why) old new = (place_of words old.0 ≡ Err why) × (new ≡ old)
 
 -- ---- how the words stand in the code
 

@@ -7,4 +7,4 @@ mod lookup;
 mod readers;
 
 pub use lookup::{Cell, Table, look_up};
-pub use readers::{CoefRow, MbaRow};
+pub use readers::{CoefRow, MbaRow, cbp, mba, mtype, mvd, tcoeff};
