@@ -1,8 +1,8 @@
 -- What is computed of the six tables.
-use Rattle.std.proofs.Common.{◌≡◌, ℕ, zero, suc, ℤ, pos, negsuc, ◌≤ℤ◌, ◌≤◌, ◌&&◌, arith, ◌+◌, ◌^◌, ◌<◌, Bool, true, false, cond, List, [], ◌∷◌, ◌++◌, refl, ap, ◌∙◌, map, take, get_or, length, nat_le, nat_lt}
+use Rattle.std.proofs.Common.{◌≡◌, ℕ, zero, suc, ℤ, pos, negsuc, ◌≤ℤ◌, ◌≤◌, ◌&&◌, arith, ◌+◌, ◌^◌, ◌<◌, Bool, true, false, cond, List, [], ◌∷◌, ◌++◌, refl, sym, ap, ◌∙◌, map, take, get_or, length, nat_le, nat_lt}
 use Rattle.std.specs.List.{list_all}
 use Rattle.std.proofs.lemmas.Bool.{leb-true}
-use Rattle.std.proofs.lemmas.List.{get_or_append_left}
+use Rattle.std.proofs.lemmas.List.{get_or_append_left, get_or-take}
 use Rattle.std.proofs.lemmas.Int.{ints}
 use Rattle.pel_bits.specs.Bits.{field}
 use Rattle.pel_bits.specs.Reading.{zeros}
@@ -18,7 +18,7 @@ use Rattle.pel_model.specs.Walk.{Row}
 use Rattle.pel_model.specs.Grammar as grammar
 use Rattle.pel_model.specs.Grammar.{Element, Eob, mba_rows, table_rows, first_rows, later_rows, coefficient_row, escape_row, word_row}
 use Rattle.vlc_codes.specs.Rows.{mba_element}
-use Rattle.vlc_codes.proofs.WordLaws.{codes_of_rows, and_left, and_right}
+use Rattle.vlc_codes.proofs.WordLaws.{codes_of_rows, and_left, and_right, all_at}
 use Rattle.vlc_codes.specs.declared.lookup.Table.TheVariants.{Mba, Mtype, Mvd, Cbp, CoefFirst, Coef}
 use Rattle.vlc_codes.specs.Lookup.{words, cell_of, cell_in, no_cell, code_word}
 use Rattle.vlc_codes.proofs.CellLaws.{front, pair_of, listed, listed_at, all_settled, cell-in}
@@ -241,11 +241,6 @@ near_bounds : (z : ℤ) → is_near z ≡ true → (negsuc 29 ≤ℤ z) × (z �
 near_bounds (pos n) h = let le : n ≤ 30 = leb-true n 30 h in (omega (arith, ints), omega (arith, ints))
 near_bounds (negsuc n) h = let le : n ≤ 29 = leb-true n 29 h in (omega (arith, ints), omega (arith, ints))
 
-all_at : {A : Type 0} (test : A → Bool) (xs : List A) (k : ℕ) (d : A) → list_all test xs ≡ true → k < length xs → test (get_or xs k d) ≡ true
-all_at test [] k d all inside = absurd (omega arith)
-all_at test (x ∷ xs) zero d all inside = and_left (test x) (list_all test xs) all
-all_at test (x ∷ xs) (suc k) d all inside = all_at test xs k d (and_right (test x) (list_all test xs) all) (omega arith)
-
 abbrev both_near : ℤ × ℤ → Bool
 both_near v = is_near v.0 && is_near v.1
 
@@ -270,3 +265,22 @@ mba_step k d inside =
 
 pub mba_stuffing : (k : ℕ) (d : MbaRow) → k ≡ 33 → get_or mba_meanings k d ≡ mba_row.Stuffing
 mba_stuffing k d last = ap (λ (k : ℕ). get_or mba_meanings k d) last
+
+pub coefficient_short : (first : Bool) (k : ℕ) → k < length (words (table_at first)) → length (get_or (words (table_at first)) k []) ≤ 16
+coefficient_short first k inside =
+    leb-true (length (get_or (words (table_at first)) k [])) 16 (all_at (λ w. nat_le (length w) 16) (words (table_at first)) k [] (words_short (table_at first)) inside)
+
+-- the row of a code, of the escape, and of the end of a block
+pub row-pair : (first : Bool) (k : ℕ) (d : Row Element) → k < 63 → get_or (rows_at first) k d ≡ pair_row first k
+row-pair first k d inside =
+    sym (get_or-take 63 (rows_at first) k d inside)
+    ∙ (ap (λ (rows : List (Row Element)). get_or rows k d) (coefficient_pairs first) ∙ listed_at (λ k. pair_row first k) 63 k d inside)
+
+pub row-escape : (first : Bool) (k : ℕ) (d : Row Element) → k ≡ 63 → get_or (rows_at first) k d ≡ escape_row
+row-escape first k d is = ap (λ (k : ℕ). get_or (rows_at first) k d) is ∙ coefficient_escape first d
+
+pub row-end : (first : Bool) (k : ℕ) (d : Row Element) → k < length (words (table_at first)) → 63 < k → get_or (rows_at first) k d ≡ word_row end_of_block_word Eob
+row-end true k d inside far = absurd (omega (arith, words_counted CoefFirst))
+row-end false k d inside far =
+    let is : k ≡ 64 = omega (arith, words_counted Coef) in
+    ap (λ (k : ℕ). get_or later_rows k d) is ∙ coefficient_end d

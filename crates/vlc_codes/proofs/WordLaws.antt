@@ -379,6 +379,19 @@ place_within ws bits cell is =
     let found = read-found (map (λ w. plain_row w) ws) ws bits cell (codes-plain ws) is in
     (omega (arith, found.inside, length-map ws (λ w. plain_row w)), found.fits)
 
+pub all_at : {A : Type 0} (test : A → Bool) (xs : List A) (k : ℕ) (d : A) → list_all test xs ≡ true → k < length xs → test (get_or xs k d) ≡ true
+all_at test [] k d all inside = absurd (omega arith)
+all_at test (x ∷ xs) zero d all inside = and_left (test x) (list_all test xs) all
+all_at test (x ∷ xs) (suc k) d all inside = all_at test xs k d (and_right (test x) (list_all test xs) all) (omega arith)
+
+-- its length is that of the list's word
+pub place_length : (ws : List (List Bool)) (bits : List Bool) (cell : Cell) → place_of ws bits ≡ Ok cell → length (get_or ws cell.value []) ≡ cell.len
+place_length ws bits cell is =
+    let found = read-found (map (λ w. plain_row w) ws) ws bits cell (codes-plain ws) is in
+    let inside : cell.value < length ws = omega (arith, found.inside, length-map ws (λ w. plain_row w)) in
+    let row : plain_row (get_or ws cell.value []) ≡ found.row = sym (get_or-map (λ w. plain_row w) ws cell.value [] found.row inside) ∙ found.at found.row in
+    ap (λ (row : Row ℕ). length row.code) row ∙ found.long
+
 module _ {E X : Type 0} (rows : List (Row E)) (ws : List (List Bool)) (element : X → E) (meanings : List X) (codes : codes_of_rows rows ≡ ws) where
   -- the meaning of the word that stands at the front
   pub took_word : map (λ row. row.tail) rows ≡ map (λ row. 0) rows → map (λ row. row.make 0) rows ≡ map element meanings → (place : ℕ) (d : X) (old new : List Bool × ℕ) → TakesPlace ws (Ok place) old new → TakesWord element (read rows old.0) (Ok (get_or meanings place d)) old new
