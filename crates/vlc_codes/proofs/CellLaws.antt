@@ -1,8 +1,7 @@
 -- Cells: what stands at a table's index, and why it is what stands at the front of the bits.
-use Rattle.std.proofs.Common.{◌≡◌, ℕ, zero, suc, ◌+◌, ◌-◌, ◌*◌, ◌/◌, ◌%◌, ◌^◌, ◌<◌, ◌≤◌, ◌==◌, ◌&&◌, ◌||◌, not, Bool, true, false, cond, List, [], ◌∷◌, ◌++◌, length, map, take, drop, get_or, nat_lt, nat_le, if◌then◌else◌, refl, sym, ◌∙◌, ap, subst, inl, inr, zero-add, arith}
+use Rattle.std.proofs.Common.{◌≡◌, ℕ, zero, suc, ◌+◌, ◌-◌, ◌*◌, ◌/◌, ◌%◌, ◌^◌, ◌<◌, ◌≤◌, ◌&&◌, Bool, true, false, List, [], ◌∷◌, ◌++◌, length, get_or, nat_lt, if◌then◌else◌, refl, sym, ◌∙◌, ap, subst, inl, inr, zero-add, arith}
 use Rattle.std.proofs.lemmas.Bool.{ltb-true, ltb-false}
 use Rattle.std.proofs.Math.Nat.{pow-le-pow_right}
-use Rattle.std.specs.List.{list_any, list_all}
 use Rattle.std.specs.Int.{leading_zeros, w32}
 use Rattle.std.proofs.lemmas.Nat.{leading_length, shr_below, le-div, pow-add, pow_pos}
 use Rattle.pel_bits.specs.Bits.{field}
@@ -10,15 +9,12 @@ use Rattle.pel_bits.specs.Reading.{zeros}
 use Rattle.pel_bits.proofs.Fields.{field-add, field-zero}
 use Rattle.pel_model.specs.Codes.{begins}
 use Rattle.vlc_codes.specs.declared.lookup.Cell.{Cell}
-use Rattle.vlc_codes.proofs.WordLaws.{either_way}
-use Rattle.vlc_codes.specs.Lookup.{cell_of, no_cell, as_cell, cell_in}
+use Rattle.vlc_codes.proofs.WordLaws.{either_way, if-true, if-false}
+use Rattle.vlc_codes.specs.Lookup.{cell_of, no_cell, cell_in}
 
 -- the bits that an index stands for: some zeros, a 1, and five bits
 abbrev pub front : ℕ → List Bool
 front k = field (32 + k % 32) (k / 32 + 6)
-
-abbrev pub pair_of : Cell → ℕ × ℕ
-pair_of cell = (cell.len, cell.value)
 
 abbrev pub listed : {A : Type 0} → (ℕ → A) → ℕ → ℕ → List A
 listed f k zero = []
@@ -82,14 +78,21 @@ no_bits top fits many =
     let most : 2 ^ l.0 ≤ 2 ^ 22 = pow-le-pow_right (omega arith) few in
     omega (arith, l.2)
 
+abbrev cell : ℕ → ℕ → Cell
+cell len value = record { len = len; value = value }
+
 cell_of-zeros : (ws : List (List Bool)) → all_settled ws (zeros 10) ≡ true → cell_of ws 0 (zeros 10) ≡ no_cell → (top : ℕ) → top < 2 ^ 22 → cell_of ws 0 (field top 32) ≡ no_cell
 cell_of-zeros ws low none top below =
     let high : top / 2 ^ 22 ≡ 0 = omega arith in
     let bits : field top 32 ≡ zeros 10 ++ field top 22 = field-add top 10 22 ∙ ap (λ (t : List Bool). t ++ field top 22) (ap (λ (n : ℕ). field n 10) high ∙ field-zero 10) in
     ap (cell_of ws 0) bits ∙ (cell-settled ws 0 (zeros 10) (field top 22) low ∙ none)
 
-cell_of-front : (cells : List (ℕ × ℕ)) (ws : List (List Bool)) → cells ≡ listed (λ k. pair_of (cell_of ws 0 (front k))) 0 320 → listed (λ k. all_settled ws (front k)) 0 320 ≡ listed (λ k. true) 0 320 → (top z : ℕ) → top < 2 ^ 32 → z ≡ leading_zeros w32 top → z ≤ 9 → as_cell (get_or cells (32 * z + top / 2 ^ (26 - z) - 32) (0, 0)) ≡ cell_of ws 0 (field top 32)
-cell_of-front cells ws computed settled top z fits is few =
+abbrev index : ℕ → ℕ → ℕ
+index top z = 32 * z + top / 2 ^ (26 - z) - 32
+
+-- what stands at the index is what stands at the front
+cell_of-front : (lens places : List ℕ) (ws : List (List Bool)) → lens ≡ listed (λ k. (cell_of ws 0 (front k)).len) 0 320 → places ≡ listed (λ k. (cell_of ws 0 (front k)).value) 0 320 → listed (λ k. all_settled ws (front k)) 0 320 ≡ listed (λ k. true) 0 320 → (top z : ℕ) → top < 2 ^ 32 → z ≡ leading_zeros w32 top → z ≤ 9 → cell (get_or lens (index top z) 0) (get_or places (index top z) 0) ≡ cell_of ws 0 (field top 32)
+cell_of-front lens places ws lens_are places_are settled top z fits is few =
     let six = six_bits top z fits is few in
     let k : ℕ = 32 * z + top / 2 ^ (26 - z) - 32 in
     let below : k < 320 = omega (arith, six) in
@@ -97,23 +100,28 @@ cell_of-front cells ws computed settled top z fits is few =
     let column : 32 + k % 32 ≡ top / 2 ^ (26 - z) = omega (arith, six) in
     let width : z + 6 + (26 - z) ≡ 32 = omega arith in
     let bits : field top 32 ≡ front k ++ field top (26 - z) =
-        ap (field top) (sym width)
-        ∙ (field-add top (z + 6) (26 - z)
-            ∙ ap (λ (t : List Bool). t ++ field top (26 - z)) (ap (λ (n : ℕ). field n (z + 6)) (sym column) ∙ ap (field (32 + k % 32)) (sym row))) in
+    ap (field top) (sym width)
+    ∙ (field-add top (z + 6) (26 - z)
+    ∙ ap (λ (t : List Bool). t ++ field top (26 - z)) (ap (λ (n : ℕ). field n (z + 6)) (sym column) ∙ ap (field (32 + k % 32)) (sym row))) in
     let decided : all_settled ws (front k) ≡ true =
-        sym (listed_at (λ k. all_settled ws (front k)) 320 k true below) ∙ (ap (λ (bs : List Bool). get_or bs k true) settled ∙ listed_at (λ k. true) 320 k true below) in
-    let cell : get_or cells k (0, 0) ≡ pair_of (cell_of ws 0 (front k)) =
-        ap (λ (cs : List (ℕ × ℕ)). get_or cs k (0, 0)) computed ∙ listed_at (λ k. pair_of (cell_of ws 0 (front k))) 320 k (0, 0) below in
-    ap as_cell cell ∙ sym (ap (cell_of ws 0) bits ∙ cell-settled ws 0 (front k) (field top (26 - z)) decided)
+    sym (listed_at (λ k. all_settled ws (front k)) 320 k true below) ∙ (ap (λ (bs : List Bool). get_or bs k true) settled ∙ listed_at (λ k. true) 320 k true below) in
+    let len : get_or lens k 0 ≡ (cell_of ws 0 (front k)).len =
+    ap (λ (ns : List ℕ). get_or ns k 0) lens_are ∙ listed_at (λ k. (cell_of ws 0 (front k)).len) 320 k 0 below in
+    let place : get_or places k 0 ≡ (cell_of ws 0 (front k)).value =
+    ap (λ (ns : List ℕ). get_or ns k 0) places_are ∙ listed_at (λ k. (cell_of ws 0 (front k)).value) 320 k 0 below in
+    ap (λ (n : ℕ). cell n (get_or places k 0)) len
+    ∙ (ap (cell (cell_of ws 0 (front k)).len) place ∙ sym (ap (cell_of ws 0) bits ∙ cell-settled ws 0 (front k) (field top (26 - z)) decided))
 
 -- a table that was computed from the words holds what stands at the front
-pub cell-in : (cells : List (ℕ × ℕ)) (ws : List (List Bool)) → cells ≡ listed (λ k. pair_of (cell_of ws 0 (front k))) 0 320 → listed (λ k. all_settled ws (front k)) 0 320 ≡ listed (λ k. true) 0 320 → all_settled ws (zeros 10) ≡ true → cell_of ws 0 (zeros 10) ≡ no_cell → (top : ℕ) → top < 2 ^ 32 → cell_in cells top ≡ cell_of ws 0 (field top 32)
-cell-in cells ws computed settled low none top fits =
+pub cell-in : (lens places : List ℕ) (ws : List (List Bool)) → lens ≡ listed (λ k. (cell_of ws 0 (front k)).len) 0 320 → places ≡ listed (λ k. (cell_of ws 0 (front k)).value) 0 320 → listed (λ k. all_settled ws (front k)) 0 320 ≡ listed (λ k. true) 0 320 → all_settled ws (zeros 10) ≡ true → cell_of ws 0 (zeros 10) ≡ no_cell → (top : ℕ) → top < 2 ^ 32 → cell_in lens places top ≡ cell_of ws 0 (field top 32)
+cell-in lens places ws lens_are places_are settled low none top fits =
+    let z : ℕ = leading_zeros w32 top in
+    let here : Cell = cell (get_or lens (index top (leading_zeros w32 top)) 0) (get_or places (index top (leading_zeros w32 top)) 0) in
     elim (either_way (nat_lt 9 (leading_zeros w32 top))) [
-        inl many ↦
-            subst (λ (b : Bool). (if b then no_cell else as_cell (get_or cells (32 * leading_zeros w32 top + top / 2 ^ (26 - leading_zeros w32 top) - 32) (0, 0))) ≡ cell_of ws 0 (field top 32)) (sym many)
-            (sym (cell_of-zeros ws low none top (no_bits top fits (ltb-true 9 (leading_zeros w32 top) many))))
-        | inr few ↦
-            subst (λ (b : Bool). (if b then no_cell else as_cell (get_or cells (32 * leading_zeros w32 top + top / 2 ^ (26 - leading_zeros w32 top) - 32) (0, 0))) ≡ cell_of ws 0 (field top 32)) (sym few)
-            (cell_of-front cells ws computed settled top (leading_zeros w32 top) fits refl (ltb-false 9 (leading_zeros w32 top) few))
+      | inl many ↦
+          if-true (nat_lt 9 (leading_zeros w32 top)) no_cell here many
+          ∙ sym (cell_of-zeros ws low none top (no_bits top fits (ltb-true 9 (leading_zeros w32 top) many)))
+      | inr few ↦
+          if-false (nat_lt 9 (leading_zeros w32 top)) no_cell here few
+          ∙ cell_of-front lens places ws lens_are places_are settled top (leading_zeros w32 top) fits refl (ltb-false 9 (leading_zeros w32 top) few)
     ]

@@ -1,5 +1,5 @@
 -- What is computed of the six tables.
-use Rattle.std.proofs.Common.{◌≡◌, ℕ, zero, suc, ℤ, pos, negsuc, ◌≤ℤ◌, ◌≤◌, ◌&&◌, arith, ◌+◌, ◌^◌, ◌<◌, Bool, true, false, cond, List, [], ◌∷◌, ◌++◌, refl, sym, ap, ◌∙◌, map, take, get_or, length, nat_le, nat_lt}
+use Rattle.std.proofs.Common.{◌≡◌, ℕ, ℤ, pos, negsuc, ◌≤ℤ◌, ◌≤◌, ◌&&◌, arith, ◌+◌, ◌^◌, ◌<◌, Bool, true, false, cond, List, [], ◌∷◌, ◌++◌, refl, sym, ap, ◌∙◌, map, take, get_or, length, nat_le, nat_lt}
 use Rattle.std.specs.List.{list_all}
 use Rattle.std.proofs.lemmas.Bool.{leb-true}
 use Rattle.std.proofs.lemmas.List.{get_or_append_left, get_or-take}
@@ -7,6 +7,7 @@ use Rattle.std.proofs.lemmas.Int.{ints}
 use Rattle.pel_bits.specs.Bits.{field}
 use Rattle.pel_bits.specs.Reading.{zeros}
 use Rattle.pel_model.specs.Codes.{is_prefix_free, end_of_block_word, mba_table, mtype_table, mvd_table, cbp_table, tcoeff_table}
+use Rattle.vlc_codes.specs.declared.cells.Cells.{Cells}
 use Rattle.vlc_codes.specs.declared.cells.TheConstants as cells
 use Rattle.vlc_codes.specs.declared.codes.TheConstants as codes
 use Rattle.vlc_codes.specs.declared.lookup.Table.{Table}
@@ -21,9 +22,9 @@ use Rattle.vlc_codes.specs.Rows.{mba_element}
 use Rattle.vlc_codes.proofs.WordLaws.{codes_of_rows, and_left, and_right, all_at}
 use Rattle.vlc_codes.specs.declared.lookup.Table.TheVariants.{Mba, Mtype, Mvd, Cbp, CoefFirst, Coef}
 use Rattle.vlc_codes.specs.Lookup.{words, cell_of, cell_in, no_cell, code_word}
-use Rattle.vlc_codes.proofs.CellLaws.{front, pair_of, listed, listed_at, all_settled, cell-in}
+use Rattle.vlc_codes.proofs.CellLaws.{front, listed, listed_at, all_settled, cell-in}
 
-abbrev pub cells_of : Table → List (ℕ × ℕ)
+abbrev pub cells_of : Table → Cells
 cells_of Mba = cells.MBA
 cells_of Mtype = cells.MTYPE
 cells_of Mvd = cells.MVD
@@ -60,14 +61,23 @@ words_short CoefFirst = refl
 words_short Coef = refl
 
 -- the cells are those of the words
-pub cells_computed : (table : Table) → cells_of table ≡ listed (λ k. pair_of (cell_of (words table) 0 (front k))) 0 320
+pub lens_computed : (table : Table) → (cells_of table).lens ≡ listed (λ k. (cell_of (words table) 0 (front k)).len) 0 320
 unfolding words field mba_table mtype_table mvd_table cbp_table tcoeff_table
-cells_computed Mba = refl
-cells_computed Mtype = refl
-cells_computed Mvd = refl
-cells_computed Cbp = refl
-cells_computed CoefFirst = refl
-cells_computed Coef = refl
+lens_computed Mba = refl
+lens_computed Mtype = refl
+lens_computed Mvd = refl
+lens_computed Cbp = refl
+lens_computed CoefFirst = refl
+lens_computed Coef = refl
+
+pub places_computed : (table : Table) → (cells_of table).places ≡ listed (λ k. (cell_of (words table) 0 (front k)).value) 0 320
+unfolding words field mba_table mtype_table mvd_table cbp_table tcoeff_table
+places_computed Mba = refl
+places_computed Mtype = refl
+places_computed Mvd = refl
+places_computed Cbp = refl
+places_computed CoefFirst = refl
+places_computed Coef = refl
 
 -- an index decides each word
 pub cells_settled : (table : Table) → listed (λ k. all_settled (words table) (front k)) 0 320 ≡ listed (λ k. true) 0 320
@@ -108,8 +118,9 @@ codes_computed Cbp = refl
 codes_computed CoefFirst = refl
 codes_computed Coef = refl
 
-pub looked : (table : Table) (top : ℕ) → top < 2 ^ 32 → cell_in (cells_of table) top ≡ cell_of (words table) 0 (field top 32)
-looked table top fits = cell-in (cells_of table) (words table) (cells_computed table) (cells_settled table) (zeros_settled table) (zeros_none table) top fits
+pub looked : (table : Table) (top : ℕ) → top < 2 ^ 32 → cell_in (cells_of table).lens (cells_of table).places top ≡ cell_of (words table) 0 (field top 32)
+looked table top fits =
+    cell-in (cells_of table).lens (cells_of table).places (words table) (lens_computed table) (places_computed table) (cells_settled table) (zeros_settled table) (zeros_none table) top fits
 
 pub words_within_32 : (table : Table) → list_all (λ w. nat_le (length w) 32) (words table) ≡ true
 unfolding words field mba_table mtype_table mvd_table cbp_table tcoeff_table

@@ -1,5 +1,5 @@
 -- Words at the front of bits, and of bits with zeros behind them.
-use Rattle.std.proofs.Common.{◌≡◌, ◌≢◌, Result, Ok, Err, Option, Some, None, ℕ, zero, suc, ◌+◌, ◌-◌, ◌*◌, ◌/◌, ◌%◌, ◌^◌, ◌<◌, ◌≤◌, ◌==◌, ◌&&◌, ◌||◌, not, Bool, true, false, cond, List, [], ◌∷◌, ◌++◌, length, map, take, drop, get_or, nat_lt, nat_le, if◌then◌else◌, refl, sym, ◌∙◌, ap, subst, inl, inr, ◌⊎◌, min, zero-add, arith}
+use Rattle.std.proofs.Common.{◌≡◌, ◌≢◌, Result, Ok, Err, Option, Some, None, ℕ, zero, suc, ◌+◌, ◌-◌, ◌*◌, ◌/◌, ◌%◌, ◌^◌, ◌<◌, ◌≤◌, ◌==◌, ◌&&◌, ◌||◌, not, Bool, true, false, List, [], ◌∷◌, ◌++◌, length, map, take, drop, get_or, nat_lt, nat_le, if◌then◌else◌, refl, sym, ◌∙◌, ap, subst, inl, inr, ◌⊎◌, min, zero-add, arith}
 use Rattle.std.proofs.lemmas.Bool.{false≢true, ltb-true, lt-ltb, leb-true, leb-false, le-leb, eqb-true, eq-eqb}
 use Rattle.std.specs.List.{list_any, list_all, find}
 use Rattle.std.proofs.lemmas.Nat.{one_shl}
@@ -85,14 +85,14 @@ either_way false = inr refl
 none_left : (w : List Bool) (ws : List (List Bool)) (i : ℕ) (bits more : List Bool) (n : ℕ) → list_any (λ v. begins w v || begins v w) ws ≡ false → begins w (take n (bits ++ more)) ≡ true → length bits < length w → list_all (λ v. nat_le (length v) n) ws ≡ true → cell_of ws i bits ≡ no_cell
 none_left w [] i bits more n free front longer short = refl
 none_left w (v ∷ ws) i bits more n free front longer short =
-    let rest = none_left w ws (i + 1) bits more n (or_right _ _ free) front longer (and_right _ _ short) in
+    let rest : cell_of ws (i + 1) bits ≡ no_cell = none_left w ws (i + 1) bits more n (or_right _ _ free) front longer (and_right _ _ short) in
     let fits : length v ≤ n = leb-true (length v) n (and_left _ _ short) in
     elim (either_way (begins v bits)) [
-        inl here ↦
-            let seen : begins v (take n (bits ++ more)) ≡ true = begins-cut v bits more n fits (begins_length v bits here) ∙ here in
-            let inner : begins v w ≡ true = begins_both v w (take n (bits ++ more)) seen front (omega (arith, begins_length v bits here)) in
-            absurd (false≢true (sym (or_right (begins w v) (begins v w) (or_left _ _ free)) ∙ inner))
-        | inr other ↦ subst (λ (b : Bool). (if b then record { len = length v; value = i } else cell_of ws (i + 1) bits) ≡ no_cell) (sym other) rest
+      | inl here ↦
+          let seen : begins v (take n (bits ++ more)) ≡ true = begins-cut v bits more n fits (begins_length v bits here) ∙ here in
+          let inner : begins v w ≡ true = begins_both v w (take n (bits ++ more)) seen front (omega (arith, begins_length v bits here)) in
+          absurd (false≢true (sym (or_right (begins w v) (begins v w) (or_left _ _ free)) ∙ inner))
+      | inr other ↦ subst (λ (b : Bool). (if b then record { len = length v; value = i } else cell_of ws (i + 1) bits) ≡ no_cell) (sym other) rest
     ]
 
 pub if-true : {A : Type 0} (b : Bool) (x y : A) → b ≡ true → (if b then x else y) ≡ x
@@ -113,8 +113,8 @@ within-none n = elim (either_way (nat_le 0 n)) [ inl h ↦ if-true (nat_le 0 n) 
 no_front : (w bits more : List Bool) (n : ℕ) → length w ≤ n → begins w (take n (bits ++ more)) ≡ false → begins w bits ≡ false
 no_front w bits more n fits other =
     elim (either_way (begins w bits)) [
-        inl here ↦ absurd (false≢true (sym other ∙ (begins-cut w bits more n fits (begins_length w bits here) ∙ here)))
-        | inr h ↦ h
+      | inl here ↦ absurd (false≢true (sym other ∙ (begins-cut w bits more n fits (begins_length w bits here) ∙ here)))
+      | inr h ↦ h
     ]
 
 -- the word of the bits, from that of the bits with more behind them, cut
@@ -128,20 +128,20 @@ cell-cut (w ∷ ws) i bits more n free short =
     let later = cell_of ws (i + 1) padded in
     let few = nat_le (length w) (length bits) in
     elim (either_way (begins w (take n (bits ++ more)))) [
-        inl here ↦
-            let seen : within (length bits) (if front then word else later) ≡ within (length bits) word = ap (within (length bits)) (if-true front word later here) in
-            elim (either_way (nat_le (length w) (length bits))) [
-                inl whole ↦
-                    let there : begins w bits ≡ true = sym (begins-cut w bits more n fits (leb-true (length w) (length bits) whole)) ∙ here in
-                    if-true (begins w bits) word (cell_of ws (i + 1) bits) there ∙ sym (seen ∙ if-true few word no_cell whole)
-                | inr longer ↦
-                    let long : length bits < length w = leb-false (length w) (length bits) longer in
-                    if-false (begins w bits) word (cell_of ws (i + 1) bits) (begins_longer w bits long)
-                    ∙ (none_left w ws (i + 1) bits more n (not_true _ (and_left _ _ free)) here long (and_right _ _ short) ∙ sym (seen ∙ if-false few word no_cell longer))
-            ]
-        | inr other ↦
-            if-false (begins w bits) word (cell_of ws (i + 1) bits) (no_front w bits more n fits other)
-            ∙ (cell-cut ws (i + 1) bits more n (and_right _ _ free) (and_right _ _ short) ∙ ap (within (length bits)) (sym (if-false front word later other)))
+      | inl here ↦
+          let seen : within (length bits) (if front then word else later) ≡ within (length bits) word = ap (within (length bits)) (if-true front word later here) in
+          elim (either_way (nat_le (length w) (length bits))) [
+            | inl whole ↦
+                let there : begins w bits ≡ true = sym (begins-cut w bits more n fits (leb-true (length w) (length bits) whole)) ∙ here in
+                if-true (begins w bits) word (cell_of ws (i + 1) bits) there ∙ sym (seen ∙ if-true few word no_cell whole)
+            | inr longer ↦
+                let long : length bits < length w = leb-false (length w) (length bits) longer in
+                if-false (begins w bits) word (cell_of ws (i + 1) bits) (begins_longer w bits long)
+                ∙ (none_left w ws (i + 1) bits more n (not_true _ (and_left _ _ free)) here long (and_right _ _ short) ∙ sym (seen ∙ if-false few word no_cell longer))
+          ]
+      | inr other ↦
+          if-false (begins w bits) word (cell_of ws (i + 1) bits) (no_front w bits more n fits other)
+          ∙ (cell-cut ws (i + 1) bits more n (and_right _ _ free) (and_right _ _ short) ∙ ap (within (length bits)) (sym (if-false front word later other)))
     ]
 
 -- ---- words as their bits and the number of these
@@ -164,29 +164,29 @@ begins_same (false ∷ v) (true ∷ w) more len h = absurd cc
 begins-field : (front q len : ℕ) (more : List Bool) → front < 2 ^ len → (q % 2 ^ len == front) ≡ begins (field front len) (field q len ++ more)
 begins-field front q len more fits =
     elim (either_way (q % 2 ^ len == front)) [
-        inl same ↦
-            let e : field q len ≡ field front len = sym (field-mod q 0 len) ∙ (ap (λ (k : ℕ). field (q % 2 ^ k) len) (zero-add len) ∙ ap (λ (n : ℕ). field n len) (eqb-true (q % 2 ^ len) front same)) in
-            same ∙ sym (ap (λ (t : List Bool). begins (field front len) (t ++ more)) e ∙ begins_self (field front len) more)
-        | inr other ↦
-            other ∙ sym (elim (either_way (begins (field front len) (field q len ++ more))) [
-                inl here ↦
-                    let e = begins_same (field front len) (field q len) more (length-field front len ∙ sym (length-field q len)) here in
-                    let n : q % 2 ^ len ≡ front = sym (number-field q len) ∙ (ap number (sym e) ∙ number-fits front len fits) in
-                    absurd (false≢true (sym other ∙ eq-eqb (q % 2 ^ len) front n))
-                | inr h ↦ h
-            ])
+      | inl same ↦
+          let e : field q len ≡ field front len = sym (field-mod q 0 len) ∙ (ap (λ (k : ℕ). field (q % 2 ^ k) len) (zero-add len) ∙ ap (λ (n : ℕ). field n len) (eqb-true (q % 2 ^ len) front same)) in
+          same ∙ sym (ap (λ (t : List Bool). begins (field front len) (t ++ more)) e ∙ begins_self (field front len) more)
+      | inr other ↦
+          other ∙ sym (elim (either_way (begins (field front len) (field q len ++ more))) [
+            | inl here ↦
+                let e = begins_same (field front len) (field q len) more (length-field front len ∙ sym (length-field q len)) here in
+                let n : q % 2 ^ len ≡ front = sym (number-field q len) ∙ (ap number (sym e) ∙ number-fits front len fits) in
+                absurd (false≢true (sym other ∙ eq-eqb (q % 2 ^ len) front n))
+            | inr h ↦ h
+          ])
     ]
 
 -- a shift by more than all bits
 shift-min : (bits s : ℕ) → bits < 2 ^ 16 → bits / 2 ^ min s 16 ≡ bits / 2 ^ s
 shift-min bits s fits =
     elim (either_way (nat_le s 16)) [
-        inl h ↦ ap (λ (k : ℕ). bits / 2 ^ k) (min-eq_left (leb-true s 16 h))
-        | inr h ↦
-            let far : 16 ≤ s = omega (arith, leb-false s 16 h) in
-            let most : 2 ^ 16 ≤ 2 ^ s = pow-le-pow_right (omega arith) far in
-            let none : bits / 2 ^ s ≡ 0 = div-eq_of_lt (omega arith) in
-            ap (λ (k : ℕ). bits / 2 ^ k) (min-eq_right far) ∙ (div-eq_of_lt fits ∙ sym none)
+      | inl h ↦ ap (λ (k : ℕ). bits / 2 ^ k) (min-eq_left (leb-true s 16 h))
+      | inr h ↦
+          let far : 16 ≤ s = omega (arith, leb-false s 16 h) in
+          let most : 2 ^ 16 ≤ 2 ^ s = pow-le-pow_right (omega arith) far in
+          let none : bits / 2 ^ s ≡ 0 = div-eq_of_lt (omega arith) in
+          ap (λ (k : ℕ). bits / 2 ^ k) (min-eq_right far) ∙ (div-eq_of_lt fits ∙ sym none)
     ]
 
 pub front-of-code : (bits width front len : ℕ) → len ≤ 16 → front < 2 ^ len → bits < 2 ^ 16 → len ≤ width → (bits / 2 ^ min (width - len) 16 % (1 * 2 ^ len % 2 ^ 32) == front) ≡ begins (field front len) (field bits width)
@@ -196,7 +196,7 @@ front-of-code bits width front len short fits word inside =
     let parts : field bits width ≡ field (bits / 2 ^ (width - len)) len ++ field bits (width - len) = ap (field bits) (sym sum) ∙ field-add bits len (width - len) in
     ap (λ (m : ℕ). bits / 2 ^ min (width - len) 16 % m == front) one
     ∙ (ap (λ (q : ℕ). q % 2 ^ len == front) (shift-min bits (width - len) word)
-        ∙ (begins-field front (bits / 2 ^ (width - len)) len (field bits (width - len)) fits ∙ ap (begins (field front len)) (sym parts)))
+    ∙ (begins-field front (bits / 2 ^ (width - len)) len (field bits (width - len)) fits ∙ ap (begins (field front len)) (sym parts)))
 
 pub no_front-of-code : (bits width front len : ℕ) → width < len → nat_le len width ≡ begins (field front len) (field bits width)
 no_front-of-code bits width front len longer =
@@ -242,8 +242,8 @@ pub placed-found : (ws : List (List Bool)) (bits : List Bool) (cell : Cell) → 
 placed-found ws bits cell some fits =
     ap (cell_or_cause ws bits) (if-true (nat_le cell.len (length bits)) cell no_cell (le-leb cell.len (length bits) fits))
     ∙ elim (either_way (cell.len == 0)) [
-        inl none ↦ absurd (some (eqb-true cell.len 0 none))
-        | inr h ↦ if-false (cell.len == 0) (Err (cause ws bits)) (Ok cell) h
+      | inl none ↦ absurd (some (eqb-true cell.len 0 none))
+      | inr h ↦ if-false (cell.len == 0) (Err (cause ws bits)) (Ok cell) h
     ]
 
 pub placed-none : (ws : List (List Bool)) (bits : List Bool) (cell : Cell) → cell.len ≡ 0 → cell_or_cause ws bits (within (length bits) cell) ≡ Err (cause ws bits)
@@ -254,8 +254,8 @@ placed-none ws bits cell none =
 pub placed-longer : (ws : List (List Bool)) (bits : List Bool) (cell : Cell) → length bits < cell.len → cell_or_cause ws bits (within (length bits) cell) ≡ Err (cause ws bits)
 placed-longer ws bits cell longer =
     elim (either_way (nat_le cell.len (length bits))) [
-        inl h ↦ absurd (omega (arith, leb-true cell.len (length bits) h))
-        | inr h ↦ ap (cell_or_cause ws bits) (if-false (nat_le cell.len (length bits)) cell no_cell h)
+      | inl h ↦ absurd (omega (arith, leb-true cell.len (length bits) h))
+      | inr h ↦ ap (cell_or_cause ws bits) (if-false (nat_le cell.len (length bits)) cell no_cell h)
     ]
 
 pub err_is : {why other : Why} {place : Result Cell Why} → why ≡ other → place ≡ Err other → ◌≡◌ {A = Result Cell Why} (Err why) place
@@ -288,13 +288,13 @@ find_some (row ∷ rows) i bits some =
     let later = cell_of (codes_of_rows rows) (i + 1) bits in
     let front = begins row.code bits in
     elim (either_way (begins row.code bits)) [
-        inl here ↦
-            let is : (if front then word else later) ≡ word = if-true front word later here in
-            (row, 0, if-true front (Some row) (find (λ row. begins row.code bits) rows) here, λ d. refl, omega arith, ap (λ (c : Cell). c.value) is ∙ omega arith, sym (ap (λ (c : Cell). c.len) is), here)
-        | inr other ↦
-            let is : (if front then word else later) ≡ later = if-false front word later other in
-            let rest = find_some rows (i + 1) bits (λ none. some (ap (λ (c : Cell). c.len) is ∙ none)) in
-            (rest.0, suc rest.1, if-false front (Some row) (find (λ row. begins row.code bits) rows) other ∙ rest.2, rest.3, omega (arith, rest.4), ap (λ (c : Cell). c.value) is ∙ (rest.5 ∙ omega arith), rest.6 ∙ sym (ap (λ (c : Cell). c.len) is), rest.7)
+      | inl here ↦
+          let is : (if front then word else later) ≡ word = if-true front word later here in
+          (row, 0, if-true front (Some row) (find (λ row. begins row.code bits) rows) here, λ d. refl, omega arith, ap (λ (c : Cell). c.value) is ∙ omega arith, sym (ap (λ (c : Cell). c.len) is), here)
+      | inr other ↦
+          let is : (if front then word else later) ≡ later = if-false front word later other in
+          let rest = find_some rows (i + 1) bits (λ none. some (ap (λ (c : Cell). c.len) is ∙ none)) in
+          (rest.0, suc rest.1, if-false front (Some row) (find (λ row. begins row.code bits) rows) other ∙ rest.2, rest.3, omega (arith, rest.4), ap (λ (c : Cell). c.value) is ∙ (rest.5 ∙ omega arith), rest.6 ∙ sym (ap (λ (c : Cell). c.len) is), rest.7)
     ]
 
 find_none : {E : Type 0} (rows : List (Row E)) (i : ℕ) (bits : List Bool) → list_all (λ w. nat_lt 0 (length w)) (codes_of_rows rows) ≡ true → (cell_of (codes_of_rows rows) i bits).len ≡ 0 → find (λ row. begins row.code bits) rows ≡ None
@@ -305,35 +305,35 @@ find_none (row ∷ rows) i bits some none =
     let front = begins row.code bits in
     let long : 0 < length row.code = ltb-true 0 (length row.code) (and_left _ _ some) in
     elim (either_way (begins row.code bits)) [
-        inl here ↦ absurd (omega (arith, ap (λ (c : Cell). c.len) (if-true front word later here), none, long))
-        | inr other ↦
-            if-false front (Some row) (find (λ row. begins row.code bits) rows) other
-            ∙ find_none rows (i + 1) bits (and_right _ _ some) (sym (ap (λ (c : Cell). c.len) (if-false front word later other)) ∙ none)
+      | inl here ↦ absurd (omega (arith, ap (λ (c : Cell). c.len) (if-true front word later here), none, long))
+      | inr other ↦
+          if-false front (Some row) (find (λ row. begins row.code bits) rows) other
+          ∙ find_none rows (i + 1) bits (and_right _ _ some) (sym (ap (λ (c : Cell). c.len) (if-false front word later other)) ∙ none)
     ]
 
 place_ok : (ws : List (List Bool)) (bits : List Bool) (cell : Cell) → place_of ws bits ≡ Ok cell → (cell_of ws 0 bits ≡ cell) × (cell.len ≢ 0)
 place_ok ws bits cell is =
     let found = cell_of ws 0 bits in
     elim (either_way ((cell_of ws 0 bits).len == 0)) [
-        inl none ↦
-            let e : place_of ws bits ≡ Err (cause ws bits) = if-true (found.len == 0) (Err (cause ws bits)) (Ok found) none in
-            absurd cc
-        | inr some ↦
-            let e : place_of ws bits ≡ Ok found = if-false (found.len == 0) (Err (cause ws bits)) (Ok found) some in
-            let same : found ≡ cell = cc in
-            (same, λ zero_long. false≢true (sym some ∙ eq-eqb found.len 0 (ap (λ (c : Cell). c.len) same ∙ zero_long)))
+      | inl none ↦
+          let e : place_of ws bits ≡ Err (cause ws bits) = if-true (found.len == 0) (Err (cause ws bits)) (Ok found) none in
+          absurd cc
+      | inr some ↦
+          let e : place_of ws bits ≡ Ok found = if-false (found.len == 0) (Err (cause ws bits)) (Ok found) some in
+          let same : found ≡ cell = cc in
+          (same, λ zero_long. false≢true (sym some ∙ eq-eqb found.len 0 (ap (λ (c : Cell). c.len) same ∙ zero_long)))
     ]
 
 place_err : (ws : List (List Bool)) (bits : List Bool) (why : Why) → place_of ws bits ≡ Err why → ((cell_of ws 0 bits).len ≡ 0) × (cause ws bits ≡ why)
 place_err ws bits why is =
     let found = cell_of ws 0 bits in
     elim (either_way ((cell_of ws 0 bits).len == 0)) [
-        inl none ↦
-            let e : place_of ws bits ≡ Err (cause ws bits) = if-true (found.len == 0) (Err (cause ws bits)) (Ok found) none in
-            (eqb-true found.len 0 none, cc)
-        | inr some ↦
-            let e : place_of ws bits ≡ Ok found = if-false (found.len == 0) (Err (cause ws bits)) (Ok found) some in
-            absurd cc
+      | inl none ↦
+          let e : place_of ws bits ≡ Err (cause ws bits) = if-true (found.len == 0) (Err (cause ws bits)) (Ok found) none in
+          (eqb-true found.len 0 none, cc)
+      | inr some ↦
+          let e : place_of ws bits ≡ Ok found = if-false (found.len == 0) (Err (cause ws bits)) (Ok found) some in
+          absurd cc
     ]
 
 pub read-found : {E : Type 0} (rows : List (Row E)) (ws : List (List Bool)) (bits : List Bool) (cell : Cell) → codes_of_rows rows ≡ ws → place_of ws bits ≡ Ok cell → IsFound rows bits cell
@@ -401,17 +401,17 @@ module _ {E X : Type 0} (rows : List (Row E)) (ws : List (List Bool)) (element :
       let row = found.row in
       let at : get_or rows place row ≡ row = found.at row in
       let tail : row.tail ≡ 0 =
-          ap (λ (row : Row E). row.tail) (sym at) ∙ (sym (get_or-map (λ (row : Row E). row.tail) rows place row 0 found.inside)
-              ∙ (ap (λ (ns : List ℕ). get_or ns place 0) tails ∙ get_or-map (λ (row : Row E). 0) rows place row 0 found.inside)) in
+      ap (λ (row : Row E). row.tail) (sym at) ∙ (sym (get_or-map (λ (row : Row E). row.tail) rows place row 0 found.inside)
+      ∙ (ap (λ (ns : List ℕ). get_or ns place 0) tails ∙ get_or-map (λ (row : Row E). 0) rows place row 0 found.inside)) in
       let inside : place < length meanings =
-          omega (arith, found.inside, length-map rows (λ row. row.make 0), ap length makes, length-map meanings element) in
+      omega (arith, found.inside, length-map rows (λ row. row.make 0), ap length makes, length-map meanings element) in
       let make : row.make 0 ≡ element (get_or meanings place d) =
-          ap (λ (row : Row E). row.make 0) (sym at) ∙ (sym (get_or-map (λ (row : Row E). row.make 0) rows place row (row.make 0) found.inside)
-              ∙ (ap (λ (es : List E). get_or es place (row.make 0)) makes ∙ get_or-map element meanings place d (row.make 0) inside)) in
+      ap (λ (row : Row E). row.make 0) (sym at) ∙ (sym (get_or-map (λ (row : Row E). row.make 0) rows place row (row.make 0) found.inside)
+      ∙ (ap (λ (es : List E). get_or es place (row.make 0)) makes ∙ get_or-map element meanings place d (row.make 0) inside)) in
       let size : length row.code + row.tail ≡ took.0 = omega (arith, found.long, tail) in
       let good : whole_word row old.0 ≡ Good (row.make (model.number (take row.tail (drop (length row.code) old.0)))) (length row.code + row.tail) = whole-good row old.0 (omega (arith, size, found.fits)) in
       let element_is : row.make (model.number (take row.tail (drop (length row.code) old.0))) ≡ element (get_or meanings place d) =
-          ap (λ (n : ℕ). row.make (model.number (take n (drop (length row.code) old.0)))) tail ∙ make in
+      ap (λ (n : ℕ). row.make (model.number (take n (drop (length row.code) old.0)))) tail ∙ make in
       (took.0, found.is ∙ (good ∙ (ap (λ (e : E). Good e (length row.code + row.tail)) element_is ∙ ap (Good (element (get_or meanings place d))) size)), took.2)
 
   -- no word stands there

@@ -1,5 +1,5 @@
 -- The lists of words, and which word of a list stands at the front of some bits.
-use Rattle.std.specs.Prelude.{◌≡◌, ℕ, ◌+◌, ◌-◌, ◌*◌, ◌/◌, ◌^◌, ◌==◌, Bool, List, [], ◌∷◌, ◌++◌, length, map, Result, Ok, Err, if◌then◌else◌, nat_lt, slice_index_or}
+use Rattle.std.specs.Prelude.{◌≡◌, ℕ, ◌+◌, ◌-◌, ◌*◌, ◌/◌, ◌^◌, ◌==◌, Bool, List, [], ◌∷◌, ◌++◌, length, map, Result, Ok, Err, if◌then◌else◌, nat_lt, slice_index}
 use Rattle.std.specs.Int.{leading_zeros, w32}
 use Rattle.pel_bits.specs.Bits.{field}
 use Rattle.pel_bits.specs.Reading.{skipped}
@@ -48,11 +48,9 @@ TakesPlace words (Err why) old new = (place_of words old.0 ≡ Err why) × (new 
 abbrev pub code_word : ℕ × ℕ → List Bool
 code_word code = field code.0 code.1
 
-abbrev pub as_cell : ℕ × ℕ → Cell
-as_cell pair = record { len = pair.0; value = pair.1 }
-
 -- the cell of the number of zeros before the first 1 of 32 bits, and the five bits behind it
-abbrev pub cell_in : List (ℕ × ℕ) → ℕ → Cell
-cell_in cells top =
+abbrev pub cell_in : (lens places : List ℕ) → ℕ → Cell
+cell_in lens places top =
+    let index = 32 * leading_zeros w32 top + top / 2 ^ (26 - leading_zeros w32 top) - 32 in
     if nat_lt 9 (leading_zeros w32 top) then no_cell
-    else as_cell (slice_index_or cells (32 * leading_zeros w32 top + top / 2 ^ (26 - leading_zeros w32 top) - 32) (0, 0))
+    else record { len = slice_index lens index; value = slice_index places index }

@@ -9,6 +9,7 @@ ghost use Rattle.pel_model.specs.Codes.{begins};
 ghost use Rattle.pel_model.specs.Walk.{cause};
 ghost use Rattle.vlc_codes.specs.Lookup.{words, cell_of, cell_in, code_word, place_of};
 
+use crate::cells::Cells;
 use crate::{cells, codes};
 use pel_bits::Reader;
 use pel_model::Why;
@@ -49,16 +50,19 @@ pub fn look_up(table: Table, top: u32) -> Cell
 
 // The cell of the number of leading zeros and the five bits behind the first 1. No word has more than 9 zeros first.
 #[inline]
-fn cell_at(cells: &[(u8, u16); 320], top: u32) -> Cell
-    ensures { result ≡ cell_in cells.now top }
+fn cell_at(cells: &Cells, top: u32) -> Cell
+    ensures { result ≡ cell_in cells.now.lens cells.now.places top }
 {
     let zeros = top.leading_zeros();
     if zeros > 9 {
         return Cell { len: 0, value: 0 };
     }
     let six = top >> (26 - zeros);
-    let (len, value) = cells[(32 * zeros + six - 32) as usize];
-    Cell { len, value }
+    let index = (32 * zeros + six - 32) as usize;
+    Cell {
+        len: cells.lens[index],
+        value: u16::from(cells.places[index]),
+    }
 }
 
 /// The word of the list that stands at the reader's place, or why none does. `top` is what it peeks at in 32 bits.

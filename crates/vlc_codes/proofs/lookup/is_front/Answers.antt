@@ -1,4 +1,3 @@
-use Rattle.std.proofs.Common.{◌≡◌, ℕ, ◌-◌, ◌*◌, ◌/◌, ◌%◌, ◌^◌, ◌==◌, ap, ◌∙◌, arith}
 use Rattle.vlc_codes.proofs.WordLaws.{front-of-code, no_front-of-code}
 use Rattle.vlc_codes.proofs.lookup.is_front.Goals as goal
 

@@ -19,8 +19,8 @@ returns-then-cell-eq0 c =
     let cell = c.look_up-cell.result in
     let place = placed ws bits cell (words_free c.args.table) (words_within_32 c.args.table) (peeked ws bits c.args.top cell c.requires c.look_up-cell.ensures) in
     elim c.then-cell-eq0.branch [
-        then-cell-eq0-via-then-cell-eq0 w ↦ err_is c.why_none.ensures (place ∙ placed-none ws bits cell w.if-cell-eq0.true)
-        | then-cell-eq0-via-else-cell-eq0+then-left-from w ↦ err_is c.why_none.ensures (place ∙ placed-longer ws bits cell (omega arith))
+      | then-cell-eq0-via-then-cell-eq0 w ↦ err_is c.why_none.ensures (place ∙ placed-none ws bits cell w.if-cell-eq0.true)
+      | then-cell-eq0-via-else-cell-eq0+then-left-from w ↦ err_is c.why_none.ensures (place ∙ placed-longer ws bits cell (omega arith))
     ]
 
 pub returns : goal.returns

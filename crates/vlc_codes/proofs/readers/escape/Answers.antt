@@ -1,4 +1,4 @@
-use Rattle.std.proofs.Common.{◌+◌, ◌∙◌, w8, arith, rules}
+use Rattle.std.proofs.Common.{◌∙◌, w8, arith, rules}
 use Rattle.std.proofs.lemmas.Int.{to_z-of_z}
 use Rattle.vlc_codes.proofs.CoefficientLaws.{escape-good}
 use Rattle.vlc_codes.proofs.readers.escape.Goals as goal

@@ -1,12 +1,10 @@
-use Rattle.std.proofs.Common.{◌≡◌, ℕ, length, get_or, refl, sym, subst, ◌∙◌, ap, arith}
+use Rattle.std.proofs.Common.{◌≡◌, arith}
 use Rattle.std.proofs.lemmas.Result.{err_from_is_err_and}
-use Rattle.pel_model.specs.Walk.{TakesWord, read}
 use Rattle.pel_model.specs.Grammar.{mba_rows}
 use Rattle.vlc_codes.specs.Lookup.{words}
 use Rattle.vlc_codes.specs.Rows.{mba_element}
 use Rattle.vlc_codes.specs.declared.lookup.Table.TheVariants.{Mba}
-use Rattle.vlc_codes.specs.declared.readers.MbaRow.{MbaRow}
-use Rattle.vlc_codes.specs.declared.readers.MbaRow.TheVariants.{Step, Stuffing}
+use Rattle.vlc_codes.specs.declared.readers.MbaRow.TheVariants.{Stuffing}
 use Rattle.vlc_codes.proofs.Computed.{mba_codes, mba_tails, mba_makes, mba_meanings, mba_step, mba_stuffing, words_some, words_counted}
 use Rattle.vlc_codes.proofs.WordLaws.{took_word, took_none}
 use Rattle.vlc_codes.proofs.readers.mba.Goals as goal

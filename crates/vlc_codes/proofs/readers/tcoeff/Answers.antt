@@ -1,14 +1,12 @@
-use Rattle.std.proofs.Common.{◌≡◌, ◌≢◌, ◌≤◌, ℕ, ◌+◌, ◌<◌, Result, Ok, List, Bool, [], length, get_or, ap, refl, sym, ◌∙◌, subst, arith}
+use Rattle.std.proofs.Common.{◌≡◌, ◌≢◌, ◌≤◌, ℕ, ◌<◌, [], length, get_or, ap, refl, sym, ◌∙◌, subst, arith}
 use Rattle.std.proofs.lemmas.Result.{err_from_is_err_and}
 use Rattle.pel_model.specs.Codes.{end_of_block_word}
-use Rattle.pel_model.specs.Walk.{Step, Row, TakesWord, read, whole_word}
-use Rattle.pel_model.specs.Grammar.{Element, Eob, escape_row, word_row}
+use Rattle.pel_model.specs.Walk.{Step, Row, TakesWord, whole_word}
+use Rattle.pel_model.specs.Grammar.{Element, Eob, word_row}
 use Rattle.pel_bits.specs.Reading.{skipped}
-use Rattle.vlc_codes.specs.declared.lookup.Cell.{Cell}
-use Rattle.vlc_codes.specs.declared.lookup.Table.{Table}
-use Rattle.vlc_codes.specs.Lookup.{words, place_of}
+use Rattle.vlc_codes.specs.Lookup.{words}
 use Rattle.vlc_codes.specs.Rows.{coefficient_element}
-use Rattle.vlc_codes.proofs.Computed.{rows_at, table_at, pair_row, coefficient_codes, coefficient_short, row-pair, row-escape, row-end, words_some, level_bound}
+use Rattle.vlc_codes.proofs.Computed.{rows_at, table_at, coefficient_codes, coefficient_short, row-pair, row-escape, row-end, words_some, level_bound}
 use Rattle.vlc_codes.proofs.WordLaws.{read-found, read-none, place_within, place_length, whole-good}
 use Rattle.vlc_codes.proofs.readers.tcoeff.Goals as goal
 
