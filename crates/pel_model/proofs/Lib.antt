@@ -1,1 +1,3 @@
-pub mod WorkedTexts
+mod WorkedPictures
+mod WorkedTexts
+pub mod Walks

@@ -1,12 +1,12 @@
 -- Worked pictures: the strict texts of three records, bit by bit.
-use Rattle.std.specs.Prelude.{◌≡◌, ℕ, ◌+◌, Bool, true, false, List, [], ◌∷◌, ◌++◌, length, replicate, Option, Some, None, ℤ, pos, negsuc, codes, refl}
+use Rattle.std.specs.Prelude.{◌≡◌, ℕ, Bool, false, List, [], ◌∷◌, ◌++◌, length, replicate, Some, None, ℤ, pos, negsuc, codes, refl}
 use Rattle.pel_model.specs.declared.Format.TheVariants.{Qcif, Cif}
-use Rattle.pel_model.specs.declared.MbKind.TheVariants.{Intra, Inter, Mc}
+use Rattle.pel_model.specs.declared.MbKind.TheVariants.{Inter, Mc}
 use Rattle.pel_model.specs.declared.Quad.TheVariants.{Four}
 use Rattle.pel_model.specs.Bits.{field, number}
 use Rattle.pel_model.specs.Codes.{word, mba_table, mtype_table, mvd_table, cbp_table, tcoeff_table}
-use Rattle.pel_model.specs.Records.{Macroblock, Group, Picture}
-use Rattle.pel_model.specs.Regions.{empty_group, shown_in}
+use Rattle.pel_model.specs.Records.{Macroblock, Picture}
+use Rattle.pel_model.specs.Regions.{shown_in}
 use Rattle.pel_model.specs.Text.{text, picture_header, group_header, macroblocks_text, macroblock_text, block_text, coefficient_word}
 use Rattle.pel_model.specs.Plain.{PlainGroup, plain_picture}
 

@@ -1,6 +1,6 @@
 -- The code tables of H.261 (4.2.3 and 4.2.4): each is a list of words, as digits in the order in which they are
 -- sent, with what they mean. No word of a list is a front of another of it.
-use Rattle.std.specs.Prelude.{ℕ, ◌==◌, ◌&&◌, ◌||◌, not, ℤ, pos, negsuc, Bool, true, false, List, [], ◌∷◌, ◌++◌, codes}
+use Rattle.std.specs.Prelude.{ℕ, ◌==◌, ◌&&◌, ◌||◌, not, ℤ, pos, negsuc, Bool, true, false, List, [], ◌∷◌, codes}
 use Rattle.std.specs.List.{list_any}
 use Rattle.pel_model.specs.declared.MbKind.{MbKind}
 use Rattle.pel_model.specs.declared.MbKind.TheVariants.{Intra, IntraQuant, Inter, InterQuant, Mc, McCoded, McQuant, McFil, McFilCoded, McFilQuant}

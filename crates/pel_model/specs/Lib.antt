@@ -1,7 +1,9 @@
 pub mod Bits
 pub mod Codes
+pub mod Grammar
 pub mod Records
 pub mod Plain
 pub mod Regions
 pub mod Text
 pub mod Valid
+pub mod Walk

@@ -3,7 +3,7 @@
 use Rattle.std.specs.Prelude.{ℕ, ◌+◌, ◌*◌, List, [], ◌∷◌, ◌++◌, map}
 use Rattle.pel_model.specs.declared.Quad.{Quad}
 use Rattle.pel_model.specs.declared.Quad.TheVariants.{One, Two, Three, Four}
-use Rattle.pel_model.specs.Records.{Macroblock, Group, Picture}
+use Rattle.pel_model.specs.Records.{Group, Picture}
 
 -- a place's number
 abbrev pub number_of : Quad → ℕ

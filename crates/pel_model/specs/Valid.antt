@@ -1,5 +1,5 @@
 -- Valid pictures: the records that H.261 allows.
-use Rattle.std.specs.Prelude.{◌≡◌, ℕ, ◌+◌, ◌-◌, ◌*◌, ◌/◌, ◌%◌, ◌<◌, ◌≤◌, ◌≢◌, ◌==◌, ◌&&◌, Bool, true, ℤ, pos, negsuc, nat_abs, List, [], ◌∷◌, length, map, take, sum_by, All, Any, Option, IsSome, IsNone, IfSome, IsSomeAnd, IsTrue, MatchBool}
+use Rattle.std.specs.Prelude.{◌≡◌, ℕ, ◌+◌, ◌-◌, ◌*◌, ◌/◌, ◌%◌, ◌<◌, ◌≤◌, ◌≢◌, ◌==◌, ◌&&◌, Bool, ℤ, pos, negsuc, nat_abs, List, [], ◌∷◌, length, map, take, sum_by, All, Any, Option, IsSome, IsNone, IfSome, IsSomeAnd, IsTrue, MatchBool}
 use Rattle.std.specs.List.{list_any}
 use Rattle.pel_model.specs.declared.Format.{Format}
 use Rattle.pel_model.specs.declared.Format.TheVariants.{Qcif, Cif}

@@ -105,6 +105,7 @@ frame_is_first packet more fits =
       ap (λ n. take n (packet ++ more)) size ∙ take-append_seam packet more,
     )
 
+-- a whole frame within the budget is given
 pub next_packet : (left : List ℕ) (taken budget : ℕ) (packet more : List ℕ) → left ≡ frame packet ++ more → HasFrame packet
     → taken + length (frame packet) ≤ budget → next_frame left taken budget ≡ Ok packet
 unfolding next_frame
@@ -116,6 +117,7 @@ next_packet left taken budget packet more whole fits room =
     let here : has_frame (take (budget - taken) left) ≡ true = ap has_frame front ∙ (frame_is_first packet (take k more) fits).0 in
     rw here (ap Ok (ap first_packet whole ∙ (frame_is_first packet more fits).1))
 
+-- the budget ends before a whole frame and before the stream
 pub next_limit : (left : List ℕ) (taken budget : ℕ) → IsPartial (take (budget - taken) left) → budget ≤ taken + length left → next_frame left taken budget ≡ Err Limit
 unfolding next_frame
 next_limit left taken budget part full =
@@ -123,6 +125,7 @@ next_limit left taken budget part full =
     let all : nat_le budget (taken + length left) ≡ true = le-leb _ _ full in
     rw (none, all) refl
 
+-- the stream ends before a whole frame and before the budget
 pub next_end : (left : List ℕ) (taken budget : ℕ) → IsPartial left → taken + length left < budget → next_frame left taken budget ≡ Err (end_before left (taken + length left))
 unfolding next_frame
 next_end left taken budget part room =
@@ -131,6 +134,7 @@ next_end left taken budget part room =
     let some : nat_le budget (taken + length left) ≡ false = grind (arith, nat_tests) in
     rw (none, some) refl
 
+-- something of a frame is there
 end_inside : (octets : List ℕ) (place : ℕ) → 0 < length octets → end_before octets place ≡ Cut place
 end_inside [] place some = absurd (omega arith)
 end_inside (_ ∷ _) place some = refl

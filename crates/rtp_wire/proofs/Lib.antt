@@ -1,3 +1,4 @@
 mod FrameLemmas
 mod PacketLemmas
 mod ReadingLemmas
+mod SpellingLemmas

@@ -1,11 +1,11 @@
 -- The octets of a packet are read as its fields.
-use Rattle.std.proofs.Common.{◌≡◌, ℕ, ◌+◌, ◌-◌, ◌*◌, ◌/◌, ◌%◌, ◌^◌, ◌<◌, ◌≤◌, ◌==◌, nat_lt, IfSome, Bool, true, false, not, ◌&&◌, ◌||◌, List, [], ◌∷◌, ◌++◌, Option, None, Some, Ok, length, take, drop, slice_index, refl, sym, ap, ap₂, subst, ◌∙◌, arith, length-append, drop_at, drop-drop, append-nil}
+use Rattle.std.proofs.Common.{◌≡◌, ℕ, ◌+◌, ◌-◌, ◌*◌, ◌/◌, ◌%◌, ◌^◌, ◌<◌, ◌≤◌, ◌==◌, nat_lt, IfSome, Bool, true, false, List, [], ◌∷◌, ◌++◌, Option, None, Some, Ok, length, take, drop, slice_index, refl, sym, ap, subst, ◌∙◌, arith, length-append, drop_at, drop-drop, append-nil}
 use Rattle.std.proofs.lemmas.Bool.{eq-eqb}
 use Rattle.std.proofs.lemmas.Bool.Decides.{nat_tests}
 use Rattle.std.proofs.lemmas.List.{get_or-append_right}
 use Rattle.std.proofs.Math.Seq.{take-append_seam}
 use Rattle.byteorder.specs.Endian.{big_bytes, big_number}
-use Rattle.rtp_wire.specs.Rtp.{Fields, AreFields, Extension, Parts, AreWords, IsPadding, IsPacket, flag, is_there, is_not_empty, first_octet, second_octet, extension_octets, octets_of, version, has_padding, has_extension, sources_end, extension_end, headers_end, extension_is_cut, body, last_octet, is_bad_padding, unpadded, refusal, fields_of, packet_of}
+use Rattle.rtp_wire.specs.Rtp.{Fields, Extension, Parts, AreWords, IsPadding, IsPacket, flag, is_there, is_not_empty, first_octet, second_octet, extension_octets, octets_of, has_padding, sources_end, extension_end, extension_is_cut, body, last_octet, is_bad_padding, unpadded, fields_of, packet_of}
 use Rattle.rtp_wire.proofs.ReadingLemmas.{read_whole}
 
 -- the bits of a first octet
@@ -29,11 +29,10 @@ headers_pass : (o n : ℕ) (f : Fields) (sources : List ℕ) (e : Option Extensi
     → PassesHeaders (cells o f ++ (sources ++ (extension_octets e ++ behind))) behind
 headers_pass o n f sources None behind count has long fits =
     let octets = cells o f ++ (sources ++ behind) in
-    let far : length (cells o f ++ sources) ≡ 12 + 4 * (o % 16) = omega (arith, length-append (cells o f) sources) in
-    (
-        omega (arith, length-append sources behind),
-        rw has refl,
-        rw has (drop_at (cells o f ++ sources) behind (12 + 4 * (o % 16)) far),
+    let far : length (cells o f ++ sources) ≡ 12 + 4 * (o % 16) = omega (arith, length-append (cells o f) sources) in (
+      omega (arith, length-append sources behind),
+      rw has refl,
+      rw has (drop_at (cells o f ++ sources) behind (12 + 4 * (o % 16)) far),
     )
 headers_pass o n f sources (Some e) behind count has long fits =
     let rest = extension_octets (Some e) ++ behind in
@@ -48,7 +47,7 @@ headers_pass o n f sources (Some e) behind count has long fits =
     let size : big_number 2 (drop 2 rest) ≡ m = omega arith in
     let ends : extension_end octets ≡ start + (4 + 4 * m) = omega (arith, ap (big_number 2) length_at) in
     let behind_it : drop (start + (4 + 4 * m)) octets ≡ behind =
-        sym (drop-drop (4 + 4 * m) start octets) ∙ ap (drop (4 + 4 * m)) begins ∙ drop_at (extension_octets (Some e)) behind (4 + 4 * m) (omega arith) in
+    sym (drop-drop (4 + 4 * m) start octets) ∙ ap (drop (4 + 4 * m)) begins ∙ drop_at (extension_octets (Some e)) behind (4 + 4 * m) (omega arith) in
     let head : nat_lt (length octets) (start + 4) ≡ false = grind (arith, nat_tests) in
     let tail : nat_lt (length octets) (extension_end octets) ≡ false = grind (arith, nat_tests) in
     (omega arith, rw (has, head, tail) refl, rw has (ap (λ k. drop k octets) ends ∙ behind_it))
@@ -61,9 +60,9 @@ padding_passes payload (x ∷ xs) h =
     let padding = x ∷ xs in
     let behind = payload ++ padding in
     let last : last_octet behind ≡ length padding =
-        ap (slice_index behind) (omega (arith, length-append payload padding))
-        ∙ get_or-append_right payload padding (length payload) (length payload + length xs) 0 refl (omega arith)
-        ∙ ap (slice_index padding) (omega arith) ∙ h in
+    ap (slice_index behind) (omega (arith, length-append payload padding))
+    ∙ get_or-append_right payload padding (length payload) (length payload + length xs) 0 refl (omega arith)
+    ∙ ap (slice_index padding) (omega arith) ∙ h in
     let some : (last_octet behind == 0) ≡ false = grind (arith, nat_tests) in
     let fits : nat_lt (length behind) (last_octet behind) ≡ false = grind (arith, nat_tests, length-append payload padding) in
     let front : length behind - last_octet behind ≡ length payload = omega (arith, length-append payload padding) in
@@ -89,8 +88,8 @@ reads_octets_of p h =
     let behind = f.payload ++ p.padding in
     let count : length p.sources / 4 ≡ n = omega (arith, h.sources.2) in
     let bits = subst (λ k. let b = 2 * 64 + flag (is_not_empty p.padding) 32 + flag (is_there p.extension) 16 + k in
-        (b / 64 ≡ 2) × ((b / 32 % 2 == 1) ≡ is_not_empty p.padding) × ((b / 16 % 2 == 1) ≡ is_there p.extension) × (b % 16 ≡ n)) (sym count)
-        (first_bits (is_not_empty p.padding) (is_there p.extension) n h.sources.1) in
+    (b / 64 ≡ 2) × ((b / 32 % 2 == 1) ≡ is_not_empty p.padding) × ((b / 16 % 2 == 1) ≡ is_there p.extension) × (b % 16 ≡ n)) (sym count)
+    (first_bits (is_not_empty p.padding) (is_there p.extension) n h.sources.1) in
     let headers : PassesHeaders (octets_of p) behind = headers_pass o n f p.sources p.extension behind bits.3 bits.2 h.sources.2 h.extension in
     let inside = padding_passes f.payload p.padding h.padding in
     let octets = octets_of p in

@@ -1,6 +1,6 @@
 -- RTP packets: the fixed header and the CSRC list (RFC 3550, 5.1), the header extension (5.3.1), the payload and the
 -- padding (5.1). Numbers stand in network order, and bits with the most significant one first.
-use Rattle.std.specs.Prelude.{◌≡◌, ℕ, ◌+◌, ◌-◌, ◌*◌, ◌/◌, ◌%◌, ◌^◌, ◌<◌, ◌==◌, nat_lt, Bool, true, false, not, ◌&&◌, ◌||◌, if◌then◌else◌, List, [], ◌∷◌, ◌++◌, length, take, drop, slice_index, Option, None, Some, IfSome, Result, Ok, Err}
+use Rattle.std.specs.Prelude.{◌≡◌, ◌↔◌, ℕ, ◌+◌, ◌-◌, ◌*◌, ◌/◌, ◌%◌, ◌^◌, ◌<◌, ◌==◌, nat_lt, Bool, true, false, not, ◌&&◌, ◌||◌, if◌then◌else◌, List, [], ◌∷◌, ◌++◌, length, take, drop, slice_index, Option, None, Some, IfSome, Result, Ok, Err}
 use Rattle.byteorder.specs.Endian.{big_bytes, big_number}
 use Rattle.rtp_wire.specs.declared.header.Packet.{Packet}
 use Rattle.rtp_wire.specs.declared.header.PacketFault.{PacketFault}
@@ -158,3 +158,19 @@ packet_of octets = read_unless (refusal octets) (fields_of octets)
 -- what contracts see of a packet that was read
 abbrev pub seen : Packet → Fields
 seen p = record { marker = p.marker; kind = p.kind; seq = p.seq; stamp = p.stamp; ssrc = p.ssrc; payload = p.payload.now }
+
+abbrev pub AreOctets : List ℕ → Type 0
+AreOctets octets = (i : ℕ) → slice_index octets i < 256
+
+-- octets are those of a packet with these fields
+abbrev pub IsPacketOf : List ℕ → Fields → Type 0
+IsPacketOf octets fields = (p : Parts) × IsPacket p × (p.fields ≡ fields) × (octets ≡ octets_of p)
+
+-- octets are read as these fields exactly where they are those of a packet with them
+abbrev pub LawOfPackets : Type 0
+LawOfPackets = (octets : List ℕ) (fields : Fields) → AreOctets octets → (packet_of octets ≡ Ok fields) ↔ IsPacketOf octets fields
+
+-- a plain header with a payload behind it is read as its fields and that payload
+abbrev pub LawOfPlainPackets : Type 0
+LawOfPlainPackets =
+    (fields : Fields) → AreFields fields → packet_of (octets_of (plain (record fields { payload = [] })) ++ fields.payload) ≡ Ok fields

@@ -7,7 +7,9 @@ mod laws;
 
 pub use frames::{FrameEnd, Framer};
 pub use header::{Packet, PacketFault, read_packet, write_header};
-pub use laws::{answers_of_a_framer, frames_of_a_stream};
+pub use laws::{
+    answers_of_a_framer, frames_of_a_stream, octets_of_packets, written_headers_are_read,
+};
 
 #[cfg(test)]
 mod tests;

@@ -1,3 +1,4 @@
+-- The octets that are left fix what a call answers.
 use Rattle.rtp_wire.proofs.FrameLemmas.{answers_fixed}
 use Rattle.rtp_wire.proofs.laws.answers_of_a_framer.Goals as goal
 

@@ -1,0 +1,5 @@
+pub mod Turns
+pub mod Places
+pub mod Seats
+pub mod Rule
+pub mod Steps

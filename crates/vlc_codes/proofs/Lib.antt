@@ -1,0 +1,4 @@
+pub mod CellLaws
+pub mod CoefficientLaws
+pub mod Computed
+pub mod WordLaws

@@ -1,0 +1,29 @@
+use Rattle.std.proofs.Common.{arith}
+use Rattle.std.proofs.lemmas.Result.{err_from_is_err_and}
+use Rattle.pel_model.specs.Codes.{mvd_table}
+use Rattle.pel_model.specs.Grammar as grammar
+use Rattle.pel_model.specs.Grammar.{table_rows}
+use Rattle.vlc_codes.specs.Lookup.{words}
+use Rattle.vlc_codes.specs.declared.codes.TheConstants.{DIFFERENCES}
+use Rattle.vlc_codes.specs.declared.lookup.Table.TheVariants.{Mvd}
+use Rattle.vlc_codes.proofs.Computed.{mvd_codes, mvd_tails, mvd_makes, words_some, words_counted, differences_bounds}
+use Rattle.vlc_codes.proofs.WordLaws.{took_word, took_none}
+use Rattle.vlc_codes.proofs.readers.mvd.Goals as goal
+
+pub returns-in_err-place-clause-word : goal.returns-in_err-place-clause-word
+returns-in_err-place-clause-word c =
+    let p = err_from_is_err_and c.from_residual.result c.from_residual.ensures.1 in
+    rw (p.1, p.2) (λ axis. took_none (table_rows mvd_table (grammar.Mvd axis)) (words Mvd) (grammar.Mvd axis) DIFFERENCES (mvd_codes axis) (words_some Mvd) _ c.args.r.now c.take_word.new.r c.in_err-place.ensures.place)
+
+pub bounds-from : goal.bounds-from
+bounds-from c = omega (arith, c.from.ensures, c.in_ok-place.ensures.inside, words_counted Mvd)
+
+pub returns-clause-word : goal.returns-clause-word
+returns-clause-word c =
+    rw c.from.ensures (λ axis. took_word (table_rows mvd_table (grammar.Mvd axis)) (words Mvd) (grammar.Mvd axis) DIFFERENCES (mvd_codes axis) (mvd_tails axis) (mvd_makes axis) c.in_ok-place.place _ c.args.r.now c.take_word.new.r c.in_ok-place.ensures.place)
+
+pub offset_bounds-from : goal.offset_bounds-from
+offset_bounds-from c = omega (arith, c.from.ensures, c.in_ok-place.ensures.inside, words_counted Mvd)
+
+pub returns-clause-range : goal.returns-clause-range
+returns-clause-range c = differences_bounds c.from.result _ (omega (arith, c.from.ensures, c.in_ok-place.ensures.inside, words_counted Mvd))

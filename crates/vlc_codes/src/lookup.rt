@@ -1,0 +1,133 @@
+//! The word of a list that stands at the front of the next 32 bits, by one look at a table.
+#![tactic(auto)]
+
+ghost use Rattle.std.specs.Prelude.{◌≡◌, ◌^◌, ◌<◌, ◌≤◌, ◌++◌, map, take};
+ghost use Rattle.std.specs.List.{list_any};
+ghost use Rattle.pel_bits.specs.Bits.{field, number};
+ghost use Rattle.pel_bits.specs.Reading.{zeros};
+ghost use Rattle.pel_model.specs.Codes.{begins};
+ghost use Rattle.pel_model.specs.Walk.{cause};
+ghost use Rattle.vlc_codes.specs.Lookup.{words, cell_of, cell_in, code_word, place_of};
+
+use crate::cells::Cells;
+use crate::{cells, codes};
+use pel_bits::Reader;
+use pel_model::Why;
+
+/// A list of words: of MBA with stuffing, MTYPE, MVD, CBP, and of the codes of TCOEFF, without sign and without what
+/// follows an escape, where a block without INTRADC begins and at every other place.
+#[derive(Clone, Copy)]
+pub enum Table {
+    Mba,
+    Mtype,
+    Mvd,
+    Cbp,
+    CoefFirst,
+    Coef,
+}
+
+/// A word: its length, and its place in its list, from 0. Length 0 is none.
+#[derive(Clone, Copy)]
+pub struct Cell {
+    pub len: u8,
+    pub value: u16,
+}
+
+/// The word of the list with which the 32 bits of `top` begin.
+#[inline]
+pub fn look_up(table: Table, top: u32) -> Cell
+    ensures { result ≡ cell_of (words table) 0 (field top 32) }
+{
+    match table {
+        Table::Mba => cell_at(&cells::MBA, top),
+        Table::Mtype => cell_at(&cells::MTYPE, top),
+        Table::Mvd => cell_at(&cells::MVD, top),
+        Table::Cbp => cell_at(&cells::CBP, top),
+        Table::CoefFirst => cell_at(&cells::FIRST_COEFFICIENT, top),
+        Table::Coef => cell_at(&cells::COEFFICIENT, top),
+    }
+}
+
+// The cell of the number of leading zeros and the five bits behind the first 1. No word has more than 9 zeros first.
+#[inline]
+fn cell_at(cells: &Cells, top: u32) -> Cell
+    ensures { result ≡ cell_in cells.now.lens cells.now.places top }
+{
+    let zeros = top.leading_zeros();
+    if zeros > 9 {
+        return Cell { len: 0, value: 0 };
+    }
+    let six = top >> (26 - zeros);
+    let index = (32 * zeros + six - 32) as usize;
+    Cell {
+        len: cells.lens[index],
+        value: u16::from(cells.places[index]),
+    }
+}
+
+/// The word of the list that stands at the reader's place, or why none does. `top` is what it peeks at in 32 bits.
+#[inline]
+pub fn word_at(table: Table, r: &Reader<'_>, top: u32) -> Result<Cell, Why>
+    requires { top ≡ number (take 32 (r.now.0 ++ zeros 32)) }
+    ensures { result ≡ place_of (words table) r.now.0 }
+{
+    let cell = look_up(table, top);
+    if cell.len == 0 || r.left() < u32::from(cell.len) {
+        return Err(why_none(table, r));
+    }
+    Ok(cell)
+}
+
+// Why no word of the list stands at the reader's place.
+#[cold]
+#[inline(never)]
+fn why_none(table: Table, r: &Reader<'_>) -> Why
+    ensures { result ≡ cause (words table) r.now.0 }
+{
+    let left = r.left();
+    if left <= 16 && begins_a_word(table, r.peek(left), left) {
+        Why::Cut
+    } else {
+        Why::NoCode
+    }
+}
+
+// Whether the last `len` bits of `front` are the front of a word of the list.
+fn begins_a_word(table: Table, front: u32, len: u32) -> bool
+    requires short { len ≤ 16 }
+    requires fits { front < 2 ^ len }
+    ensures { result ≡ list_any (λ w. begins (field front len) w) (words table) }
+{
+    match table {
+        Table::Mba => begins_a_code(&codes::MBA, front, len),
+        Table::Mtype => begins_a_code(&codes::MTYPE, front, len),
+        Table::Mvd => begins_a_code(&codes::MVD, front, len),
+        Table::Cbp => begins_a_code(&codes::CBP, front, len),
+        Table::CoefFirst => begins_a_code(&codes::FIRST_COEFFICIENT, front, len),
+        Table::Coef => begins_a_code(&codes::COEFFICIENT, front, len),
+    }
+}
+
+// The same for the words as they stand in the code, as their bits and the number of these.
+fn begins_a_code(codes: &[(u16, u8)], front: u32, len: u32) -> bool
+    requires short { len ≤ 16 }
+    requires fits { front < 2 ^ len }
+    ensures { result ≡ list_any (λ w. begins (field front len) w) (map code_word codes.now) }
+{
+    for (bits, width) in codes {
+        if is_front(u32::from(*bits), u32::from(*width), front, len) {
+            return true;
+        }
+    }
+    false
+}
+
+// The same for one word.
+fn is_front(bits: u32, width: u32, front: u32, len: u32) -> bool
+    requires short { len ≤ 16 }
+    requires fits { front < 2 ^ len }
+    requires word { bits < 2 ^ 16 }
+    ensures { result ≡ begins (field front len) (field bits width) }
+{
+    len <= width && (bits >> (width - len).min(16)) % (1 << len) == front
+}
