@@ -99,6 +99,12 @@ all-shown Two tr p = refl
 all-shown Three tr p = refl
 all-shown Four tr p = refl
 
+-- the text of the picture that is shown
+pub text-fits : (place : Quad) (tr : ℕ) (p : PlainPicture) → IsPlainPicture p → length (text Cif (shown_in place tr (plain_picture p))) ≤ 30000
+text-fits place tr p plain =
+    subst (λ (q : Picture). length (text Cif q) ≤ 30000) (all-shown place tr p)
+    (omega (arith, length-text Cif (shown_so_far place tr (plain_picture p) 12), groups-fit place p 12 plain))
+
 -- ---- the next group
 
 -- what is asked of a CIF picture that is to get its next group

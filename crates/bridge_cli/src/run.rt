@@ -39,10 +39,10 @@ pub fn run<S: Source, K: Sink, N: Sink>(
     if !asks_replay(words) {
         return Status::Usage;
     }
-    match reserve(alloc) {
-        Ok(mut pictures) => replay(&mut pictures, input, output),
-        Err(NoMemory) => Status::NoMemory,
-    }
+    let Ok(mut pictures) = reserve(alloc) else {
+        return Status::NoMemory;
+    };
+    replay(&mut pictures, input, output)
 }
 
 // Whether the words are the one word `replay`.
@@ -85,7 +85,8 @@ fn replay<S: Source, K: Sink>(pictures: &mut Pictures, input: &mut S, output: &m
     match fill(input, &mut file, FORM_OCTETS as u64).stop {
         FillStop::Full => {}
         FillStop::Failing => return Status::ReadFault,
-        FillStop::Limited | FillStop::AtEnd => return Status::Unsupported,
+        FillStop::AtEnd => return Status::Unsupported,
+        FillStop::Limited => unreachable!(),
     }
     let Some(step) = mix(&file, pictures) else {
         return Status::Unsupported;
