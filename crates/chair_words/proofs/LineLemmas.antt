@@ -1,7 +1,6 @@
 -- The rule for lines: a line has one answer.
-use Rattle.std.proofs.Common.{◌≡◌, ◌≢◌, ◌⊎◌, inl, inr, ℕ, Bool, true, false, cond, IsTrue, Option, Some, None, Result, Ok, Err, List, [], ◌∷◌, ◌++◌, map, length, codes, nat_eq, refl, sym, ap, ap₂, ◌∙◌, subst}
+use Rattle.std.proofs.Common.{◌≡◌, ◌≢◌, inl, inr, ℕ, true, false, cond, Option, Some, None, Result, Ok, Err, List, [], ◌∷◌, ◌++◌, map, length, codes, nat_eq, refl, sym, ap, ap₂, ◌∙◌, subst}
 use Rattle.std.specs.Str.{bytes_eq}
-use Rattle.std.specs.List.{AllZip}
 use Rattle.std.specs.Result.{IsErrAnd, MatchResult}
 use Rattle.std.proofs.lemmas.Bool.{false≢true}
 use Rattle.std.proofs.lemmas.Slice.Eq.{bytes_eq-Decides}
@@ -14,7 +13,7 @@ use Rattle.chair_words.specs.declared.reader.LineFault.{LineFault}
 use Rattle.chair_words.specs.declared.reader.LineWhy.{LineWhy}
 use Rattle.chair_words.specs.declared.reader.LineWhy.TheVariants.{Unknown, Missing, BadNumber, Extra}
 use Rattle.chair_words.specs.Words.{Word, words}
-use Rattle.chair_words.specs.Line.{Range, a_place, a_lane, name_of, numbers_of, asked_by, number_in, is_good, AreGood, Says, Begins, Fails, FailsAt, OneAnswer}
+use Rattle.chair_words.specs.Line.{Range, a_place, a_lane, name_of, numbers_of, asked_by, number_in, is_good, AreGood, Says, Begins, Fails, FailsAt}
 use Rattle.chair_words.specs.Reading.{Answers, TakesNumber, LacksNumber, TakesNumbers}
 
 -- what a name asks, if it is a command's
@@ -38,15 +37,20 @@ asked_in-name_of (Unpin q) = refl
 no_match : (name text : List ℕ) → name ≢ text → bytes_eq name text ≡ false
 no_match name text differ =
     elim (bytes_eq name text) as (λ b. (b ≡ true → name ≡ text) → b ≡ false) [
-      true ↦ λ h. absurd (differ (h refl))
-    | false ↦ λ h. refl
+      | true ↦ λ h. absurd (differ (h refl))
+      | false ↦ λ h. refl
     ] (bytes_eq-Decides name text).0
 
 pub asked_in-unknown : (name : List ℕ) → ((c : Command) → name ≢ name_of c) → asked_in name ≡ None
 asked_in-unknown name none =
-    rw (no_match name (codes "place") (none (Place One 0)), no_match name (codes "clear") (none (Clear One)),
-        no_match name (codes "swap") (none (Swap One One)), no_match name (codes "speaker") (none (Speaker 0)),
-        no_match name (codes "pin") (none (Pin One)), no_match name (codes "unpin") (none (Unpin One))) refl
+    rw (
+      no_match name (codes "place") (none (Place One 0)),
+      no_match name (codes "clear") (none (Clear One)),
+      no_match name (codes "swap") (none (Swap One One)),
+      no_match name (codes "speaker") (none (Speaker 0)),
+      no_match name (codes "pin") (none (Pin One)),
+      no_match name (codes "unpin") (none (Unpin One)),
+    ) refl
 
 -- the first fault of the numbers, where these ranges are asked
 abbrev pub fault_of : List Range → List Word → ℕ → Option (ℕ × LineWhy)
@@ -73,7 +77,7 @@ fault_of-good (r ∷ rs) wanted (w ∷ ws) rest len good = rw (good.0) (fault_of
 fault_in-begins : (ws : List Word) (wanted : List Range) (rest : List Word) (len : ℕ) → Begins ws wanted rest → fault_in ws len ≡ fault_of wanted rest len
 fault_in-begins ws wanted rest len b =
     let asked : asked_in b.name.text ≡ Some (b.had ++ wanted) =
-        ap asked_in b.named ∙ asked_in-name_of b.command ∙ ap Some b.asked in
+    ap asked_in b.named ∙ asked_in-name_of b.command ∙ ap Some b.asked in
     ap (λ v. fault_in v len) b.whole
     ∙ ap (λ o. fault_behind b.name o (b.numbers ++ rest) len) asked
     ∙ fault_of-good b.had wanted b.numbers rest len b.good
@@ -105,7 +109,7 @@ fault_in-says line c len s =
       named = s.named;
       had = asked_by c;
       asked = sym (append-nil (asked_by c));
-      good = s.good
+      good = s.good;
     })
 
 -- the place of a number
@@ -176,10 +180,10 @@ one_command line c d s t =
     let tails : s.numbers ≡ t.numbers = cc in
     let names : name_of c ≡ name_of d = sym s.named ∙ ap (λ (w : Word). w.text) heads ∙ t.named in
     let numbers : numbers_of c ≡ numbers_of d =
-        somes_same _ _ (sym s.values ∙ ap (map (λ (w : Word). number_in w.text)) tails ∙ t.values) in
+    somes_same _ _ (sym s.values ∙ ap (map (λ (w : Word). number_in w.text)) tails ∙ t.values) in
     let somes : Some c ≡ Some d =
-        sym (said_by-command c) ∙ ap (λ n. said_by n (numbers_of c)) names
-        ∙ ap (said_by (name_of d)) numbers ∙ said_by-command d in
+    sym (said_by-command c) ∙ ap (λ n. said_by n (numbers_of c)) names
+    ∙ ap (said_by (name_of d)) numbers ∙ said_by-command d in
     cc
 
 pub one_fault : (line : List ℕ) (p q : ℕ) (v w : LineWhy) → FailsAt line p v → FailsAt line q w → (p ≡ q) × (v ≡ w)
@@ -191,7 +195,7 @@ one_fault line p q v w f g =
 pub not_both : (line : List ℕ) (c : Command) (p : ℕ) (w : LineWhy) → Says line c → FailsAt line p w → ⊥
 not_both line c p w s f =
     let same : ◌≡◌ {A = Option (ℕ × LineWhy)} None (Some (p, w)) =
-        sym (fault_in-says line c (length line) s) ∙ fault_in-fails (words line) (length line) p w f in
+    sym (fault_in-says line c (length line) s) ∙ fault_in-fails (words line) (length line) p w f in
     let apart : false ≡ true = cc in
     false≢true apart
 
@@ -201,16 +205,40 @@ pub Fails-number : (name : Word) (numbers rest : List Word) (c : Command) (had :
     Fails (name ∷ (numbers ++ rest)) len place why
 Fails-number name numbers [] c had range wanted len place why named asked good (here, missing) =
     subst (Fails (name ∷ (numbers ++ [])) len place) (sym missing) (
-      inr (range, wanted, record {
-        name = name; numbers = numbers; whole = refl; command = c; named = named; had = had; asked = asked; good = good
-      }),
-      here
+      inr (
+        range,
+        wanted,
+        record {
+          name = name;
+          numbers = numbers;
+          whole = refl;
+          command = c;
+          named = named;
+          had = had;
+          asked = asked;
+          good = good;
+        },
+      ),
+      here,
     )
 Fails-number name numbers (w ∷ rest) c had range wanted len place why named asked good (bad, here, because) =
     subst (Fails (name ∷ (numbers ++ (w ∷ rest))) len place) (sym because) (
-      range, wanted, w, rest, record {
-        name = name; numbers = numbers; whole = refl; command = c; named = named; had = had; asked = asked; good = good
-      }, bad, here
+      range,
+      wanted,
+      w,
+      rest,
+      record {
+        name = name;
+        numbers = numbers;
+        whole = refl;
+        command = c;
+        named = named;
+        had = had;
+        asked = asked;
+        good = good;
+      },
+      bad,
+      here,
     )
 
 -- an answer that the line has is the line's answer
@@ -232,7 +260,7 @@ pub first_wanting : (r : Result Command LineFault) (e : LineFault) (name : Word)
 first_wanting (Ok d) e name old new len c range wanted failed named asked lacks = absurd failed
 first_wanting (Err f) e name old new len c range wanted failed named asked lacks =
     subst (λ (g : LineFault). Fails (name ∷ old) len g.place g.why) (sym failed)
-      (Fails-number name [] old c [] range wanted len e.place e.why named asked tt lacks)
+    (Fails-number name [] old c [] range wanted len e.place e.why named asked tt lacks)
 
 pub second_wanting : (r : Result Command LineFault) (e : LineFault) (name : Word) (old mid new : List Word) (len len' : ℕ) (c : Command) (first range : Range) (wanted : List Range) (n : ℕ) →
     IsErrAnd r (λ y. y ≡ e) → name.text ≡ name_of c → asked_by c ≡ first ∷ range ∷ wanted → TakesNumber first old mid n → len' ≡ len →
@@ -241,9 +269,9 @@ pub second_wanting : (r : Result Command LineFault) (e : LineFault) (name : Word
 second_wanting (Ok d) e name old mid new len len' c first range wanted n failed named asked takes same lacks = absurd failed
 second_wanting (Err f) e name old mid new len len' c first range wanted n failed named asked takes same lacks =
     subst (λ (g : LineFault). Fails (name ∷ old) len g.place g.why) (sym failed)
-      (subst (λ ws. Fails (name ∷ ws) len e.place e.why) (sym takes.taken)
-        (Fails-number name (takes.word ∷ []) mid c (first ∷ []) range wanted len e.place e.why named asked (takes.good, tt)
-          (subst (λ l. LacksNumber range mid l e.place e.why) same lacks)))
+    (subst (λ ws. Fails (name ∷ ws) len e.place e.why) (sym takes.taken)
+    (Fails-number name (takes.word ∷ []) mid c (first ∷ []) range wanted len e.place e.why named asked (takes.good, tt)
+    (subst (λ l. LacksNumber range mid l e.place e.why) same lacks)))
 
 pub one_taken : (name : List ℕ) (old new : List Word) (c : Command) (range : Range) (n : ℕ) →
     name ≡ name_of c → asked_by c ≡ range ∷ [] → numbers_of c ≡ n ∷ [] → TakesNumber range old new n → TakesNumbers name old new c
@@ -252,7 +280,7 @@ one_taken name old new c range n named asked numbers takes = record {
   taken = takes.taken;
   named = named;
   good = subst (λ rs. AreGood rs (takes.word ∷ [])) (sym asked) (takes.good, tt);
-  values = ap (λ (v : Option ℕ). v ∷ []) takes.value ∙ ap (map Some) (sym numbers)
+  values = ap (λ (v : Option ℕ). v ∷ []) takes.value ∙ ap (map Some) (sym numbers);
 }
 
 pub two_taken : (name : List ℕ) (old mid new : List Word) (c : Command) (first range : Range) (n m : ℕ) →
@@ -263,7 +291,7 @@ two_taken name old mid new c first range n m named asked numbers takes again = r
   taken = takes.taken ∙ ap (λ ws. takes.word ∷ ws) again.taken;
   named = named;
   good = subst (λ rs. AreGood rs (takes.word ∷ again.word ∷ [])) (sym asked) (takes.good, (again.good, tt));
-  values = ap₂ (λ (v w : Option ℕ). v ∷ w ∷ []) takes.value again.value ∙ ap (map Some) (sym numbers)
+  values = ap₂ (λ (v w : Option ℕ). v ∷ w ∷ []) takes.value again.value ∙ ap (map Some) (sym numbers);
 }
 
 -- the whole line
@@ -274,5 +302,5 @@ Says-taken line name rest c whole t = record {
   whole = whole ∙ ap (λ ws. name ∷ ws) (t.taken ∙ append-nil t.numbers);
   named = t.named;
   good = t.good;
-  values = t.values
+  values = t.values;
 }

@@ -1,9 +1,9 @@
 -- The words from a place on, and those from the next place on.
-use Rattle.std.proofs.Common.{◌≡◌, ℕ, suc, ◌+◌, ◌-◌, ◌<◌, ◌≤◌, Bool, true, false, not, ◌&&◌, ◌||◌, ◌==◌, cond, IsTrue, List, [], ◌∷◌, ◌++◌, length, map, filter, slice_index, get_or, take, drop, refl, sym, ap, ap₂, subst, ◌∙◌, arith, nat_le, nat_lt}
-use Rattle.std.specs.List.{range_with_len, take_while, prefix_len, slice_range}
+use Rattle.std.proofs.Common.{◌≡◌, ℕ, suc, ◌+◌, ◌-◌, ◌<◌, ◌≤◌, Bool, true, false, not, ◌&&◌, ◌||◌, ◌==◌, IsTrue, List, [], ◌∷◌, length, slice_index, take, drop, refl, ap, ap₂, ◌∙◌, arith, nat_le, nat_lt}
+use Rattle.std.specs.List.{prefix_len, slice_range}
 use Rattle.std.proofs.lemmas.Bool.Decides.{nat_tests}
 use Rattle.std.proofs.Math.ListN.{drop_of_length-le}
-use Rattle.std.proofs.lemmas.List.Sums.{prefix_len-drop_yes, prefix_len-drop_no}
+use Rattle.std.proofs.lemmas.List.Sums.{prefix_len-drop_no}
 use Rattle.chair_words.specs.Words.{Word, is_blank, begins_at, word_at, word_of, words_from}
 use Rattle.chair_words.specs.Reading.{is_outside}
 
@@ -45,7 +45,7 @@ pub outside-blank : (line : List ℕ) (i : ℕ) → is_blank (slice_index line i
 outside-blank line i blank =
     let before : i + 1 - 1 ≡ i = omega arith in
     let begins : begins_at line (i + 1) ≡ not (is_blank (slice_index line (i + 1))) && ((i + 1 == 0) || true) =
-        rw (before, blank) refl in
+    rw (before, blank) refl in
     rw begins (outside-cases (nat_le (length line) (i + 1)) (is_blank (slice_index line (i + 1))) (i + 1 == 0))
 
 -- the word that began at `start` ends here
@@ -60,12 +60,12 @@ word_at-ends line start end below within counted none =
 no_more : (line : List ℕ) (end : ℕ) → (end < length line → is_blank (slice_index line end) ≡ true) → prefix_len (λ b. not (is_blank b)) (drop end line) ≡ 0
 no_more line end stops =
     elim (nat_lt end (length line)) as (λ b. nat_lt end (length line) ≡ b → prefix_len (λ b. not (is_blank b)) (drop end line) ≡ 0) [
-      true ↦ λ e.
-        let lower : end < length line = grind (arith, nat_tests) in
-        prefix_len-drop_no (λ b. not (is_blank b)) line end 0 lower (ap not (stops lower))
-    | false ↦ λ e.
-        let upper : length line ≤ end = grind (arith, nat_tests) in
-        ap (prefix_len (λ b. not (is_blank b))) (drop_of_length-le line upper)
+      | true ↦ λ e.
+          let lower : end < length line = grind (arith, nat_tests) in
+          prefix_len-drop_no (λ b. not (is_blank b)) line end 0 lower (ap not (stops lower))
+      | false ↦ λ e.
+          let upper : length line ≤ end = grind (arith, nat_tests) in
+          ap (prefix_len (λ b. not (is_blank b))) (drop_of_length-le line upper)
     ] refl
 
 -- inside the word that begins at `start` no other begins
@@ -77,5 +77,5 @@ pub words_from-ends : (line : List ℕ) (start end : ℕ) → start < length lin
 words_from-ends line start end inside begins below within same counted stops =
     words_from-word line start inside begins
     ∙ ap₂ (λ (w : Word) (ws : List Word). w ∷ ws)
-        (word_at-ends line start end below within counted (no_more line end stops))
-        same
+    (word_at-ends line start end below within counted (no_more line end stops))
+    same

@@ -1,5 +1,5 @@
 -- The line that is written for a command says that command: by computing, at each place and each lane.
-use Rattle.std.proofs.Common.{◌≡◌, ℕ, zero, suc, ◌<◌, true, false, nat_eq, IsTrue, Some, List, [], ◌∷◌, codes, refl, subst, ap, ap₂, arith}
+use Rattle.std.proofs.Common.{◌≡◌, ℕ, zero, suc, ◌<◌, true, false, nat_eq, IsTrue, Some, [], ◌∷◌, codes, refl, subst, ap, ap₂, arith}
 use Rattle.std.proofs.lemmas.Bool.Decides.{nat_tests}
 use Rattle.pel_model.specs.declared.Quad.{Quad}
 use Rattle.pel_model.specs.declared.Quad.TheVariants.{One, Two, Three, Four}
@@ -18,8 +18,8 @@ at_each : (P : ℕ → Type 0) (n : ℕ) → EachBelow P n → (k : ℕ) → k <
 at_each P zero h k below = absurd (omega arith)
 at_each P (suc n) h k below =
     elim (nat_eq k n) as (λ b. nat_eq k n ≡ b → P k) [
-      true ↦ λ e. let same : n ≡ k = grind (arith, nat_tests) in subst P same h.1
-    | false ↦ λ e. let lower : k < n = grind (arith, nat_tests) in at_each P n h.0 k lower
+      | true ↦ λ e. let same : n ≡ k = grind (arith, nat_tests) in subst P same h.1
+      | false ↦ λ e. let lower : k < n = grind (arith, nat_tests) in at_each P n h.0 k lower
     ] refl
 
 -- the words of the numbers
@@ -109,7 +109,7 @@ says_written (Place q c) sayable =
       whole = words-place q c below;
       named = refl;
       good = (place_good q, (lane_good c below, tt));
-      values = ap₂ (λ v w. v ∷ w ∷ []) (place_spelled q) (lane_spelled c below)
+      values = ap₂ (λ v w. v ∷ w ∷ []) (place_spelled q) (lane_spelled c below);
     }
 says_written (Swap p q) sayable = record {
   name = word_of 0 (codes "swap");
@@ -117,7 +117,7 @@ says_written (Swap p q) sayable = record {
   whole = words-swap p q;
   named = refl;
   good = (place_good p, (place_good q, tt));
-  values = ap₂ (λ v w. v ∷ w ∷ []) (place_spelled p) (place_spelled q)
+  values = ap₂ (λ v w. v ∷ w ∷ []) (place_spelled p) (place_spelled q);
 }
 says_written (Speaker c) sayable =
     let below : c < 16 = grind (arith, nat_tests) in
@@ -127,7 +127,7 @@ says_written (Speaker c) sayable =
       whole = words-speaker c below;
       named = refl;
       good = (lane_good c below, tt);
-      values = ap (λ v. v ∷ []) (lane_spelled c below)
+      values = ap (λ v. v ∷ []) (lane_spelled c below);
     }
 says_written (Clear q) sayable = record {
   name = word_of 0 (codes "clear");
@@ -135,7 +135,7 @@ says_written (Clear q) sayable = record {
   whole = words-clear q;
   named = refl;
   good = (place_good q, tt);
-  values = ap (λ v. v ∷ []) (place_spelled q)
+  values = ap (λ v. v ∷ []) (place_spelled q);
 }
 says_written (Pin q) sayable = record {
   name = word_of 0 (codes "pin");
@@ -143,7 +143,7 @@ says_written (Pin q) sayable = record {
   whole = words-pin q;
   named = refl;
   good = (place_good q, tt);
-  values = ap (λ v. v ∷ []) (place_spelled q)
+  values = ap (λ v. v ∷ []) (place_spelled q);
 }
 says_written (Unpin q) sayable = record {
   name = word_of 0 (codes "unpin");
@@ -151,5 +151,5 @@ says_written (Unpin q) sayable = record {
   whole = words-unpin q;
   named = refl;
   good = (place_good q, tt);
-  values = ap (λ v. v ∷ []) (place_spelled q)
+  values = ap (λ v. v ∷ []) (place_spelled q);
 }

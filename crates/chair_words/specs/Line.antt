@@ -111,7 +111,7 @@ FailsAt line place why = Fails (words line) (length line) place why
 pub record OneAnswer : Type 0 where
   pub one_command : (line : List ℕ) (c d : Command) → Says line c → Says line d → c ≡ d
   pub one_fault :
-    (line : List ℕ) (p q : ℕ) (v w : LineWhy) → FailsAt line p v → FailsAt line q w → (p ≡ q) × (v ≡ w)
+      (line : List ℕ) (p q : ℕ) (v w : LineWhy) → FailsAt line p v → FailsAt line q w → (p ≡ q) × (v ≡ w)
   pub not_both : (line : List ℕ) (c : Command) (p : ℕ) (w : LineWhy) → Says line c → FailsAt line p w → ⊥
 
 -- the lanes of a command are those that a line can say

@@ -7,11 +7,9 @@ ghost use Rattle.chair_words.specs.Line.{Says, OneAnswer, has_sayable_lane, line
 /// The line that is written for a command says that command, where a lane in it is at most 15.
 pub fn written_lines_are_read()
     ensures { (command : Command) → IsTrue (has_sayable_lane command) → Says (line_of command) command }
-{
-}
+{}
 
 /// A line says one command, or has one first fault, and never both.
 pub fn one_answer()
     ensures { OneAnswer }
-{
-}
+{}

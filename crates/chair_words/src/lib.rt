@@ -4,6 +4,8 @@
 mod laws;
 mod numbers;
 mod reader;
+#[cfg(test)]
+mod tests;
 mod words;
 mod writer;
 

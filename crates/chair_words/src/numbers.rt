@@ -8,7 +8,11 @@ ghost use Rattle.chair_words.specs.Reading.{digit_in};
 fn digit(byte: u8) -> Option<u16>
     ensures { result ≡ digit_in byte }
 {
-    if byte.is_ascii_digit() { Some(u16::from(byte - b'0')) } else { None }
+    if byte.is_ascii_digit() {
+        Some(u16::from(byte - b'0'))
+    } else {
+        None
+    }
 }
 
 /// The number that one to three decimal digits spell.
@@ -18,7 +22,9 @@ pub fn number_of(text: &[u8]) -> Option<u16>
     match text {
         [ones] => digit(*ones),
         [tens, ones] => Some(10 * digit(*tens)? + digit(*ones)?),
-        [hundreds, tens, ones] => Some(100 * digit(*hundreds)? + 10 * digit(*tens)? + digit(*ones)?),
+        [hundreds, tens, ones] => Some(
+            100 * digit(*hundreds)? + 10 * digit(*tens)? + digit(*ones)?,
+        ),
         _ => None,
     }
 }

@@ -48,9 +48,7 @@ enum Name {
 
 /// The name that the word is, if it is one.
 fn name_in(word: &[u8]) -> Option<Name>
-    ensures {
-        MatchOption result ((c : TheCommand) → word.now ≢ name_of c) (λ n. word.now ≡ text_of n)
-    }
+    ensures { MatchOption result ((c : TheCommand) → word.now ≢ name_of c) (λ n. word.now ≡ text_of n) }
 {
     if word == "place".as_bytes() {
         Some(Name::Place)
@@ -97,14 +95,12 @@ impl<'a> Words<'a> {
     fn number(&mut self, low: u16, high: u16) -> Result<u8, LineFault>
         requires { high ≤ 255 }
         ensures line { self.new.line.now ≡ self.old.line.now }
-        ensures read {
-            let old = words_from self.old.line.now self.old.at in
+        ensures read { let old = words_from self.old.line.now self.old.at in
             let new = words_from self.new.line.now self.new.at in
             let range = from_to low high in
             MatchResult result
-                (λ n. TakesNumber range old new n)
-                (λ e. LacksNumber range old (length self.old.line.now) e.place e.why)
-        }
+            (λ n. TakesNumber range old new n)
+            (λ e. LacksNumber range old (length self.old.line.now) e.place e.why) }
     {
         let Some(word) = self.next() else {
             return Err(self.missing());
@@ -118,13 +114,11 @@ impl<'a> Words<'a> {
     /// The next word, as a place.
     fn place(&mut self) -> Result<Quad, LineFault>
         ensures line { self.new.line.now ≡ self.old.line.now }
-        ensures read {
-            let old = words_from self.old.line.now self.old.at in
+        ensures read { let old = words_from self.old.line.now self.old.at in
             let new = words_from self.new.line.now self.new.at in
             MatchResult result
-                (λ q. TakesNumber a_place old new (number_of q))
-                (λ e. LacksNumber a_place old (length self.old.line.now) e.place e.why)
-        }
+            (λ q. TakesNumber a_place old new (number_of q))
+            (λ e. LacksNumber a_place old (length self.old.line.now) e.place e.why) }
     {
         let quad = match self.number(1, 4)? {
             1 => Quad::One,
@@ -138,13 +132,11 @@ impl<'a> Words<'a> {
     /// The next word, as a lane.
     fn lane(&mut self) -> Result<u8, LineFault>
         ensures line { self.new.line.now ≡ self.old.line.now }
-        ensures read {
-            let old = words_from self.old.line.now self.old.at in
+        ensures read { let old = words_from self.old.line.now self.old.at in
             let new = words_from self.new.line.now self.new.at in
             MatchResult result
-                (λ c. TakesNumber a_lane old new c)
-                (λ e. LacksNumber a_lane old (length self.old.line.now) e.place e.why)
-        }
+            (λ c. TakesNumber a_lane old new c)
+            (λ e. LacksNumber a_lane old (length self.old.line.now) e.place e.why) }
     {
         self.number(0, 15)
     }
@@ -153,14 +145,12 @@ impl<'a> Words<'a> {
     fn command(&mut self, name: Word<'a>) -> Result<Command, LineFault>
         requires { name.place ≤ 255 }
         ensures line { self.new.line.now ≡ self.old.line.now }
-        ensures read {
-            let old = words_from self.old.line.now self.old.at in
+        ensures read { let old = words_from self.old.line.now self.old.at in
             let new = words_from self.new.line.now self.new.at in
             let first = word_of name.entry.place name.entry.text.now in
             MatchResult result
-                (λ c. TakesNumbers name.entry.text.now old new c)
-                (λ e. Fails (first ∷ old) (length self.old.line.now) e.place e.why)
-        }
+            (λ c. TakesNumbers name.entry.text.now old new c)
+            (λ e. Fails (first ∷ old) (length self.old.line.now) e.place e.why) }
     {
         let Some(known) = name_in(name.text) else {
             return Err(name.fault(LineWhy::Unknown));
@@ -200,9 +190,7 @@ pub fn read_line(line: &[u8]) -> Result<Command, LineFault>
     ensures command { IfOk result (λ c. Says line.now c) }
     ensures fault { IfErr result (λ e. FailsAt line.now e.place e.why) }
     ensures accepts { (c : TheCommand) → Says line.now c → result ≡ Ok c }
-    ensures refuses {
-        (place : ℕ) (why : TheWhy) → FailsAt line.now place why → result ≡ Err (record { place = place; why = why })
-    }
+    ensures refuses { (place : ℕ) (why : TheWhy) → FailsAt line.now place why → result ≡ Err (record { place = place; why = why }) }
 {
     answer(line)
 }

@@ -50,10 +50,8 @@ fn word_end(line: &[u8], start: usize) -> usize
     ensures above { start < result }
     ensures within { result ≤ length line.now }
     ensures outside { IsTrue (is_outside line.now result) }
-    ensures word {
-        words_from line.now start
-            ≡ word_of start (slice_range line.now start result) ∷ words_from line.now result
-    }
+    ensures word { words_from line.now start
+        ≡ word_of start (slice_range line.now start result) ∷ words_from line.now result }
 {
     let mut end = start + 1;
     while end < line.len() && !is_blank(line[end]) {
@@ -77,10 +75,8 @@ impl<'a> Words<'a> {
         ensures line { self.new.line.now ≡ self.old.line.now }
         ensures place { IfSome result (λ w. w.place ≤ 255) }
         ensures none { IfNone result (words_from self.old.line.now self.old.at ≡ []) }
-        ensures some {
-            IfSome result (λ w. words_from self.old.line.now self.old.at
-                ≡ word_of w.place w.text.now ∷ words_from self.new.line.now self.new.at)
-        }
+        ensures some { IfSome result (λ w. words_from self.old.line.now self.old.at
+            ≡ word_of w.place w.text.now ∷ words_from self.new.line.now self.new.at) }
     {
         let place = word_start(self.line, self.at);
         if place == self.line.len() {
@@ -88,6 +84,9 @@ impl<'a> Words<'a> {
         }
         let end = word_end(self.line, place);
         self.at = end;
-        Some(Word { place, text: &self.line[place..end] })
+        Some(Word {
+            place,
+            text: &self.line[place..end],
+        })
     }
 }

@@ -1,7 +1,6 @@
 use Rattle.std.proofs.Common.{length, ◌-◌, ◌≡◌, ◌≤◌, IsTrue}
 use Rattle.chair_words.specs.Words.{words_from}
 use Rattle.chair_words.specs.Reading.{is_outside}
-use Rattle.chair_words.proofs.WordLemmas
 use Rattle.chair_words.proofs.words.word_start.Given as goal
 
 abbrev pub invariant-loop-at : goal.invariant-loop-at
