@@ -86,8 +86,8 @@ carried_out s (Clear q) = record s { lane_in = λ p. if is_same q p then None el
 carried_out s (Swap p q) =
     record s { lane_in = λ r. if is_same p r then s.lane_in q else if is_same q r then s.lane_in p else s.lane_in r }
 carried_out s (Speaker c) = record s {
-    lane_in = λ p. if not (is_standing s c) && is_place (place_for_speaker s) p then Some c else s.lane_in p;
-    speakers = c ∷ s.speakers
+  lane_in = λ p. if not (is_standing s c) && is_place (place_for_speaker s) p then Some c else s.lane_in p;
+  speakers = c ∷ s.speakers;
 }
 carried_out s (Pin q) = record s { is_pinned = λ p. is_same q p || s.is_pinned p }
 carried_out s (Unpin q) = record s { is_pinned = λ p. not (is_same q p) && s.is_pinned p }
