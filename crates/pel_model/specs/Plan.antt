@@ -1,6 +1,7 @@
 -- The chair's plan of the four places: what the commands given so far have made of it. The commands stand newest
 -- first, and begin from four empty places without pins. A conference has `lanes` lanes, numbered from 0.
 use Rattle.std.specs.Prelude.{ℕ, ◌==◌, nat_lt, nat_le, Bool, true, false, not, ◌&&◌, ◌||◌, if◌then◌else◌, Option, Some, None, is_none, List, [], ◌∷◌, find}
+use Rattle.std.specs.Option.{option_or}
 use Rattle.std.specs.List.{list_any, list_all, position_or_len}
 use Rattle.pel_model.specs.declared.Quad.{Quad}
 use Rattle.pel_model.specs.declared.Quad.TheVariants.{One, Two, Three, Four}
@@ -60,16 +61,20 @@ abbrev pub vacant_place : Stage → Option Quad
 vacant_place s = find (λ q. not (s.is_pinned q) && is_none (s.lane_in q)) places
 
 -- a lane in an unpinned place spoke less recently than the one in place q
-abbrev pub is_outlasted : Stage → Quad → Bool
-is_outlasted s q = list_any (λ p. not (s.is_pinned p) && spoke_before s.speakers (s.lane_in p) (s.lane_in q)) places
+abbrev pub is_outlasted : (Quad → Bool) → (Quad → Quad → Bool) → Quad → Bool
+is_outlasted is_pinned before q = list_any (λ p. not (is_pinned p) && before p q) places
+
+-- the lowest unpinned place where that is not so
+abbrev pub quietest_by : (Quad → Bool) → (Quad → Quad → Bool) → Option Quad
+quietest_by is_pinned before = find (λ q. not (is_pinned q) && not (is_outlasted is_pinned before q)) places
 
 -- the unpinned place whose lane spoke least recently, the lowest of several
 abbrev pub quietest_place : Stage → Option Quad
-quietest_place s = find (λ q. not (s.is_pinned q) && not (is_outlasted s q)) places
+quietest_place s = quietest_by s.is_pinned (λ p q. spoke_before s.speakers (s.lane_in p) (s.lane_in q))
 
 -- the place that a speaker takes who stands in none
 abbrev pub place_for_speaker : Stage → Option Quad
-place_for_speaker s = if is_none (vacant_place s) then quietest_place s else vacant_place s
+place_for_speaker s = option_or (vacant_place s) (quietest_place s)
 
 abbrev pub is_place : Option Quad → Quad → Bool
 is_place None q = false

@@ -1,0 +1,2 @@
+-- Laws of the plan of places.
+use Rattle.std.specs.Prelude.{◌≡◌}
