@@ -9,5 +9,5 @@ closed_up gone r = if nat_lt 0 gone && nat_lt gone r then r - 1 else r
 pub record Raises (lane : ℕ) (old new : List ℕ) : Type 0 where
   pub greatest : (c : ℕ) → c < 16 → c ≢ lane → slice_index new c < slice_index new lane
   pub others :
-    (c d : ℕ) → c < 16 → d < 16 → c ≢ lane → d ≢ lane →
-    nat_lt (slice_index new c) (slice_index new d) ≡ nat_lt (slice_index old c) (slice_index old d)
+      (c d : ℕ) → c < 16 → d < 16 → c ≢ lane → d ≢ lane →
+      nat_lt (slice_index new c) (slice_index new d) ≡ nat_lt (slice_index old c) (slice_index old d)

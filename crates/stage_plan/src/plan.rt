@@ -124,7 +124,12 @@ impl Plan {
     pub fn changed(&self) -> [bool; 4]
         ensures { result ≡ map (in_place self.now.changes) places }
     {
-        [self.changes.one, self.changes.two, self.changes.three, self.changes.four]
+        [
+            self.changes.one,
+            self.changes.two,
+            self.changes.three,
+            self.changes.four,
+        ]
     }
 
     /// Whether the lane stands in a place.
@@ -145,7 +150,10 @@ impl Plan {
     fn vacant_place(&self) -> Option<Quad>
         ensures { result ≡ vacant_place (stage_of self.now []) }
     {
-        PLACES.iter().copied().find(|q| !self.pins.of(*q) && self.seats.of(*q).is_none())
+        PLACES
+            .iter()
+            .copied()
+            .find(|q| !self.pins.of(*q) && self.seats.of(*q).is_none())
     }
 
     /// Whether the lane in the first place spoke less recently than the one in the second.
@@ -162,21 +170,24 @@ impl Plan {
     fn is_outlasted(&self, place: Quad) -> bool
         ensures { result ≡ is_outlasted (is_pinned self.now) (is_ranked_below self.now) place }
     {
-        PLACES.iter().any(|p| !self.pins.of(*p) && self.spoke_before(*p, place))
+        PLACES
+            .iter()
+            .any(|p| !self.pins.of(*p) && self.spoke_before(*p, place))
     }
 
     /// The unpinned place whose lane spoke least recently, the lowest of several.
     fn quietest_place(&self) -> Option<Quad>
         ensures { result ≡ quietest_by (is_pinned self.now) (is_ranked_below self.now) }
     {
-        PLACES.iter().copied().find(|q| !self.pins.of(*q) && !self.is_outlasted(*q))
+        PLACES
+            .iter()
+            .copied()
+            .find(|q| !self.pins.of(*q) && !self.is_outlasted(*q))
     }
 
     /// The place that a speaker takes who stands in none.
     fn place_for_speaker(&self) -> Option<Quad>
-        ensures {
-            result ≡ option_or (vacant_place (stage_of self.now [])) (quietest_by (is_pinned self.now) (is_ranked_below self.now))
-        }
+        ensures { result ≡ option_or (vacant_place (stage_of self.now [])) (quietest_by (is_pinned self.now) (is_ranked_below self.now)) }
     {
         self.vacant_place().or(self.quietest_place())
     }
@@ -210,11 +221,10 @@ impl Plan {
 
     /// Whether an exchange of the two places would leave all as it is.
     fn is_idle_swap(&self, first: Quad, second: Quad) -> bool
-        ensures {
-            result ≡ (is_same first second || (is_none (lane_in self.now first) && is_none (lane_in self.now second)))
-        }
+        ensures { result ≡ (is_same first second || (is_none (lane_in self.now first) && is_none (lane_in self.now second))) }
     {
-        is_same(first, second) || (self.seats.of(first).is_none() && self.seats.of(second).is_none())
+        is_same(first, second)
+            || (self.seats.of(first).is_none() && self.seats.of(second).is_none())
     }
 
     /// Exchanges what stands in the two places.
@@ -241,10 +251,8 @@ impl Plan {
     /// The seats, with one for this speaker: its own, or the one that is found for it.
     fn seats_with(&self, lane: u8) -> Four<Option<u8>>
         requires { lane < self.now.lanes }
-        ensures seats {
-            (speakers : List ℕ) → IsInOrder self.now speakers → (q : TheQuad) → in_place result q
-                ≡ (carried_out (stage_of self.now speakers) (Speaker lane)).lane_in q
-        }
+        ensures seats { (speakers : List ℕ) → IsInOrder self.now speakers → (q : TheQuad) → in_place result q
+            ≡ (carried_out (stage_of self.now speakers) (Speaker lane)).lane_in q }
         ensures seated { (q : TheQuad) → IfSome (in_place result q) (λ c. c < self.now.lanes) }
     {
         let mut seats = self.seats;

@@ -8,7 +8,11 @@ ghost use Rattle.stage_plan.specs.Ranks.{closed_up, Raises};
 fn closed_up(gone: u8, rank: u8) -> u8
     ensures { result ≡ closed_up gone rank }
 {
-    if 0 < gone && gone < rank { rank - 1 } else { rank }
+    if 0 < gone && gone < rank {
+        rank - 1
+    } else {
+        rank
+    }
 }
 
 /// Takes a rank away, and closes up the ranks above it.

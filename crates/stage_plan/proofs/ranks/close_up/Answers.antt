@@ -10,7 +10,7 @@ loop-rank-preserved c =
     let old = c.args.ranks.now in
     let i = c.loop-rank.rank-index in
     let len : length c.loop-rank.ranks ≡ 16 =
-        ap length c.loop-rank.invariant ∙ length-mapped (closed_up c.args.gone) old i (omega arith) ∙ c.told-ranks in
+    ap length c.loop-rank.invariant ∙ length-mapped (closed_up c.args.gone) old i (omega arith) ∙ c.told-ranks in
     subst (λ x. set c.loop-rank.ranks i x ≡ map (closed_up c.args.gone) (take (i + 1) old) ++ drop (i + 1) old) (sym c.closed_up.ensures)
-      (map_over_more (closed_up c.args.gone) old c.loop-rank.ranks i _ (omega arith) c.loop-rank.invariant
-        (sym (get_or_default_zero c.loop-rank.ranks i _ (omega arith))))
+    (map_over_more (closed_up c.args.gone) old c.loop-rank.ranks i _ (omega arith) c.loop-rank.invariant
+    (sym (get_or_default_zero c.loop-rank.ranks i _ (omega arith))))

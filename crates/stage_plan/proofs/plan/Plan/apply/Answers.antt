@@ -1,4 +1,4 @@
-use Rattle.std.proofs.Common.{◌≡◌, Option, ℕ, ap, subst, sym, ◌∙◌, not}
+use Rattle.std.proofs.Common.{◌≡◌, ap, subst, sym, ◌∙◌, not}
 use Rattle.pel_model.specs.declared.Quad.{Quad}
 use Rattle.pel_model.specs.Plan.{is_same_lane}
 use Rattle.stage_plan.specs.Four.{in_place}

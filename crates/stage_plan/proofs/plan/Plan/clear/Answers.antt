@@ -8,7 +8,7 @@ invariant_of-self c = record {
   low = c.self.invariant.low;
   high = c.self.invariant.high;
   seated = λ q.
-    subst (λ f. IfSome (in_place f q) (λ d. d < c.self.inside.lanes)) (sym c.set.ensures)
+      subst (λ f. IfSome (in_place f q) (λ d. d < c.self.inside.lanes)) (sym c.set.ensures)
       (each-with_place (λ (seat : Option ℕ). IfSome seat (λ d. d < c.self.inside.lanes)) c.self.inside.seats c.args.place None c.self.invariant.seated tt q);
-  ranking = c.self.invariant.ranking
+  ranking = c.self.invariant.ranking;
 }

@@ -1,4 +1,4 @@
-use Rattle.std.proofs.Common.{◌≡◌, ℕ, ◌<◌, Option, Some, IfSome, ap, subst, sym, ◌∙◌, if◌then◌else◌}
+use Rattle.std.proofs.Common.{ℕ, ◌<◌, Option, Some, IfSome, ap, subst, sym, ◌∙◌, if◌then◌else◌}
 use Rattle.pel_model.specs.declared.chair.Command.TheVariants.{Place}
 use Rattle.pel_model.specs.declared.chair.Reply.TheVariants.{Done}
 use Rattle.pel_model.specs.Plan.{is_same, is_lane}
@@ -15,11 +15,11 @@ invariant_of-self c =
       low = c.self.invariant.low;
       high = c.self.invariant.high;
       seated = λ q.
-        subst (λ f. P (in_place f q)) (sym c.set.ensures)
+          subst (λ f. P (in_place f q)) (sym c.set.ensures)
           (each-with_place P c.all_without-seats.result c.args.place (Some c.args.lane)
-            (λ r. subst P (sym (c.all_without-seats.ensures r)) (seated-without _ c.args.lane _ (c.self.invariant.seated r)))
-            c.if-lane-self.false q);
-      ranking = c.self.invariant.ranking
+          (λ r. subst P (sym (c.all_without-seats.ensures r)) (seated-without _ c.args.lane _ (c.self.invariant.seated r)))
+          c.if-lane-self.false q);
+      ranking = c.self.invariant.ranking;
     }
 
 pub returns : goal.returns
@@ -27,7 +27,7 @@ returns c =
     let plan : PlanView = the_view c.self.inside in
     let elsewhere = ap (is_lane c.args.lane) (sym c.of.ensures) ∙ sym c.is_lane.ensures ∙ c.if-is_lane.false in
     subst (λ (old : PlanView). Obeys (Place c.args.place c.args.lane) old (record plan { seats = c.set.new.self }) Done) c.self.view_is
-      (Obeys-place c.args.place c.args.lane plan c.set.new.self c.if-lane-self.false elsewhere
-        (λ p. ap (λ f. in_place f p) c.set.ensures
-          ∙ in_place-with_place c.all_without-seats.result c.args.place p (Some c.args.lane)
-          ∙ ap (λ o. if is_same c.args.place p then Some c.args.lane else o) (c.all_without-seats.ensures p)))
+    (Obeys-place c.args.place c.args.lane plan c.set.new.self c.if-lane-self.false elsewhere
+    (λ p. ap (λ f. in_place f p) c.set.ensures
+    ∙ in_place-with_place c.all_without-seats.result c.args.place p (Some c.args.lane)
+    ∙ ap (λ o. if is_same c.args.place p then Some c.args.lane else o) (c.all_without-seats.ensures p)))

@@ -1,4 +1,4 @@
-use Rattle.std.proofs.Common.{◌≡◌, ℕ, ◌<◌, ◌&&◌, ◌||◌, is_none, Option, IfSome, ap, subst, sym, ◌∙◌, if◌then◌else◌}
+use Rattle.std.proofs.Common.{◌≡◌, ℕ, ◌<◌, ◌&&◌, ◌||◌, is_none, Option, IfSome, ap, subst, sym, ◌∙◌}
 use Rattle.pel_model.specs.declared.Quad.{Quad}
 use Rattle.pel_model.specs.declared.chair.Command.TheVariants.{Swap}
 use Rattle.pel_model.specs.declared.chair.Reply.TheVariants.{Done}
@@ -23,13 +23,13 @@ invariant_of-self c =
       low = c.self.invariant.low;
       high = c.self.invariant.high;
       seated = λ q.
-        subst (λ f. P (in_place f q)) (sym c.set-2.ensures)
+          subst (λ f. P (in_place f q)) (sym c.set-2.ensures)
           (each-with_place P c.set.new.self c.args.second c.of-2.result
-            (λ r. subst (λ f. P (in_place f r)) (sym c.set.ensures)
-              (each-with_place P c.self.inside.seats c.args.first c.of.result seated
-                (subst P (sym c.of.ensures) (seated c.args.second)) r))
-            (subst P (sym c.of-2.ensures) (seated c.args.first)) q);
-      ranking = c.self.invariant.ranking
+          (λ r. subst (λ f. P (in_place f r)) (sym c.set.ensures)
+          (each-with_place P c.self.inside.seats c.args.first c.of.result seated
+          (subst P (sym c.of.ensures) (seated c.args.second)) r))
+          (subst P (sym c.of-2.ensures) (seated c.args.first)) q);
+      ranking = c.self.invariant.ranking;
     }
 
 pub returns : goal.returns
@@ -39,12 +39,12 @@ returns c =
     let first = c.args.first in
     let second = c.args.second in
     let placed : c.set-2.new.self ≡ with_place (with_place seats first (in_place seats second)) second (in_place seats first) =
-        c.set-2.ensures
-        ∙ ap (λ (f : Four (Option ℕ)). with_place f second c.of-2.result) c.set.ensures
-        ∙ ap (λ (x : Option ℕ). with_place (with_place seats first x) second c.of-2.result) c.of.ensures
-        ∙ ap (λ (x : Option ℕ). with_place (with_place seats first (in_place seats second)) second x) c.of-2.ensures in
+    c.set-2.ensures
+    ∙ ap (λ (f : Four (Option ℕ)). with_place f second c.of-2.result) c.set.ensures
+    ∙ ap (λ (x : Option ℕ). with_place (with_place seats first x) second c.of-2.result) c.of.ensures
+    ∙ ap (λ (x : Option ℕ). with_place (with_place seats first (in_place seats second)) second x) c.of-2.ensures in
     let able = idle first second c.self.view_is ∙ sym c.is_idle_swap.ensures ∙ c.if-is_idle_swap.false in
     subst (λ (old : PlanView). Obeys (Swap first second) old (record plan { seats = c.set-2.new.self }) Done) c.self.view_is
-      (Obeys-swap first second plan c.set-2.new.self
-        able
-        (λ r. ap (λ f. in_place f r) placed ∙ in_place-with_two seats first second r))
+    (Obeys-swap first second plan c.set-2.new.self
+    able
+    (λ r. ap (λ f. in_place f r) placed ∙ in_place-with_two seats first second r))
