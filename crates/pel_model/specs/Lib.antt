@@ -1,5 +1,6 @@
 pub mod Bits
 pub mod Codes
+pub mod Elements
 pub mod Grammar
 pub mod Plain
 pub mod Plan
