@@ -1,8 +1,10 @@
 pub mod Bits
 pub mod Codes
+pub mod Elements
 pub mod Grammar
-pub mod Records
 pub mod Plain
+pub mod Plan
+pub mod Records
 pub mod Regions
 pub mod Text
 pub mod Valid
