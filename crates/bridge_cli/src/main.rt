@@ -7,6 +7,8 @@ mod run;
 mod send;
 mod show;
 mod status;
+#[cfg(test)]
+mod tests;
 
 use io_edge::{ReadEdge, WriteEdge};
 use run::run;
