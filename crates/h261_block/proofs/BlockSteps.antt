@@ -1,14 +1,14 @@
 -- What stands in a block, by the slot of its next element.
-use Rattle.std.proofs.Common.{◌≡◌, ◌≢◌, ℕ, ◌+◌, ◌≤◌, ◌<◌, ◌==◌, ◌&&◌, ◌||◌, Bool, true, false, cond, ℤ, pos, negsuc, List, [], ◌∷◌, ◌++◌, length, take, Option, Some, None, nat_lt, ◌⊎◌, inl, inr, refl, sym, ◌∙◌, ap, arith}
-use Rattle.std.proofs.lemmas.Bool.{eqb-true, eq-eqb}
-use Rattle.std.proofs.lemmas.List.{take-append-le, take-take, length-replicate}
+use Rattle.std.proofs.Common.{◌≡◌, ◌≢◌, ℕ, ◌≤◌, ◌<◌, ◌==◌, ◌||◌, Bool, true, false, cond, List, [], ◌∷◌, ◌++◌, length, take, Some, None, ◌⊎◌, inl, inr, refl, sym, ◌∙◌, ap}
+use Rattle.std.proofs.lemmas.Bool.{eqb-true}
+use Rattle.std.proofs.lemmas.List.{take-append-le}
 use Rattle.pel_bits.specs.Bits as bits
 use Rattle.pel_bits.specs.Reading.{zeros}
 use Rattle.pel_model.specs.declared.Format.{Format}
 use Rattle.pel_model.specs.declared.Why.{Why}
 use Rattle.pel_model.specs.declared.Why.TheVariants.{Cut, BadDc}
 use Rattle.pel_model.specs.Bits as model
-use Rattle.pel_model.specs.Walk.{Step, Good, Bad, read, judged}
+use Rattle.pel_model.specs.Walk.{Good, Bad, read}
 use Rattle.pel_model.specs.Grammar.{Element, Dc, Tcoeff, slot, filled, AtDc, AtFirst, AtCoefficient, at_slot, rows, field_rows, first_rows, later_rows, faults, first_why, next}
 use Rattle.pel_model.proofs.Steps.{judge, next-at, judged-good, judged-bad, judged-none, field-good, field-cut}
 use Rattle.vlc_codes.proofs.CoefficientLaws.{same_number}
@@ -45,7 +45,7 @@ pub dc-good : (format : Format) (before : List Element) (r : List Bool × ℕ) (
 dc-good format before r n due fits is some other =
     next-at format before r AtDc due
     ∙ judged-good (judge format before) (Dc n) 8 (at_slot AtDc r.0) (dc-read r.0 n fits is)
-        (ap (λ (b : Bool). cond (b || n == 128) (Some BadDc) None) (is_other n 0 some) ∙ ap (λ (b : Bool). cond b (Some BadDc) None) (is_other n 128 other))
+    (ap (λ (b : Bool). cond (b || n == 128) (Some BadDc) None) (is_other n 0 some) ∙ ap (λ (b : Bool). cond b (Some BadDc) None) (is_other n 128 other))
 
 pub dc-bad : (format : Format) (before : List Element) (r : List Bool × ℕ) (n : ℕ) → slot before ≡ AtDc → 8 ≤ length r.0 → n ≡ bits.number (take 8 (r.0 ++ zeros 8)) → (n == 0 || n == 128) ≡ true → next format before r ≡ Bad BadDc
 dc-bad format before r n due fits is forbidden =

@@ -1,19 +1,20 @@
 -- A block as far as it was read.
-use Rattle.std.proofs.Common.{◌≡◌, ℕ, ◌+◌, ◌≤◌, ◌==◌, Bool, true, false, cond, List, [], ◌∷◌, ◌++◌, map, length, ℤ, Option, Some, None, is_some, Result, Ok, Err, refl, sym, ◌∙◌, ap, subst, arith, append_assoc, append-nil}
+use Rattle.std.proofs.Common.{◌≡◌, ℕ, ◌+◌, ◌<◌, ◌==◌, Bool, true, false, cond, List, [], ◌∷◌, ◌++◌, map, length, set, replicate, ℤ, pos, Some, None, is_some, refl, sym, ◌∙◌, ap, subst, arith, append_assoc}
 use Rattle.std.proofs.lemmas.Bool.{eqb-true}
 use Rattle.std.proofs.lemmas.List.{map_push}
 use Rattle.pel_model.specs.declared.Fault.{Fault}
 use Rattle.pel_model.specs.Records.{Coefficient, Block}
-use Rattle.pel_model.specs.Elements.{coefficient_elements, block_elements, dc_elements, sent_levels, levels}
-use Rattle.pel_model.specs.Walk.{Step, Good, Bad, skipped, after, Goes, Walked}
-use Rattle.pel_model.specs.Grammar.{Element, Dc, Tcoeff, Eob, Slot, slot, filled, AtDc, AtFirst, AtCoefficient}
-use Rattle.pel_model.proofs.Walks.{after-append, goes_more, goes_one, bad_here}
+use Rattle.pel_model.specs.Elements.{coefficient_elements, block_elements, dc_elements, dc_level, sent_levels, levels}
+use Rattle.pel_model.specs.Walk.{Step, Good, Bad, skipped, after, Goes}
+use Rattle.pel_model.specs.Grammar.{Element, Dc, Tcoeff, Eob, slot, filled, AtFirst, AtCoefficient}
+use Rattle.pel_model.proofs.Walks.{after-append, goes_more}
 use Rattle.vlc_codes.specs.declared.readers.CoefRow.{CoefRow}
 use Rattle.vlc_codes.specs.declared.readers.CoefRow.TheVariants.{Pair, Escape}
 use Rattle.vlc_codes.specs.declared.readers.CoefRow.TheVariants as row
 use Rattle.vlc_codes.specs.Rows.{coefficient_element}
 use Rattle.h261_block.specs.Rows.{run_and_level_of, filled_after}
 use Rattle.h261_block.proofs.BlockSteps.{first_is_empty}
+use Rattle.h261_block.proofs.LevelLaws.{with_one_more, length-sent-more, levels-more}
 
 -- the elements of a block without its end were read, and so many coefficients stand in it
 pub record SoFar (next : List Element → List Bool × ℕ → Step Element) (before : List Element) (intra : Bool) (old new : List Bool × ℕ) (count : ℕ) : Type 0 where
@@ -81,14 +82,14 @@ module _ (next : List Element → List Bool × ℕ → Step Element) (before : L
   -- one more coefficient
   pub more : (intra : Bool) (old mid new : List Bool × ℕ) (count : ℕ) (so_far : SoFar next before intra old mid count) (c : Coefficient) (n : ℕ) → next (after before (coefficient_elements so_far.block)) mid ≡ Good (Tcoeff c) n → new ≡ skipped n mid → SoFar next before intra old new (count + c.run + 1)
   more intra old mid new count so_far c n is moved =
-      let block : Block = record so_far.block { coefficients = so_far.block.coefficients ++ c ∷ [] } in
+      let block : Block = with_one_more so_far.block c in
       let had : List Element = coefficient_elements so_far.block in
       let now : coefficient_elements block ≡ had ++ Tcoeff c ∷ [] =
-          ap (λ (es : List Element). dc_elements so_far.block.dc ++ es) (map_push Tcoeff so_far.block.coefficients c)
-          ∙ sym (append_assoc (dc_elements so_far.block.dc) (map Tcoeff so_far.block.coefficients) (Tcoeff c ∷ [])) in
+      ap (λ (es : List Element). dc_elements so_far.block.dc ++ es) (map_push Tcoeff so_far.block.coefficients c)
+      ∙ sym (append_assoc (dc_elements so_far.block.dc) (map Tcoeff so_far.block.coefficients) (Tcoeff c ∷ [])) in
       let behind : after before (coefficient_elements block) ≡ Tcoeff c ∷ after before had = ap (after before) now ∙ after-append before had (Tcoeff c ∷ []) in
       let walk : Goes next before old (had ++ Tcoeff c ∷ []) new =
-          subst (λ (end : List Bool × ℕ). Goes next before old (had ++ Tcoeff c ∷ []) end) (sym moved) (goes_more next before old mid had (Tcoeff c) n so_far.walk is) in
+      subst (λ (end : List Bool × ℕ). Goes next before old (had ++ Tcoeff c ∷ []) end) (sym moved) (goes_more next before old mid had (Tcoeff c) n so_far.walk is) in
       record {
         block = block;
         kind = so_far.kind;
@@ -102,3 +103,21 @@ module _ (next : List Element → List Bool × ℕ → Step Element) (before : L
   whole_walk intra old mid new count so_far n is moved =
       subst (λ (end : List Bool × ℕ). Goes next before old (block_elements so_far.block) end) (sym moved)
       (goes_more next before old mid (coefficient_elements so_far.block) Eob n so_far.walk is)
+
+  -- ---- the same with the levels
+
+  pub no_levels : (old : List Bool × ℕ) → slot before ≡ AtFirst → LevelsSoFar next before false old old 0 (replicate 64 (pos 0))
+  unfolding none_yet
+  no_levels old due = record { so_far = none_yet old due; sent = refl; out_is = refl }
+
+  pub dc_level_only : (old new : List Bool × ℕ) (dc n : ℕ) (level : ℤ) → next before old ≡ Good (Dc dc) n → new ≡ skipped n old → level ≡ dc_level dc → LevelsSoFar next before true old new 1 (set (replicate 64 (pos 0)) 0 level)
+  unfolding dc_only
+  dc_level_only old new dc n level is moved level_is = record { so_far = dc_only old new dc n is moved; sent = refl; out_is = ap (λ (z : ℤ). z ∷ replicate 63 (pos 0)) level_is }
+
+  pub more_levels : (intra : Bool) (old mid new : List Bool × ℕ) (count place : ℕ) (out : List ℤ) (so_far : LevelsSoFar next before intra old mid count out) (c : Coefficient) (level : ℤ) (n : ℕ) → next (after before (coefficient_elements so_far.so_far.block)) mid ≡ Good (Tcoeff c) n → new ≡ skipped n mid → place ≡ count + c.run → place < 64 → level ≡ c.level → LevelsSoFar next before intra old new (count + c.run + 1) (set out place level)
+  unfolding more
+  more_levels intra old mid new count place out so_far c level n is moved at inside level_is = record {
+    so_far = more intra old mid new count so_far.so_far c n is moved;
+    sent = length-sent-more so_far.so_far.block c count so_far.sent;
+    out_is = ap (set out place) level_is ∙ levels-more so_far.so_far.block c count place out so_far.sent so_far.out_is at inside;
+  }

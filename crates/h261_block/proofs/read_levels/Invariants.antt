@@ -7,7 +7,7 @@ use Rattle.h261_block.proofs.read_levels.Given as goal
 abbrev pub invariant-loop-run : goal.invariant-loop-run
 invariant-loop-run l = record {
   within : l.filled ≤ 64;
-  so_far : (format : Format) (before : List Element) → slot before ≡ cond l.intra AtDc AtFirst → LevelsSoFar (next format) before l.intra l.fn.r l.r l.filled l.out
+  so_far : (format : Format) (before : List Element) → slot before ≡ cond l.intra AtDc AtFirst → LevelsSoFar (next format) before l.intra l.fn.r l.r l.filled l.out;
 }
 
 abbrev pub decreases-loop-run : goal.decreases-loop-run

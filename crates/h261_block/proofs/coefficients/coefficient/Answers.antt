@@ -1,4 +1,4 @@
-use Rattle.std.proofs.Common.{◌≡◌, ◌==◌, refl, sym, arith}
+use Rattle.std.proofs.Common.{◌==◌, refl, sym}
 use Rattle.vlc_codes.specs.Rows.{coefficient_element}
 use Rattle.h261_block.proofs.BlockSteps.{coefficient-good, coefficient-bad, coefficient-none}
 use Rattle.h261_block.proofs.coefficients.coefficient.Goals as goal

@@ -1,4 +1,4 @@
-use Rattle.std.proofs.Common.{◌≡◌, ℕ, ◌≤◌, ◌==◌, ◌||◌, Bool, true, ◌++◌, length, take, inl, inr, refl, arith, length-take}
+use Rattle.std.proofs.Common.{◌≤◌, ◌==◌, ◌++◌, length, take, inl, inr, refl, arith, length-take}
 use Rattle.std.proofs.lemmas.Bool.{eq-eqb}
 use Rattle.pel_bits.specs.Reading.{zeros}
 use Rattle.pel_bits.proofs.RunBits.{number-fits_in}
@@ -20,10 +20,10 @@ pub returns-then-value-eq0 : goal.returns-then-value-eq0
 returns-then-value-eq0 c = λ format before due.
     let n = c.peek-value.result in
     elim c.then-value-eq0.branch [
-        then-value-eq0-via-then-value-eq0 w ↦
-            (dc-bad format before c.args.r.now n due (omega arith) c.peek-value.ensures (or_true (n == 0) (n == 128) (inl (eq-eqb n 0 w.if-value-eq0.true))), c.place-place.ensures, refl)
-        | then-value-eq0-via-else-value-eq0+then-value w ↦
-            (dc-bad format before c.args.r.now n due (omega arith) c.peek-value.ensures (or_true (n == 0) (n == 128) (inr (eq-eqb n 128 w.if-value.true))), c.place-place.ensures, refl)
+      | then-value-eq0-via-then-value-eq0 w ↦
+          (dc-bad format before c.args.r.now n due (omega arith) c.peek-value.ensures (or_true (n == 0) (n == 128) (inl (eq-eqb n 0 w.if-value-eq0.true))), c.place-place.ensures, refl)
+      | then-value-eq0-via-else-value-eq0+then-value w ↦
+          (dc-bad format before c.args.r.now n due (omega arith) c.peek-value.ensures (or_true (n == 0) (n == 128) (inr (eq-eqb n 128 w.if-value.true))), c.place-place.ensures, refl)
     ]
 
 pub returns : goal.returns
