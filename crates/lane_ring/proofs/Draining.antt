@@ -46,6 +46,10 @@ head_is : {X : Type 0} (xs : List X) (x : X) → slice_get xs 0 ≡ Some x → x
 head_is [] x e = absurd (none_some x e)
 head_is (y ∷ ys) x e = let same : y ≡ x = cc in ap (λ v. v ∷ ys) same
 
+nothing_first : {X : Type 0} (xs : List X) → slice_get xs 0 ≡ None → xs ≡ []
+nothing_first [] e = refl
+nothing_first (x ∷ xs) e = absurd (none_some x (sym e))
+
 module _ {T : Type 0} where
   passed-no : (last : Option ℕ) (h : Held T) (hs : List (Held T)) → fits last h ≡ false → passed last (h ∷ hs) ≡ h.item ∷ passed last hs
   passed-no last h hs e = ap items_of (before_first-no (fits last) h hs e)
@@ -79,3 +83,18 @@ module _ {T : Type 0} where
           ∙ ap₂ (λ (xs : List T) (hs : List (Held T)). xs ++ passed last hs) (sym spares_is) (sym held_is);
         same_count = d.same_count
       }
+
+  -- what is left when an item is taken, and when none was left
+  pub rest_taken : (last : Option ℕ) (old : LaneView T) (a : Inside T) (h : Held T) (held : Buffer (Held T)) →
+      IsDraining last old a → slice_get a.held.items 0 ≡ Some h → held ≡ buffer (drop 1 a.held.items) a.held.capacity → fits last h ≡ true →
+      held.items ≡ after_first (fits last) old.held
+  rest_taken last old a h held d first popped fit =
+      ap (λ (b : Buffer (Held T)). b.items) popped
+      ∙ sym (d.same_rest ∙ ap (after_first (fits last)) (head_is a.held.items h first) ∙ after_first-yes (fits last) h (drop 1 a.held.items) fit)
+
+  pub rest_none : (last : Option ℕ) (old : LaneView T) (a : Inside T) (held : Buffer (Held T)) →
+      IsDraining last old a → slice_get a.held.items 0 ≡ None → held ≡ buffer (drop 1 a.held.items) a.held.capacity →
+      held.items ≡ after_first (fits last) old.held
+  rest_none last old a held d nothing popped =
+      let empty = nothing_first a.held.items nothing in
+      ap (λ (b : Buffer (Held T)). b.items) popped ∙ ap (drop 1) empty ∙ sym (d.same_rest ∙ ap (after_first (fits last)) empty)

@@ -2,3 +2,4 @@ pub mod Ring
 pub mod LaneFields
 pub mod Taking
 pub mod Draining
+pub mod Serials

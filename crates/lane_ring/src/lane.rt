@@ -1,6 +1,6 @@
 //! A lane over two rings: the held items and the spare ones, eight together.
 
-ghost use Rattle.std.specs.Prelude.{◌≡◌, ◌+◌, ◌^◌, ◌<◌, ◌==◌, [], ◌∷◌, ◌++◌, drop, length, slice_get, nat_lt, vec_len, IfOk, if◌then◌else◌};
+ghost use Rattle.std.specs.Prelude.{◌≡◌, ℕ, ◌+◌, ◌^◌, ◌<◌, ◌==◌, List, [], ◌∷◌, ◌++◌, drop, length, slice_get, nat_lt, vec_len, IfOk, if◌then◌else◌};
 ghost use Rattle.std.specs.List.{list_any, after_first};
 ghost use Rattle.circular_buffer.specs.Buffer.{buffer, keep_last};
 ghost use Rattle.lane_ring.specs.declared.lane.Held.{Held};
@@ -69,12 +69,14 @@ impl<T> Held<T> {
 
 impl<T: Drop> Lane<T> {
     ghost use Rattle.lane_ring.specs.Taking.{fits, taken, passed, items_of, left_by, in_slot, serial_of};
+    ghost use Rattle.lane_ring.specs.Serials.{Entry, Posted, Missed, HasEntries, low_after};
 
     /// A lane that holds nothing and has given no serial. The eight boxes become its spares. At want of memory they are
     /// dropped.
     pub fn reserve(alloc: Global, boxes: Vec<T>) -> Result<Lane<T>, NoMemory>
         requires { vec_len boxes ≡ 8 }
-        ensures { IfOk result (λ lane. lane ≡ record { held = []; spares = boxes.items; count = 0 }) }
+        ensures empty { IfOk result (λ lane. lane ≡ record { held = []; spares = boxes.items; count = 0 }) }
+        ensures entries { IfOk result (λ lane. HasEntries lane 0 []) }
     {
         let held = HeapCircularBuffer::with_capacity(alloc, ROOM)?;
         let mut spares = HeapCircularBuffer::with_capacity(alloc, ROOM)?;
@@ -108,6 +110,9 @@ impl<T: Drop> Lane<T> {
         ensures held { self.new.held ≡ self.old.held }
         ensures spares { self.new.spares ≡ self.old.spares }
         ensures count { self.new.count ≡ self.old.count + 1 }
+        ensures entries {
+            (low : ℕ) (es : List (Entry T)) → HasEntries self.old low es → HasEntries self.new low (es ++ Missed ∷ [])
+        }
     {
         self.count += 1;
     }
@@ -124,6 +129,9 @@ impl<T: Drop> Lane<T> {
         ensures given {
             Some result
                 ≡ (if nat_lt (length self.old.held) 8 then slice_get self.old.spares 0 else slice_get (items_of self.old.held) 0)
+        }
+        ensures entries {
+            (low : ℕ) (es : List (Entry T)) → HasEntries self.old low es → HasEntries self.new low (es ++ Posted refresh item ∷ [])
         }
     {
         self.count += 1;
@@ -153,6 +161,9 @@ impl<T: Drop> Lane<T> {
                 ≡ (self.old.spares ++ passed last self.old.held) ++ left_by (taken last self.old.held) slot.old
         }
         ensures count { self.new.count ≡ self.old.count }
+        ensures entries {
+            (low : ℕ) (es : List (Entry T)) → HasEntries self.old low es → HasEntries self.new (low_after last self.old.held low) es
+        }
     {
         while let Some(held) = self.held.pop_front() {
             if held.fits(last) {

@@ -3,5 +3,7 @@
 #![tactic(auto)]
 
 mod lane;
+mod laws;
 
 pub use lane::{Held, Lane};
+pub use laws::{gaps_hold_nothing, held_above_a_serial, posts_are_held, ticks_leave_the_rest};
