@@ -1,7 +1,7 @@
 -- One held item more that is passed, or taken.
-use Rattle.std.proofs.Common.{◌≡◌, ℕ, suc, ◌+◌, Bool, true, false, not, cond, Option, Some, None, List, [], ◌∷◌, ◌++◌, length, map, take, drop, find, slice_get, refl, sym, ap, ap₂, ◌∙◌, arith, append_assoc, length-append}
+use Rattle.std.proofs.Common.{◌≡◌, ℕ, suc, ◌+◌, Bool, true, false, Option, Some, None, List, [], ◌∷◌, ◌++◌, length, take, drop, find, slice_get, refl, sym, ap, ap₂, ◌∙◌, arith, append_assoc, length-append}
 use Rattle.std.proofs.lemmas.Bool.{false≢true}
-use Rattle.std.specs.List.{before_first, after_first, position_or_len, prefix_len}
+use Rattle.std.specs.List.{before_first, after_first, position_or_len}
 use Rattle.circular_buffer.specs.Buffer.{Buffer, buffer}
 use Rattle.lane_ring.specs.declared.lane.Held.{Held}
 use Rattle.lane_ring.specs.declared.lane.Lane.TheInside.{Inside}
@@ -65,23 +65,23 @@ module _ {T : Type 0} where
       let held_is : held.items ≡ rest = ap (λ (b : Buffer (Held T)). b.items) popped in
       let spares_is : spares.items ≡ a.spares.items ++ h.item ∷ [] = ap (λ (b : Buffer T). b.items) kept in
       let eight : length rest + length (a.spares.items ++ h.item ∷ []) ≡ 8 =
-          omega (arith, d.lane.eight, ap length whole, length-append a.spares.items (h.item ∷ [])) in
+      omega (arith, d.lane.eight, ap length whole, length-append a.spares.items (h.item ∷ [])) in
       record {
         lane = record {
           held_room = ap (λ (b : Buffer (Held T)). b.capacity) popped ∙ d.lane.held_room;
           spare_room = ap (λ (b : Buffer T). b.capacity) kept ∙ d.lane.spare_room;
-          eight = ap₂ (λ (m n : ℕ). m + n) (ap length held_is) (ap length spares_is) ∙ eight
+          eight = ap₂ (λ (m n : ℕ). m + n) (ap length held_is) (ap length spares_is) ∙ eight;
         };
         same_taken = d.same_taken ∙ ap (taken last) whole ∙ find-no (fits last) h rest unfit ∙ ap (taken last) (sym held_is);
         same_rest =
-          d.same_rest ∙ ap (after_first (fits last)) whole ∙ after_first-no (fits last) h rest unfit
-          ∙ ap (after_first (fits last)) (sym held_is);
+            d.same_rest ∙ ap (after_first (fits last)) whole ∙ after_first-no (fits last) h rest unfit
+            ∙ ap (after_first (fits last)) (sym held_is);
         passes =
-          d.passes ∙ ap (λ hs. a.spares.items ++ passed last hs) whole
-          ∙ ap (λ ts. a.spares.items ++ ts) (passed-no last h rest unfit)
-          ∙ sym (append_assoc a.spares.items (h.item ∷ []) (passed last rest))
-          ∙ ap₂ (λ (xs : List T) (hs : List (Held T)). xs ++ passed last hs) (sym spares_is) (sym held_is);
-        same_count = d.same_count
+            d.passes ∙ ap (λ hs. a.spares.items ++ passed last hs) whole
+            ∙ ap (λ ts. a.spares.items ++ ts) (passed-no last h rest unfit)
+            ∙ sym (append_assoc a.spares.items (h.item ∷ []) (passed last rest))
+            ∙ ap₂ (λ (xs : List T) (hs : List (Held T)). xs ++ passed last hs) (sym spares_is) (sym held_is);
+        same_count = d.same_count;
       }
 
   -- what is left when an item is taken, and when none was left

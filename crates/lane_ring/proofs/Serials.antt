@@ -1,15 +1,14 @@
 -- Rising serials, and what the last eight of them are.
-use Rattle.std.proofs.Common.{◌≡◌, ℕ, zero, suc, ◌+◌, ◌-◌, ◌<◌, ◌≤◌, nat_lt, nat_le, Bool, true, false, not, ◌&&◌, cond, Option, Some, None, List, [], ◌∷◌, ◌++◌, length, filter, find, drop, refl, sym, ap, ap₂, subst, ◌∙◌, arith, length-append, length-drop}
+use Rattle.std.proofs.Common.{◌≡◌, ℕ, zero, suc, ◌+◌, ◌-◌, ◌<◌, ◌≤◌, nat_le, Bool, true, false, cond, Option, Some, None, List, [], ◌∷◌, ◌++◌, length, filter, find, drop, refl, sym, ap, ap₂, subst, ◌∙◌, arith, length-append}
 use Rattle.std.specs.List.{after_first}
-use Rattle.std.proofs.lemmas.Bool.{false≢true}
 use Rattle.std.proofs.lemmas.Bool.Decides.{nat_tests}
 use Rattle.std.proofs.lemmas.List.Elements.{filter-append}
 use Rattle.circular_buffer.specs.Buffer.{Buffer, buffer, keep_last}
 use Rattle.lane_ring.specs.declared.lane.Held.{Held}
-use Rattle.lane_ring.specs.Taking.{fits, taken}
-use Rattle.lane_ring.specs.Serials.{Entry, Posted, Missed, numbered, is_above, held_above, last_serial, low_by, low_after, PostLaw, GapLaw, AboveLaw, TickLaw, HasEntries}
+use Rattle.lane_ring.specs.Taking.{fits}
+use Rattle.lane_ring.specs.Serials.{Entry, Posted, Missed, numbered, is_above, held_above, low_by, low_after, PostLaw, GapLaw, AboveLaw, TickLaw, HasEntries}
 use Rattle.lane_ring.specs.Ring.{LaneView}
-use Rattle.lane_ring.proofs.Draining.{find-no, find-yes, after_first-no, after_first-yes}
+use Rattle.lane_ring.proofs.Draining.{after_first-no, after_first-yes}
 
 module _ {X : Type 0} where
   pub keep_last-short : (k : ℕ) (xs : List X) → length xs ≤ k → keep_last k xs ≡ xs
@@ -23,15 +22,15 @@ module _ {X : Type 0} where
   keep_last-append k [] x = ap (λ zs. keep_last k (zs ++ x ∷ [])) (sym (keep_last-short k [] (omega arith)))
   keep_last-append k (y ∷ ys) x =
       elim (nat_le (length (y ∷ ys)) k) as (λ v. nat_le (length (y ∷ ys)) k ≡ v →
-          keep_last k ((y ∷ ys) ++ x ∷ []) ≡ keep_last k (keep_last k (y ∷ ys) ++ x ∷ [])) [
-        true ↦ λ e.
-          let short : length (y ∷ ys) ≤ k = grind (arith, nat_tests) in
-          ap (λ zs. keep_last k (zs ++ x ∷ [])) (sym (keep_last-short k (y ∷ ys) short))
-      | false ↦ λ e.
-          let long : k ≤ length ys = grind (arith, nat_tests) in
-          keep_last-cons k y (ys ++ x ∷ []) (omega (arith, length-append ys (x ∷ [])))
-          ∙ keep_last-append k ys x
-          ∙ ap (λ zs. keep_last k (zs ++ x ∷ [])) (sym (keep_last-cons k y ys long))
+      keep_last k ((y ∷ ys) ++ x ∷ []) ≡ keep_last k (keep_last k (y ∷ ys) ++ x ∷ [])) [
+        | true ↦ λ e.
+            let short : length (y ∷ ys) ≤ k = grind (arith, nat_tests) in
+            ap (λ zs. keep_last k (zs ++ x ∷ [])) (sym (keep_last-short k (y ∷ ys) short))
+        | false ↦ λ e.
+            let long : k ≤ length ys = grind (arith, nat_tests) in
+            keep_last-cons k y (ys ++ x ∷ []) (omega (arith, length-append ys (x ∷ [])))
+            ∙ keep_last-append k ys x
+            ∙ ap (λ zs. keep_last k (zs ++ x ∷ [])) (sym (keep_last-cons k y ys long))
       ] refl
 
 module _ {T : Type 0} where
@@ -58,8 +57,8 @@ module _ {T : Type 0} where
   rises-filter p lo [] r = tt
   rises-filter p lo (x ∷ xs) r =
       elim (p x) as (λ v. Rises lo (cond v (x ∷ filter p xs) (filter p xs))) [
-        true ↦ (r.0, rises-filter p x.serial xs r.1)
-      | false ↦ rises-lower lo x.serial (filter p xs) (omega (arith, r.0)) (rises-filter p x.serial xs r.1)
+        | true ↦ (r.0, rises-filter p x.serial xs r.1)
+        | false ↦ rises-lower lo x.serial (filter p xs) (omega (arith, r.0)) (rises-filter p x.serial xs r.1)
       ]
 
   -- what is above low rises from low on
@@ -67,8 +66,8 @@ module _ {T : Type 0} where
   rises-above low lo [] r = tt
   rises-above low lo (x ∷ xs) r =
       elim (is_above low x) as (λ v. is_above low x ≡ v → Rises low (cond v (x ∷ filter (is_above low) xs) (filter (is_above low) xs))) [
-        true ↦ λ e. (grind (arith, nat_tests), rises-filter (is_above low) x.serial xs r.1)
-      | false ↦ λ e. rises-above low x.serial xs r.1
+        | true ↦ λ e. (grind (arith, nat_tests), rises-filter (is_above low) x.serial xs r.1)
+        | false ↦ λ e. rises-above low x.serial xs r.1
       ] refl
 
   rises-drop : (n lo : ℕ) (xs : List (Held T)) → Rises lo xs → Rises lo (drop n xs)
@@ -89,8 +88,8 @@ module _ {T : Type 0} where
   at_most-filter p m [] h = tt
   at_most-filter p m (x ∷ xs) h =
       elim (p x) as (λ v. AtMost m (cond v (x ∷ filter p xs) (filter p xs))) [
-        true ↦ (h.0, at_most-filter p m xs h.1)
-      | false ↦ at_most-filter p m xs h.1
+        | true ↦ (h.0, at_most-filter p m xs h.1)
+        | false ↦ at_most-filter p m xs h.1
       ]
 
   at_most-drop : (n m : ℕ) (xs : List (Held T)) → AtMost m xs → AtMost m (drop n xs)
@@ -113,19 +112,19 @@ module _ {T : Type 0} where
   above-above low high [] under = refl
   above-above low high (x ∷ xs) under =
       elim (is_above low x) as (λ v. is_above low x ≡ v →
-          filter (is_above high) (cond v (x ∷ filter (is_above low) xs) (filter (is_above low) xs)) ≡ cond (is_above high x) (x ∷ filter (is_above high) xs) (filter (is_above high) xs)) [
-        true ↦ λ e. ap (λ ys. cond (is_above high x) (x ∷ ys) ys) (above-above low high xs under)
-      | false ↦ λ e.
-          let under_high : is_above high x ≡ false = grind (arith, nat_tests) in
-          rw under_high (above-above low high xs under)
+      filter (is_above high) (cond v (x ∷ filter (is_above low) xs) (filter (is_above low) xs)) ≡ cond (is_above high x) (x ∷ filter (is_above high) xs) (filter (is_above high) xs)) [
+        | true ↦ λ e. ap (λ ys. cond (is_above high x) (x ∷ ys) ys) (above-above low high xs under)
+        | false ↦ λ e.
+            let under_high : is_above high x ≡ false = grind (arith, nat_tests) in
+            rw under_high (above-above low high xs under)
       ] refl
 
   length-filter-le : (p : Held T → Bool) (xs : List (Held T)) → length (filter p xs) ≤ length xs
   length-filter-le p [] = omega arith
   length-filter-le p (x ∷ xs) =
       elim (p x) as (λ v. length (cond v (x ∷ filter p xs) (filter p xs)) ≤ length (x ∷ xs)) [
-        true ↦ omega (arith, length-filter-le p xs)
-      | false ↦ omega (arith, length-filter-le p xs)
+        | true ↦ omega (arith, length-filter-le p xs)
+        | false ↦ omega (arith, length-filter-le p xs)
       ]
 
   -- the first of a list of more than k matters not for the last k
@@ -133,11 +132,11 @@ module _ {T : Type 0} where
       keep_last k (filter (is_above n) xs) ≡ keep_last k (filter (is_above n) (x ∷ xs))
   kept_first k n x xs r long =
       elim (is_above n x) as (λ v. is_above n x ≡ v → keep_last k (filter (is_above n) xs) ≡ keep_last k (cond v (x ∷ filter (is_above n) xs) (filter (is_above n) xs))) [
-        true ↦ λ e.
-          let all = above-all n x.serial xs (grind (arith, nat_tests)) r in
-          let long' : k ≤ length (filter (is_above n) xs) = omega (arith, ap length all) in
-          sym (keep_last-cons k x (filter (is_above n) xs) long')
-      | false ↦ λ e. refl
+        | true ↦ λ e.
+            let all = above-all n x.serial xs (grind (arith, nat_tests)) r in
+            let long' : k ≤ length (filter (is_above n) xs) = omega (arith, ap length all) in
+            sym (keep_last-cons k x (filter (is_above n) xs) long')
+        | false ↦ λ e. refl
       ] refl
 
   -- the last ones above n are those above n of the last ones
@@ -146,16 +145,16 @@ module _ {T : Type 0} where
       let nothing : keep_last k [] ≡ [] = keep_last-short k [] (omega arith) in ap (filter (is_above n)) nothing ∙ sym nothing
   above-keep_last k n lo (x ∷ xs) r =
       elim (nat_le (length (x ∷ xs)) k) as (λ v. nat_le (length (x ∷ xs)) k ≡ v →
-          filter (is_above n) (keep_last k (x ∷ xs)) ≡ keep_last k (filter (is_above n) (x ∷ xs))) [
-        true ↦ λ e.
-          let short : length (x ∷ xs) ≤ k = grind (arith, nat_tests) in
-          ap (filter (is_above n)) (keep_last-short k (x ∷ xs) short)
-          ∙ sym (keep_last-short k (filter (is_above n) (x ∷ xs)) (omega (arith, length-filter-le (is_above n) (x ∷ xs))))
-      | false ↦ λ e.
-          let long : k ≤ length xs = grind (arith, nat_tests) in
-          ap (filter (is_above n)) (keep_last-cons k x xs long)
-          ∙ above-keep_last k n x.serial xs r.1
-          ∙ kept_first k n x xs r.1 long
+      filter (is_above n) (keep_last k (x ∷ xs)) ≡ keep_last k (filter (is_above n) (x ∷ xs))) [
+        | true ↦ λ e.
+            let short : length (x ∷ xs) ≤ k = grind (arith, nat_tests) in
+            ap (filter (is_above n)) (keep_last-short k (x ∷ xs) short)
+            ∙ sym (keep_last-short k (filter (is_above n) (x ∷ xs)) (omega (arith, length-filter-le (is_above n) (x ∷ xs))))
+        | false ↦ λ e.
+            let long : k ≤ length xs = grind (arith, nat_tests) in
+            ap (filter (is_above n)) (keep_last-cons k x xs long)
+            ∙ above-keep_last k n x.serial xs r.1
+            ∙ kept_first k n x xs r.1 long
       ] refl
 
   pub above_law : AboveLaw T
@@ -200,16 +199,16 @@ module _ {T : Type 0} where
   low_by-le p lo [] r = omega arith
   low_by-le p lo (x ∷ xs) r =
       elim (p x) as (λ v. lo ≤ low_by (cond v (Some x) (find p xs)) (x ∷ xs) lo) [
-        true ↦ omega (arith, r.0)
-      | false ↦ omega (arith, r.0, low_by-le p x.serial xs r.1, low_by-later (find p xs) x xs lo)
+        | true ↦ omega (arith, r.0)
+        | false ↦ omega (arith, r.0, low_by-le p x.serial xs r.1, low_by-later (find p xs) x xs lo)
       ]
 
   low_by-at_most : (p : Held T → Bool) (m lo : ℕ) (xs : List (Held T)) → lo ≤ m → AtMost m xs → low_by (find p xs) xs lo ≤ m
   low_by-at_most p m lo [] under h = under
   low_by-at_most p m lo (x ∷ xs) under h =
       elim (p x) as (λ v. low_by (cond v (Some x) (find p xs)) (x ∷ xs) lo ≤ m) [
-        true ↦ h.0
-      | false ↦ omega (arith, low_by-at_most p m x.serial xs h.0 h.1, low_by-later (find p xs) x xs lo)
+        | true ↦ h.0
+        | false ↦ omega (arith, low_by-at_most p m x.serial xs h.0 h.1, low_by-later (find p xs) x xs lo)
       ]
 
   -- what stands behind the first that passes is what is above it; where none passes, nothing is above the last
@@ -217,27 +216,27 @@ module _ {T : Type 0} where
   after_first-above p lo [] r = refl
   after_first-above p lo (x ∷ xs) r =
       elim (p x) as (λ v. p x ≡ v → after_first p (x ∷ xs) ≡ filter (is_above (low_by (cond v (Some x) (find p xs)) (x ∷ xs) lo)) (x ∷ xs)) [
-        true ↦ λ e.
-          let own : is_above x.serial x ≡ false = grind (arith, nat_tests) in
-          after_first-yes p x xs e
-          ∙ sym (above-all x.serial x.serial xs (omega arith) r.1)
-          ∙ ap (λ b. cond b (x ∷ filter (is_above x.serial) xs) (filter (is_above x.serial) xs)) (sym own)
-      | false ↦ λ e.
-          let low = low_by (find p xs) xs x.serial in
-          let under : is_above low x ≡ false = grind (arith, nat_tests, low_by-le p x.serial xs r.1) in
-          after_first-no p x xs e
-          ∙ after_first-above p x.serial xs r.1
-          ∙ ap (λ b. cond b (x ∷ filter (is_above low) xs) (filter (is_above low) xs)) (sym under)
-          ∙ ap (λ n. filter (is_above n) (x ∷ xs)) (sym (low_by-later (find p xs) x xs lo))
+        | true ↦ λ e.
+            let own : is_above x.serial x ≡ false = grind (arith, nat_tests) in
+            after_first-yes p x xs e
+            ∙ sym (above-all x.serial x.serial xs (omega arith) r.1)
+            ∙ ap (λ b. cond b (x ∷ filter (is_above x.serial) xs) (filter (is_above x.serial) xs)) (sym own)
+        | false ↦ λ e.
+            let low = low_by (find p xs) xs x.serial in
+            let under : is_above low x ≡ false = grind (arith, nat_tests, low_by-le p x.serial xs r.1) in
+            after_first-no p x xs e
+            ∙ after_first-above p x.serial xs r.1
+            ∙ ap (λ b. cond b (x ∷ filter (is_above low) xs) (filter (is_above low) xs)) (sym under)
+            ∙ ap (λ n. filter (is_above n) (x ∷ xs)) (sym (low_by-later (find p xs) x xs lo))
       ] refl
 
   pub tick_law : TickLaw T
   tick_law = record {
     rest = λ last low es.
-      after_first-above (fits last) low (held_above low es) (rises-held low es)
-      ∙ sym (above_law low (low_after last (held_above low es) low) es (low_by-le (fits last) low (held_above low es) (rises-held low es)));
+        after_first-above (fits last) low (held_above low es) (rises-held low es)
+        ∙ sym (above_law low (low_after last (held_above low es) low) es (low_by-le (fits last) low (held_above low es) (rises-held low es)));
     rises = λ last low es. low_by-le (fits last) low (held_above low es) (rises-held low es);
-    known = λ last low es under. low_by-at_most (fits last) (length es) low (held_above low es) under (at_most-held low es)
+    known = λ last low es under. low_by-at_most (fits last) (length es) low (held_above low es) under (at_most-held low es);
   }
 
   -- a lane after a post, a gap and a tick
@@ -247,11 +246,11 @@ module _ {T : Type 0} where
   unfolding one_held
   entries-post old ring spares room low es refresh x held eight h = record {
     held = ap (λ (b : Buffer (Held T)). b.items) held
-      ∙ ap (λ k. keep_last k (old.held ++ one_held (old.count + 1) refresh x ∷ [])) eight
-      ∙ ap₂ (λ (hs : List (Held T)) (n : ℕ). keep_last 8 (hs ++ one_held (n + 1) refresh x ∷ [])) h.held h.count
-      ∙ sym (post_law low es refresh x h.known);
+        ∙ ap (λ k. keep_last k (old.held ++ one_held (old.count + 1) refresh x ∷ [])) eight
+        ∙ ap₂ (λ (hs : List (Held T)) (n : ℕ). keep_last 8 (hs ++ one_held (n + 1) refresh x ∷ [])) h.held h.count
+        ∙ sym (post_law low es refresh x h.known);
     count = omega (arith, h.count, length-append es (Posted refresh x ∷ []));
-    known = omega (arith, h.known, length-append es (Posted refresh x ∷ []))
+    known = omega (arith, h.known, length-append es (Posted refresh x ∷ []));
   }
 
   pub entries-gap : (old new : LaneView T) (low : ℕ) (es : List (Entry T)) → new.held ≡ old.held → new.count ≡ old.count + 1 →
@@ -259,7 +258,7 @@ module _ {T : Type 0} where
   entries-gap old new low es held count h = record {
     held = held ∙ h.held ∙ sym (gap_law low es);
     count = omega (arith, count, h.count, length-append es (Missed ∷ []));
-    known = omega (arith, h.known, length-append es (Missed ∷ []))
+    known = omega (arith, h.known, length-append es (Missed ∷ []));
   }
 
   pub entries-tick : (old new : LaneView T) (low : ℕ) (es : List (Entry T)) (last : Option ℕ) → new.held ≡ after_first (fits last) old.held →
@@ -268,5 +267,5 @@ module _ {T : Type 0} where
       subst (λ hs. HasEntries new (low_after last hs low) es) (sym h.held) (record {
         held = held ∙ ap (after_first (fits last)) h.held ∙ tick_law.rest last low es;
         count = count ∙ h.count;
-        known = tick_law.known last low es h.known
+        known = tick_law.known last low es h.known;
       })

@@ -1,5 +1,5 @@
 -- A lane whose held items are gone through, the oldest first: those before the present ones were passed.
-use Rattle.std.specs.Prelude.{◌≡◌, ℕ, ◌+◌, Option, List, ◌++◌, length}
+use Rattle.std.specs.Prelude.{◌≡◌, ℕ, Option, ◌++◌}
 use Rattle.std.specs.List.{after_first}
 use Rattle.lane_ring.specs.declared.lane.Lane.TheInside.{Inside}
 use Rattle.lane_ring.specs.Ring.{LaneView}

@@ -63,8 +63,8 @@ AboveLaw T = (low high : ℕ) (es : List (Entry T)) → low ≤ high → held_ab
 -- a tick leaves what is held above the serials that it took or passed
 pub record TickLaw (T : Type 0) : Type 0 where
   pub rest :
-    (last : Option ℕ) (low : ℕ) (es : List (Entry T)) →
-    after_first (fits last) (held_above low es) ≡ held_above (low_after last (held_above low es) low) es
+      (last : Option ℕ) (low : ℕ) (es : List (Entry T)) →
+      after_first (fits last) (held_above low es) ≡ held_above (low_after last (held_above low es) low) es
   pub rises : (last : Option ℕ) (low : ℕ) (es : List (Entry T)) → low ≤ low_after last (held_above low es) low
   pub known :
-    (last : Option ℕ) (low : ℕ) (es : List (Entry T)) → low ≤ length es → low_after last (held_above low es) low ≤ length es
+      (last : Option ℕ) (low : ℕ) (es : List (Entry T)) → low ≤ length es → low_after last (held_above low es) low ≤ length es

@@ -1,6 +1,6 @@
 -- Which of a lane's held items a tick takes.
-use Rattle.std.specs.Prelude.{ℕ, ◌+◌, ◌==◌, Bool, false, ◌||◌, Option, Some, None, List, [], ◌∷◌, ◌++◌, map, find, option_map, unwrap_or, is_some, if◌then◌else◌}
-use Rattle.std.specs.List.{before_first, after_first}
+use Rattle.std.specs.Prelude.{ℕ, ◌+◌, ◌==◌, Bool, false, ◌||◌, Option, Some, None, List, [], ◌∷◌, map, find}
+use Rattle.std.specs.List.{before_first}
 use Rattle.lane_ring.specs.declared.lane.Held.{Held}
 
 -- the serial is the one after the last

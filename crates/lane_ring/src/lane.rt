@@ -110,9 +110,7 @@ impl<T: Drop> Lane<T> {
         ensures held { self.new.held ≡ self.old.held }
         ensures spares { self.new.spares ≡ self.old.spares }
         ensures count { self.new.count ≡ self.old.count + 1 }
-        ensures entries {
-            (low : ℕ) (es : List (Entry T)) → HasEntries self.old low es → HasEntries self.new low (es ++ Missed ∷ [])
-        }
+        ensures entries { (low : ℕ) (es : List (Entry T)) → HasEntries self.old low es → HasEntries self.new low (es ++ Missed ∷ []) }
     {
         self.count += 1;
     }
@@ -120,23 +118,18 @@ impl<T: Drop> Lane<T> {
     /// Holds an item under the next serial. Gives a spare, or the oldest held item where eight were held.
     pub fn post(&mut self, item: T, refresh: bool) -> T
         requires { self.old.count < 2 ^ 62 }
-        ensures held {
-            self.new.held
-                ≡ keep_last 8 (self.old.held ++ record { serial = self.old.count + 1; refresh = refresh; item = item } ∷ [])
-        }
+        ensures held { self.new.held
+            ≡ keep_last 8 (self.old.held ++ record { serial = self.old.count + 1; refresh = refresh; item = item } ∷ []) }
         ensures count { self.new.count ≡ self.old.count + 1 }
         ensures spares { self.new.spares ≡ (if nat_lt (length self.old.held) 8 then drop 1 self.old.spares else self.old.spares) }
-        ensures given {
-            Some result
-                ≡ (if nat_lt (length self.old.held) 8 then slice_get self.old.spares 0 else slice_get (items_of self.old.held) 0)
-        }
-        ensures entries {
-            (low : ℕ) (es : List (Entry T)) → HasEntries self.old low es → HasEntries self.new low (es ++ Posted refresh item ∷ [])
-        }
+        ensures given { Some result
+            ≡ (if nat_lt (length self.old.held) 8 then slice_get self.old.spares 0 else slice_get (items_of self.old.held) 0) }
+        ensures entries { (low : ℕ) (es : List (Entry T)) → HasEntries self.old low es → HasEntries self.new low (es ++ Posted refresh item ∷ []) }
     {
-        self.count += 1;
+        let serial = self.count + 1;
+        self.count = serial;
         let held = Held {
-            serial: self.count,
+            serial,
             refresh,
             item,
         };
@@ -156,14 +149,10 @@ impl<T: Drop> Lane<T> {
         ensures serial { result ≡ serial_of (taken last self.old.held) }
         ensures held { self.new.held ≡ after_first (fits last) self.old.held }
         ensures slot { slot.new ≡ in_slot (taken last self.old.held) slot.old }
-        ensures spares {
-            self.new.spares
-                ≡ (self.old.spares ++ passed last self.old.held) ++ left_by (taken last self.old.held) slot.old
-        }
+        ensures spares { self.new.spares
+            ≡ (self.old.spares ++ passed last self.old.held) ++ left_by (taken last self.old.held) slot.old }
         ensures count { self.new.count ≡ self.old.count }
-        ensures entries {
-            (low : ℕ) (es : List (Entry T)) → HasEntries self.old low es → HasEntries self.new (low_after last self.old.held low) es
-        }
+        ensures entries { (low : ℕ) (es : List (Entry T)) → HasEntries self.old low es → HasEntries self.new (low_after last self.old.held low) es }
     {
         while let Some(held) = self.held.pop_front() {
             if held.fits(last) {

@@ -4,6 +4,8 @@
 
 mod lane;
 mod laws;
+#[cfg(test)]
+mod tests;
 
 pub use lane::{Held, Lane};
 pub use laws::{gaps_hold_nothing, held_above_a_serial, posts_are_held, ticks_leave_the_rest};

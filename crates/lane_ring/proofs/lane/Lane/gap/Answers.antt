@@ -8,4 +8,4 @@ use Rattle.lane_ring.proofs.lane.Lane.gap.Goals as goal
 pub returns-clause-entries : goal.returns-clause-entries
 returns-clause-entries g c low es h =
     entries-gap (view_of c.self.inside) _ low es refl refl
-      (subst (λ (v : LaneView g.row.T.Denot). HasEntries v low es) (sym c.self.view_is) h)
+    (subst (λ (v : LaneView g.row.T.Denot). HasEntries v low es) (sym c.self.view_is) h)

@@ -7,22 +7,22 @@ pub loop-held-preserved : goal.loop-held-preserved
 loop-held-preserved g c = (
   c.loop-held.invariant.0,
   draining_more c.args.last c.args.self.now c.loop-held.self-inside c.in-Some.held _ _ c.loop-held.invariant.1
-    (sym c.pop_front.ensures.value ∙ c.in-Some.is) c.pop_front.ensures.items c.keep-in-Some.ensures
-    (sym c.fits.ensures ∙ c.if-fits.false)
+      (sym c.pop_front.ensures.value ∙ c.in-Some.is) c.pop_front.ensures.items c.keep-in-Some.ensures
+      (sym c.fits.ensures ∙ c.if-fits.false),
 )
 
 pub returns-then-fits-clause-entries : goal.returns-then-fits-clause-entries
 returns-then-fits-clause-entries g c low es h =
     let draining = c.loop-held.invariant.1 in
     entries-tick c.args.self.now _ low es c.args.last
-      (rest_taken c.args.last c.args.self.now c.loop-held.self-inside c.in-Some.held c.pop_front.new.self draining
-        (sym c.pop_front.ensures.value ∙ c.in-Some.is) c.pop_front.ensures.items (sym c.fits.ensures ∙ c.if-fits.true))
-      (sym draining.same_count) h
+    (rest_taken c.args.last c.args.self.now c.loop-held.self-inside c.in-Some.held c.pop_front.new.self draining
+    (sym c.pop_front.ensures.value ∙ c.in-Some.is) c.pop_front.ensures.items (sym c.fits.ensures ∙ c.if-fits.true))
+    (sym draining.same_count) h
 
 pub returns-clause-entries : goal.returns-clause-entries
 returns-clause-entries g c low es h =
     let draining = c.loop-held.invariant.1 in
     entries-tick c.args.self.now _ low es c.args.last
-      (rest_none c.args.last c.args.self.now c.loop-held.self-inside c.pop_front.new.self draining
-        (sym c.pop_front.ensures.value ∙ c.in_default.is) c.pop_front.ensures.items)
-      (sym draining.same_count) h
+    (rest_none c.args.last c.args.self.now c.loop-held.self-inside c.pop_front.new.self draining
+    (sym c.pop_front.ensures.value ∙ c.in_default.is) c.pop_front.ensures.items)
+    (sym draining.same_count) h
