@@ -10,6 +10,8 @@ mod tests;
 
 pub use chair_words::Command;
 pub use four::Four;
-pub use laws::{one_place_for_a_lane, refusals_change_nothing, standing_lanes_exist};
+pub use laws::{
+    one_place_for_a_lane, refusals_change_nothing, speakers_stand, standing_lanes_exist,
+};
 pub use pel_model::{Quad, Reply};
 pub use plan::Plan;
