@@ -188,30 +188,36 @@ four_is {A} f x one two three four =
     ap₂ (λ (p q : A × A). (let g : Four A = record { one = p.0; two = p.1; three = q.0; four = q.1 } in g))
     (ap₂ (λ (a b : A). (a, b)) one two) (ap₂ (λ (a b : A). (a, b)) three four)
 
+-- a plan that stands for commands has the stage that they leave
+has_of : (plan : PlanView) (commands : List Command) → StandsFor plan commands → HasStage plan (stage plan.lanes commands)
+has_of plan commands h = record { seats = h.seats; pins = h.pins; order = h.order }
+
 -- the plan after a command
 module _ (command : Command) (old mid : PlanView) (reply : Reply) (marks : Four Bool) (obeys : Obeys command old mid reply)
     (marked : (q : Quad) → in_place marks q ≡ not (is_same_lane (lane_in mid q) (lane_in old q))) where
   pub stands_after : (commands : List Command) → StandsFor old commands → StandsFor (record mid { changes = marks }) (command ∷ commands)
   stands_after commands h =
       let s = stage old.lanes commands in
-      let same = stage_is old s h.has in
+      let same = stage_is old s (has_of old commands h) in
       let carried : HasStage mid (stage old.lanes (command ∷ commands)) =
-      subst (λ t. HasStage mid (ordered old.lanes t command)) (sym same) (obeys.carried s.speakers h.has.order) in
+      subst (λ t. HasStage mid (ordered old.lanes t command)) (sym same) (obeys.carried s.speakers h.order) in
       let has : HasStage mid (stage mid.lanes (command ∷ commands)) =
       subst (λ n. HasStage mid (stage n (command ∷ commands))) (sym obeys.lanes) carried in
       record {
-        has = record { seats = has.seats; pins = has.pins; order = has.order };
+        seats = has.seats;
+        pins = has.pins;
+        order = has.order;
         changes = λ q.
             marked q
             ∙ ap₂ (λ (a b : Option ℕ). not (is_same_lane a b)) (has.seats q)
-            (h.has.seats q ∙ ap (λ n. (stage n commands).lane_in q) (sym obeys.lanes));
+            (h.seats q ∙ ap (λ n. (stage n commands).lane_in q) (sym obeys.lanes));
       }
 
   pub reply_is : (commands : List Command) → StandsFor old commands → reply ≡ answer old.lanes commands command
   reply_is commands h =
       let s = stage old.lanes commands in
-      obeys.answered s.speakers h.has.order
-      ∙ ap (λ t. answer_at old.lanes t command) (sym (stage_is old s h.has))
+      obeys.answered s.speakers h.order
+      ∙ ap (λ t. answer_at old.lanes t command) (sym (stage_is old s (has_of old commands h)))
 
   pub refused_after : is_done reply ≡ false → IsUnmoved old (record mid { changes = marks }) × (marks ≡ in_all false)
   refused_after refused =

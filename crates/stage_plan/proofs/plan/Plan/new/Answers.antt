@@ -15,10 +15,8 @@ invariant_of-result c = record {
 
 pub returns-clause-stands : goal.returns-clause-stands
 returns-clause-stands c = record {
-  has = record {
-    seats = λ q. ap (λ (f : Four (Option ℕ)). in_place f q) c.all.ensures ∙ in_place-in_all None q;
-    pins = λ q. ap (λ (f : Four Bool). in_place f q) c.all-2.ensures ∙ in_place-in_all false q;
-    order = order-none;
-  };
+  seats = λ q. ap (λ (f : Four (Option ℕ)). in_place f q) c.all.ensures ∙ in_place-in_all None q;
+  pins = λ q. ap (λ (f : Four Bool). in_place f q) c.all-2.ensures ∙ in_place-in_all false q;
+  order = order-none;
   changes = λ q. ap (λ (f : Four Bool). in_place f q) c.all-3.ensures ∙ in_place-in_all false q;
 }
