@@ -5,7 +5,7 @@ use Rattle.std.specs.List.{list_any, list_all}
 use Rattle.std.proofs.lemmas.Bool.{false≢true}
 use Rattle.std.proofs.lemmas.Bool.Decides.{nat_tests}
 use Rattle.pel_model.specs.declared.Quad.{Quad}
-use Rattle.pel_model.specs.declared.Quad.TheVariants.{One, Two, Three, Four as Fourth}
+use Rattle.pel_model.specs.declared.Quad.TheVariants.{One, Two, Three, Four}
 use Rattle.pel_model.specs.declared.chair.Command.{Command}
 use Rattle.pel_model.specs.declared.chair.Command.TheVariants.{Speaker}
 use Rattle.pel_model.specs.declared.chair.Reply.TheVariants.{Done, NoLane, AllPinned}
@@ -40,7 +40,7 @@ any-at : (test : Quad → Bool) (q : Quad) → test q ≡ true → list_any test
 any-at test One e = rw e refl
 any-at test Two e = rw e (or_true (test One))
 any-at test Three e = rw e (ap (λ v. test One || v) (or_true (test Two)) ∙ or_true (test One))
-any-at test Fourth e =
+any-at test Four e =
     rw e (ap (λ v. test One || (test Two || v)) (or_true (test Three)) ∙ ap (λ v. test One || v) (or_true (test Two)) ∙ or_true (test One))
 
 module _ (pinned : Quad → Bool) (key : Quad → ℕ) where
@@ -147,7 +147,7 @@ same-self : (q : Quad) → is_same q q ≡ true
 same-self One = refl
 same-self Two = refl
 same-self Three = refl
-same-self Fourth = refl
+same-self Four = refl
 
 stands : (s : Stage) (c : ℕ) → (not (is_standing s c) && list_all s.is_pinned places) ≡ false → (q : Quad) × ((carried_out s (Speaker c)).lane_in q ≡ Some c)
 stands s c able =

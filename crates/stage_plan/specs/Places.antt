@@ -4,17 +4,17 @@ use Rattle.pel_model.specs.declared.Quad.{Quad}
 use Rattle.pel_model.specs.declared.chair.Command.{Command}
 use Rattle.pel_model.specs.declared.chair.Reply.{Reply}
 use Rattle.pel_model.specs.Plan.{Stage, silence, at, pinned, speakers, changed, answer_at, ordered, is_done}
-use Rattle.stage_plan.specs.declared.four.Four.{Four}
-use Rattle.stage_plan.specs.Four.{in_place}
+use Rattle.stage_plan.specs.declared.per_place.PerPlace.{PerPlace}
+use Rattle.stage_plan.specs.PerPlace.{in_place}
 
 -- the number of lanes, the lane in each place, the pins, a rank for each lane from 0 to 15, and the places whose
 -- lane the last command changed. A lane's rank is 0 where it never spoke, and the greater the later it spoke.
 pub record PlanView : Type 0 where
   pub lanes : ℕ
-  pub seats : Four (Option ℕ)
-  pub pins : Four Bool
+  pub seats : PerPlace (Option ℕ)
+  pub pins : PerPlace Bool
   pub ranks : List ℕ
-  pub changes : Four Bool
+  pub changes : PerPlace Bool
 
 -- the lane that stands in a place
 abbrev pub lane_in : PlanView → Quad → Option ℕ
