@@ -7,21 +7,28 @@ mod lookup;
 mod readers;
 
 ghost use Rattle.std.specs.Prelude.{◌≡◌, ℕ, Bool, true, List};
-ghost use Rattle.pel_bits.specs.Bits.{field, number};
-ghost use Rattle.pel_model.specs.Bits.{field as model_field, number as model_number};
+ghost use Rattle.pel_bits.specs.Bits.{bits, field, number};
+ghost use Rattle.pel_bits.specs.Reading.{skipped};
+ghost use Rattle.pel_model.specs.Bits.{bits as model_bits, field as model_field, number as model_number};
 ghost use Rattle.pel_model.specs.Codes.{is_prefix_free};
-ghost use Rattle.vlc_codes.specs.Lookup.{words};
+ghost use Rattle.pel_model.specs.Grammar.{Slot, rows};
+ghost use Rattle.pel_model.specs.Walk.{skipped as model_skipped};
+ghost use Rattle.vlc_codes.specs.Lookup.{words, codes_of_rows};
 ghost use Rattle.vlc_codes.specs.declared.lookup.Table.{Table};
 
 pub use lookup::{Cell, Table, look_up};
 pub use readers::{CoefRow, MbaRow, cbp, mba, mtype, mvd, tcoeff};
 
-/// The laws of the lists: no word of a list is the front of another, and the bits of a number in the model of pictures
-/// are those that readers take and buffers append.
+/// The laws of the lists: no word of a list is the front of another, nor is a word of those that may stand at one place
+/// of a picture. The bits of numbers and of octets, the numbers that bits spell, and the places of readings are in the
+/// model of pictures what they are to readers and buffers.
 pub fn list_laws()
     ensures free { (table : Table) → is_prefix_free (words table) ≡ true }
+    ensures slots { (slot : Slot) → is_prefix_free (codes_of_rows (rows slot)) ≡ true }
     ensures fields { (n w : ℕ) → model_field n w ≡ field n w }
     ensures numbers { (bits : List Bool) → model_number bits ≡ number bits }
+    ensures octets { (octets : List ℕ) → model_bits octets ≡ bits octets }
+    ensures places { (n : ℕ) (reading : List Bool × ℕ) → model_skipped n reading ≡ skipped n reading }
 {}
 
 #[cfg(test)]

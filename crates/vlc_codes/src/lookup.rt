@@ -7,7 +7,8 @@ ghost use Rattle.pel_bits.specs.Bits.{field, number};
 ghost use Rattle.pel_bits.specs.Reading.{zeros};
 ghost use Rattle.pel_model.specs.Codes.{begins};
 ghost use Rattle.pel_model.specs.Walk.{cause};
-ghost use Rattle.vlc_codes.specs.Lookup.{words, cell_of, cell_in, code_word, place_of};
+ghost use Rattle.vlc_codes.specs.Lookup.{words, cell_of};
+ghost use Rattle.vlc_codes.specs.Inner.{cell_in, code_word, place_of};
 
 use crate::cells::Cells;
 use crate::{cells, codes};

@@ -9,7 +9,8 @@ ghost use Rattle.pel_model.specs.Codes.{mtype_table, mvd_table, cbp_table, escap
 ghost use Rattle.pel_model.specs.Records.{Axis};
 ghost use Rattle.pel_model.specs.Walk.{TakesWord, read, whole_word};
 ghost use Rattle.pel_model.specs.Grammar.{Mtype, Mvd, Cbp, mba_rows, table_rows, first_rows, later_rows, coefficient_row, escape_row, signed, from_twos_complement};
-ghost use Rattle.vlc_codes.specs.Lookup.{words, TakesPlace};
+ghost use Rattle.vlc_codes.specs.Lookup.{words};
+ghost use Rattle.vlc_codes.specs.Inner.{TakesPlace};
 ghost use Rattle.vlc_codes.specs.declared.lookup.Table.TheVariants.{CoefFirst, Coef};
 ghost use Rattle.vlc_codes.specs.Rows.{mba_element, coefficient_element};
 
