@@ -94,7 +94,8 @@ impl Plan {
     ghost use Rattle.pel_model.specs.declared.chair.Command.TheVariants.{Place, Clear, Swap, Speaker, Pin, Unpin};
     ghost use Rattle.pel_model.specs.declared.chair.Reply.TheVariants.{Done};
     ghost use Rattle.pel_model.specs.Plan.{at, changed, is_standing, vacant_place, quietest_by, is_outlasted, carried_out, is_done};
-    ghost use Rattle.stage_plan.specs.Places.{lane_in, is_pinned, is_ranked_below, stage_of, IsInOrder, IsUnmoved, Obeys, StandsFor};
+    ghost use Rattle.stage_plan.specs.Places.{lane_in, is_pinned, IsInOrder, IsUnmoved, StandsFor};
+    ghost use Rattle.stage_plan.specs.Steps.{is_ranked_below, stage_of, Obeys};
 
     /// The plan of a conference of so many lanes: all places are empty, and none is pinned.
     pub fn new(lanes: u8) -> Plan
