@@ -3,35 +3,36 @@ use super::{FrameEnd, Framer, PacketFault, read_packet, write_header};
 use io_edge::MemSource;
 use std::test::Fail;
 
+/// The first octet, the octets of the packet and its last octet; the octets of its payload, or the refusal. The
+/// extension, if there is one, has 2 words where no source stands before it and 1 word behind one source.
+const BORDERS: [(u8, usize, u8, Result<usize, PacketFault>); 22] = [
+    (0x00, 0, 0, Err(PacketFault::Short)),
+    (0x80, 11, 0, Err(PacketFault::Short)),
+    (0x80, 12, 0, Ok(0)),
+    (0x80, 13, 0, Ok(1)),
+    (0x0f, 12, 0, Err(PacketFault::Version)),
+    (0x7f, 12, 0, Err(PacketFault::Version)),
+    (0xff, 12, 0, Err(PacketFault::Version)),
+    (0x81, 15, 0, Err(PacketFault::BadCsrc)),
+    (0x81, 16, 0, Ok(0)),
+    (0xbf, 71, 0, Err(PacketFault::BadCsrc)),
+    (0x8f, 72, 0, Ok(0)),
+    (0xb0, 15, 0, Err(PacketFault::BadExtension)),
+    (0x90, 23, 0, Err(PacketFault::BadExtension)),
+    (0x90, 24, 0, Ok(0)),
+    (0xa0, 12, 1, Err(PacketFault::BadPadding)),
+    (0xa0, 13, 0, Err(PacketFault::BadPadding)),
+    (0xa0, 13, 1, Ok(0)),
+    (0xa0, 15, 2, Ok(1)),
+    (0xa0, 15, 3, Ok(0)),
+    (0xa0, 15, 4, Err(PacketFault::BadPadding)),
+    (0xb1, 29, 3, Ok(2)),
+    (0xb1, 29, 6, Err(PacketFault::BadPadding)),
+];
+
 #[test]
 fn each_refusal_has_its_border(rt: HostRuntime) {
-    // the first octet, the octets of the packet, its last octet; the octets of its payload, or the refusal. The
-    // extension, if there is one, has 2 words where no source stands before it and 1 word behind one source.
-    let rows = [
-        (0x00, 0, 0, Err(PacketFault::Short)),
-        (0x80, 11, 0, Err(PacketFault::Short)),
-        (0x80, 12, 0, Ok(0)),
-        (0x80, 13, 0, Ok(1)),
-        (0x0f, 12, 0, Err(PacketFault::Version)),
-        (0x7f, 12, 0, Err(PacketFault::Version)),
-        (0xff, 12, 0, Err(PacketFault::Version)),
-        (0x81, 15, 0, Err(PacketFault::BadCsrc)),
-        (0x81, 16, 0, Ok(0)),
-        (0xbf, 71, 0, Err(PacketFault::BadCsrc)),
-        (0x8f, 72, 0, Ok(0)),
-        (0xb0, 15, 0, Err(PacketFault::BadExtension)),
-        (0x90, 23, 0, Err(PacketFault::BadExtension)),
-        (0x90, 24, 0, Ok(0)),
-        (0xa0, 12, 1, Err(PacketFault::BadPadding)),
-        (0xa0, 13, 0, Err(PacketFault::BadPadding)),
-        (0xa0, 13, 1, Ok(0)),
-        (0xa0, 15, 2, Ok(1)),
-        (0xa0, 15, 3, Ok(0)),
-        (0xa0, 15, 4, Err(PacketFault::BadPadding)),
-        (0xb1, 29, 3, Ok(2)),
-        (0xb1, 29, 6, Err(PacketFault::BadPadding)),
-    ];
-    for (first, length, last, want) in rows {
+    for (first, length, last, want) in BORDERS {
         let mut bytes = [0; 72];
         if length > 0 && length <= 72 {
             bytes[length - 1] = last;
@@ -100,37 +101,38 @@ fn frames_come_in_any_pieces(rt: HostRuntime) -> Result<(), Fail> {
     Ok(())
 }
 
+/// The octets of the stream, the call that fails and the budget; the packets, and the end.
+const ENDS: [(usize, u64, u64, usize, FrameEnd); 24] = [
+    (0, 9, 99, 0, FrameEnd::End),
+    (1, 9, 99, 0, FrameEnd::Cut { place: 1 }),
+    (2, 9, 99, 0, FrameEnd::Cut { place: 2 }),
+    (4, 9, 99, 0, FrameEnd::Cut { place: 4 }),
+    (5, 9, 99, 1, FrameEnd::End),
+    (6, 9, 99, 1, FrameEnd::Cut { place: 6 }),
+    (7, 9, 99, 2, FrameEnd::End),
+    (9, 9, 99, 2, FrameEnd::Cut { place: 9 }),
+    (10, 1, 99, 0, FrameEnd::Fault),
+    (10, 2, 99, 0, FrameEnd::Fault),
+    (10, 3, 99, 1, FrameEnd::Fault),
+    (10, 4, 99, 2, FrameEnd::Fault),
+    (10, 5, 99, 2, FrameEnd::Fault),
+    (10, 6, 99, 3, FrameEnd::Fault),
+    (10, 7, 99, 3, FrameEnd::End),
+    (0, 9, 0, 0, FrameEnd::Limit),
+    (10, 9, 1, 0, FrameEnd::Limit),
+    (10, 9, 2, 0, FrameEnd::Limit),
+    (10, 9, 4, 0, FrameEnd::Limit),
+    (4, 9, 4, 0, FrameEnd::Limit),
+    (10, 9, 5, 1, FrameEnd::Limit),
+    (10, 9, 9, 2, FrameEnd::Limit),
+    (10, 9, 10, 3, FrameEnd::Limit),
+    (10, 9, 11, 3, FrameEnd::End),
+];
+
 #[test]
 fn a_stream_ends_in_each_way(rt: HostRuntime) -> Result<(), Fail> {
     let alloc = rt.alloc();
-    // the octets of the stream, the call that fails, the budget; the packets, and the end
-    let rows = [
-        (0, 9, 99, 0, FrameEnd::End),
-        (1, 9, 99, 0, FrameEnd::Cut { place: 1 }),
-        (2, 9, 99, 0, FrameEnd::Cut { place: 2 }),
-        (4, 9, 99, 0, FrameEnd::Cut { place: 4 }),
-        (5, 9, 99, 1, FrameEnd::End),
-        (6, 9, 99, 1, FrameEnd::Cut { place: 6 }),
-        (7, 9, 99, 2, FrameEnd::End),
-        (9, 9, 99, 2, FrameEnd::Cut { place: 9 }),
-        (10, 1, 99, 0, FrameEnd::Fault),
-        (10, 2, 99, 0, FrameEnd::Fault),
-        (10, 3, 99, 1, FrameEnd::Fault),
-        (10, 4, 99, 2, FrameEnd::Fault),
-        (10, 5, 99, 2, FrameEnd::Fault),
-        (10, 6, 99, 3, FrameEnd::Fault),
-        (10, 7, 99, 3, FrameEnd::End),
-        (0, 9, 0, 0, FrameEnd::Limit),
-        (10, 9, 1, 0, FrameEnd::Limit),
-        (10, 9, 2, 0, FrameEnd::Limit),
-        (10, 9, 4, 0, FrameEnd::Limit),
-        (4, 9, 4, 0, FrameEnd::Limit),
-        (10, 9, 5, 1, FrameEnd::Limit),
-        (10, 9, 9, 2, FrameEnd::Limit),
-        (10, 9, 10, 3, FrameEnd::Limit),
-        (10, 9, 11, 3, FrameEnd::End),
-    ];
-    for (length, fails, budget, count, want) in rows {
+    for (length, fails, budget, count, want) in ENDS {
         let mut bytes = Vec::new(alloc);
         bytes.extend_from_slice(&STREAM)?;
         bytes.truncate(length);

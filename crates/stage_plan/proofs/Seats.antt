@@ -14,7 +14,8 @@ use Rattle.pel_model.specs.declared.chair.Reply.TheVariants.{Done}
 use Rattle.pel_model.specs.Plan.{Stage, stage, ordered, answer, is_same_lane, places, is_place, is_standing, vacant_place, place_for_speaker, answer_at, carried_out, is_done, silence, is_same, is_lane, without, spoke_before, quietest_by, quietest_place}
 use Rattle.stage_plan.specs.declared.per_place.PerPlace.{PerPlace}
 use Rattle.stage_plan.specs.PerPlace.{in_place, with_place, in_all}
-use Rattle.stage_plan.specs.Places.{PlanView, lane_in, is_pinned, is_lower, is_ranked_below, IsInOrder, IsPlan, HasStage, StandsFor, IsUnmoved, Obeys, rank_of, stage_of}
+use Rattle.stage_plan.specs.Places.{PlanView, lane_in, is_pinned, IsInOrder, IsPlan, StandsFor, IsUnmoved, rank_of}
+use Rattle.stage_plan.specs.Steps.{is_lower, is_ranked_below, HasStage, Obeys, stage_of}
 use Rattle.stage_plan.specs.Ranks.{Raises}
 
 -- a stage that a plan has is the plan's, with the stage's speakers

@@ -214,8 +214,12 @@ seating lanes (command ∷ commands) =
       | false ↦ λ e. seating lanes commands
     ] refl
 
-pub refused_unchanged : (lanes : ℕ) (commands : List Command) (c : Command) (q : Quad) → is_done (answer lanes commands c) ≡ false → changed lanes (c ∷ commands) q ≡ false
-refused_unchanged lanes commands c q refused =
-    let s = stage lanes commands in
-    ap (λ v. not (is_same_lane ((if v then carried_out s c else s).lane_in q) (s.lane_in q))) refused
-    ∙ ap not (is_same_lane-refl (s.lane_in q))
+pub refused_unchanged : (lanes : ℕ) (commands : List Command) (c : Command) → is_done (answer lanes commands c) ≡ false →
+    (stage lanes (c ∷ commands) ≡ stage lanes commands) × ((q : Quad) → changed lanes (c ∷ commands) q ≡ false)
+refused_unchanged lanes commands c refused =
+    let s = stage lanes commands in (
+      ap (λ v. if v then carried_out s c else s) refused,
+      λ q.
+          ap (λ v. not (is_same_lane ((if v then carried_out s c else s).lane_in q) (s.lane_in q))) refused
+          ∙ ap not (is_same_lane-refl (s.lane_in q)),
+    )

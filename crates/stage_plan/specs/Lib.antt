@@ -1,4 +1,5 @@
 pub mod PerPlace
 pub mod Places
+pub mod Steps
 pub mod Ranks
 pub mod Laws

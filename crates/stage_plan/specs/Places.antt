@@ -1,9 +1,8 @@
 -- What a plan has, and the commands that it stands for.
-use Rattle.std.specs.Prelude.{◌≡◌, ◌⊎◌, ℕ, ◌<◌, ◌≤◌, nat_lt, Bool, false, Option, Some, None, List, length, slice_index, count_by, IfSome}
+use Rattle.std.specs.Prelude.{◌≡◌, ◌⊎◌, ℕ, ◌<◌, ◌≤◌, nat_lt, Bool, Option, List, length, slice_index, count_by, IfSome}
 use Rattle.pel_model.specs.declared.Quad.{Quad}
 use Rattle.pel_model.specs.declared.chair.Command.{Command}
-use Rattle.pel_model.specs.declared.chair.Reply.{Reply}
-use Rattle.pel_model.specs.Plan.{Stage, silence, at, pinned, speakers, changed, answer_at, ordered, is_done}
+use Rattle.pel_model.specs.Plan.{silence, at, pinned, speakers, changed}
 use Rattle.stage_plan.specs.declared.per_place.PerPlace.{PerPlace}
 use Rattle.stage_plan.specs.PerPlace.{in_place}
 
@@ -48,21 +47,6 @@ abbrev pub IsInOrder : PlanView → List ℕ → Type 0
 IsInOrder plan spoke =
     (c d : ℕ) → c < 16 → d < 16 → nat_lt (rank_of plan c) (rank_of plan d) ≡ nat_lt (silence spoke d) (silence spoke c)
 
-abbrev pub is_lower : List ℕ → Option ℕ → Option ℕ → Bool
-is_lower ranks (Some c) (Some d) = nat_lt (slice_index ranks c) (slice_index ranks d)
-is_lower ranks (Some c) None = false
-is_lower ranks None d = false
-
--- the lane in the first place has a lower rank than the one in the second
-abbrev pub is_ranked_below : PlanView → Quad → Quad → Bool
-is_ranked_below plan p q = is_lower plan.ranks (lane_in plan p) (lane_in plan q)
-
--- the plan has the places, the pins and the order of speakers of this stage
-pub record HasStage (plan : PlanView) (s : Stage) : Type 0 where
-  pub seats : (q : Quad) → lane_in plan q ≡ s.lane_in q
-  pub pins : (q : Quad) → is_pinned plan q ≡ s.is_pinned q
-  pub order : IsInOrder plan s.speakers
-
 -- the plan stands for these commands, the newest first
 pub record StandsFor (plan : PlanView) (commands : List Command) : Type 0 where
   pub seats : (q : Quad) → lane_in plan q ≡ at plan.lanes commands q
@@ -70,20 +54,9 @@ pub record StandsFor (plan : PlanView) (commands : List Command) : Type 0 where
   pub order : IsInOrder plan (speakers plan.lanes commands)
   pub changes : (q : Quad) → in_place plan.changes q ≡ changed plan.lanes commands q
 
--- the stage of a plan, where these lanes spoke
-abbrev pub stage_of : PlanView → List ℕ → Stage
-stage_of plan spoke = record { lane_in = lane_in plan; is_pinned = is_pinned plan; speakers = spoke }
-
 -- nothing but the changes differs
 pub record IsUnmoved (old new : PlanView) : Type 0 where
   pub lanes : new.lanes ≡ old.lanes
   pub seats : new.seats ≡ old.seats
   pub pins : new.pins ≡ old.pins
   pub ranks : new.ranks ≡ old.ranks
-
--- the command was obeyed, or refused for the reason that holds
-pub record Obeys (command : Command) (old new : PlanView) (reply : Reply) : Type 0 where
-  pub lanes : new.lanes ≡ old.lanes
-  pub answered : (spoke : List ℕ) → IsInOrder old spoke → reply ≡ answer_at old.lanes (stage_of old spoke) command
-  pub carried : (spoke : List ℕ) → IsInOrder old spoke → HasStage new (ordered old.lanes (stage_of old spoke) command)
-  pub kept : is_done reply ≡ false → IsUnmoved old new

@@ -1,4 +1,4 @@
--- How a lane's rank becomes the greatest.
+-- What inner contracts alone use: nothing here has to be believed. How a lane's rank becomes the greatest.
 use Rattle.std.specs.Prelude.{◌≡◌, ◌≢◌, ℕ, ◌-◌, ◌<◌, nat_lt, ◌&&◌, List, slice_index, if◌then◌else◌}
 
 -- a rank, where the rank `gone` is taken away from the ranks below it

@@ -12,7 +12,8 @@ pub fn standing_lanes_exist()
     ensures { StandingLanes }
 {}
 
-/// A refused command changes the lane of no place.
+/// A refused command changes nothing: the lane in each place, the pins and the order of speakers stay, and no place
+/// counts as changed.
 pub fn refusals_change_nothing()
     ensures { RefusalsChangeNothing }
 {}

@@ -93,8 +93,9 @@ fn changes(before: PerPlace<Option<u8>>, after: PerPlace<Option<u8>>) -> PerPlac
 impl Plan {
     ghost use Rattle.pel_model.specs.declared.chair.Command.TheVariants.{Place, Clear, Swap, Speaker, Pin, Unpin};
     ghost use Rattle.pel_model.specs.declared.chair.Reply.TheVariants.{Done};
-    ghost use Rattle.pel_model.specs.Plan.{is_standing, vacant_place, quietest_by, is_outlasted, carried_out, is_done};
-    ghost use Rattle.stage_plan.specs.Places.{lane_in, is_pinned, is_ranked_below, stage_of, IsInOrder, IsUnmoved, Obeys, StandsFor};
+    ghost use Rattle.pel_model.specs.Plan.{at, changed, is_standing, vacant_place, quietest_by, is_outlasted, carried_out, is_done};
+    ghost use Rattle.stage_plan.specs.Places.{lane_in, is_pinned, IsInOrder, IsUnmoved, StandsFor};
+    ghost use Rattle.stage_plan.specs.Steps.{is_ranked_below, stage_of, Obeys};
 
     /// The plan of a conference of so many lanes: all places are empty, and none is pinned.
     pub fn new(lanes: u8) -> Plan
@@ -114,7 +115,8 @@ impl Plan {
 
     /// The lane that stands in a place.
     pub fn at(&self, place: Quad) -> Option<u8>
-        ensures { result ≡ lane_in self.now place }
+        ensures lane { result ≡ lane_in self.now place }
+        ensures stands { (H : List TheCommand) → StandsFor self.now H → result ≡ at self.now.lanes H place }
     {
         self.seats.of(place)
     }
@@ -122,7 +124,8 @@ impl Plan {
     /// Whether the last command changed the lane in each place, the lowest place first. All are false after a refusal,
     /// and in a new plan.
     pub fn changed(&self) -> [bool; 4]
-        ensures { result ≡ map (in_place self.now.changes) places }
+        ensures changes { result ≡ map (in_place self.now.changes) places }
+        ensures stands { (H : List TheCommand) → StandsFor self.now H → result ≡ map (changed self.now.lanes H) places }
     {
         [
             self.changes.one,

@@ -20,94 +20,106 @@ fn follow(rt: &impl Abort, plan: &mut Plan, steps: &[Step]) {
     }
 }
 
+// The places that a command changed.
 const NONE: [bool; 4] = [false; 4];
+
+const ONE: [bool; 4] = [true, false, false, false];
+
+const TWO: [bool; 4] = [false, true, false, false];
+
+const THREE: [bool; 4] = [false, false, true, false];
+
+const FOUR: [bool; 4] = [false, false, false, true];
+
+/// Each refusal and each command that is done, in a conference of three lanes.
+const REPLIES: [Step; 15] = [
+    (Command::Place(Quad::One, 3), Reply::NoLane, [None; 4], NONE),
+    (Command::Clear(Quad::One), Reply::SamePlace, [None; 4], NONE),
+    (
+        Command::Swap(Quad::One, Quad::Two),
+        Reply::SamePlace,
+        [None; 4],
+        NONE,
+    ),
+    (
+        Command::Place(Quad::One, 2),
+        Reply::Done,
+        [Some(2), None, None, None],
+        ONE,
+    ),
+    (
+        Command::Place(Quad::One, 2),
+        Reply::SamePlace,
+        [Some(2), None, None, None],
+        NONE,
+    ),
+    (
+        Command::Swap(Quad::One, Quad::One),
+        Reply::SamePlace,
+        [Some(2), None, None, None],
+        NONE,
+    ),
+    (
+        Command::Swap(Quad::Four, Quad::One),
+        Reply::Done,
+        [None, None, None, Some(2)],
+        [true, false, false, true],
+    ),
+    (
+        Command::Place(Quad::Two, 2),
+        Reply::Done,
+        [None, Some(2), None, None],
+        [false, true, false, true],
+    ),
+    (
+        Command::Place(Quad::Two, 0),
+        Reply::Done,
+        [None, Some(0), None, None],
+        TWO,
+    ),
+    (
+        Command::Pin(Quad::One),
+        Reply::Done,
+        [None, Some(0), None, None],
+        NONE,
+    ),
+    (
+        Command::Pin(Quad::One),
+        Reply::Done,
+        [None, Some(0), None, None],
+        NONE,
+    ),
+    (
+        Command::Speaker(3),
+        Reply::NoLane,
+        [None, Some(0), None, None],
+        NONE,
+    ),
+    (
+        Command::Speaker(1),
+        Reply::Done,
+        [None, Some(0), Some(1), None],
+        THREE,
+    ),
+    (
+        Command::Unpin(Quad::One),
+        Reply::Done,
+        [None, Some(0), Some(1), None],
+        NONE,
+    ),
+    (
+        Command::Clear(Quad::Two),
+        Reply::Done,
+        [None, None, Some(1), None],
+        TWO,
+    ),
+];
 
 #[test]
 fn replies_of_every_command(rt: HostRuntime) {
     let mut plan = Plan::new(3);
     assert_eq!(rt; plan.changed(), NONE);
-    let steps = [
-        (Command::Place(Quad::One, 3), Reply::NoLane, [None; 4], NONE),
-        (Command::Clear(Quad::One), Reply::SamePlace, [None; 4], NONE),
-        (
-            Command::Swap(Quad::One, Quad::Two),
-            Reply::SamePlace,
-            [None; 4],
-            NONE,
-        ),
-        (
-            Command::Place(Quad::One, 2),
-            Reply::Done,
-            [Some(2), None, None, None],
-            [true, false, false, false],
-        ),
-        (
-            Command::Place(Quad::One, 2),
-            Reply::SamePlace,
-            [Some(2), None, None, None],
-            NONE,
-        ),
-        (
-            Command::Swap(Quad::One, Quad::One),
-            Reply::SamePlace,
-            [Some(2), None, None, None],
-            NONE,
-        ),
-        (
-            Command::Swap(Quad::Four, Quad::One),
-            Reply::Done,
-            [None, None, None, Some(2)],
-            [true, false, false, true],
-        ),
-        (
-            Command::Place(Quad::Two, 2),
-            Reply::Done,
-            [None, Some(2), None, None],
-            [false, true, false, true],
-        ),
-        (
-            Command::Place(Quad::Two, 0),
-            Reply::Done,
-            [None, Some(0), None, None],
-            [false, true, false, false],
-        ),
-        (
-            Command::Pin(Quad::One),
-            Reply::Done,
-            [None, Some(0), None, None],
-            NONE,
-        ),
-        (
-            Command::Pin(Quad::One),
-            Reply::Done,
-            [None, Some(0), None, None],
-            NONE,
-        ),
-        (
-            Command::Speaker(3),
-            Reply::NoLane,
-            [None, Some(0), None, None],
-            NONE,
-        ),
-        (
-            Command::Speaker(1),
-            Reply::Done,
-            [None, Some(0), Some(1), None],
-            [false, false, true, false],
-        ),
-        (
-            Command::Unpin(Quad::One),
-            Reply::Done,
-            [None, Some(0), Some(1), None],
-            NONE,
-        ),
-        (
-            Command::Clear(Quad::Two),
-            Reply::Done,
-            [None, None, Some(1), None],
-            [false, true, false, false],
-        ),
-    ];
+    let steps = REPLIES;
     follow(&rt, &mut plan, &steps);
 }
 
@@ -133,107 +145,106 @@ fn speaker_with_all_pinned(rt: HostRuntime) {
             Command::Speaker(4),
             Reply::Done,
             [Some(0), Some(4), Some(2), Some(3)],
-            [false, true, false, false],
+            TWO,
         ),
     ];
     follow(&rt, &mut plan, &steps);
 }
 
+/// Speakers who come to stand in places, in a conference of sixteen lanes.
+const SPEAKERS: [Step; 14] = [
+    (
+        Command::Speaker(15),
+        Reply::Done,
+        [Some(15), None, None, None],
+        ONE,
+    ),
+    (
+        Command::Place(Quad::Two, 7),
+        Reply::Done,
+        [Some(15), Some(7), None, None],
+        TWO,
+    ),
+    (
+        Command::Place(Quad::Four, 8),
+        Reply::Done,
+        [Some(15), Some(7), None, Some(8)],
+        FOUR,
+    ),
+    (
+        Command::Speaker(9),
+        Reply::Done,
+        [Some(15), Some(7), Some(9), Some(8)],
+        THREE,
+    ),
+    // The lanes 7 and 8 never spoke: the lower of their places is taken.
+    (
+        Command::Speaker(0),
+        Reply::Done,
+        [Some(15), Some(0), Some(9), Some(8)],
+        TWO,
+    ),
+    (
+        Command::Speaker(15),
+        Reply::Done,
+        [Some(15), Some(0), Some(9), Some(8)],
+        NONE,
+    ),
+    (
+        Command::Speaker(8),
+        Reply::Done,
+        [Some(15), Some(0), Some(9), Some(8)],
+        NONE,
+    ),
+    // The order is now 8, 15, 0, 9.
+    (
+        Command::Speaker(7),
+        Reply::Done,
+        [Some(15), Some(0), Some(7), Some(8)],
+        THREE,
+    ),
+    (
+        Command::Pin(Quad::Two),
+        Reply::Done,
+        [Some(15), Some(0), Some(7), Some(8)],
+        NONE,
+    ),
+    (
+        Command::Speaker(9),
+        Reply::Done,
+        [Some(9), Some(0), Some(7), Some(8)],
+        ONE,
+    ),
+    // Lane 15 left its place, and is still a newer speaker than lane 0.
+    (
+        Command::Place(Quad::Four, 15),
+        Reply::Done,
+        [Some(9), Some(0), Some(7), Some(15)],
+        FOUR,
+    ),
+    (
+        Command::Unpin(Quad::Two),
+        Reply::Done,
+        [Some(9), Some(0), Some(7), Some(15)],
+        NONE,
+    ),
+    (
+        Command::Speaker(3),
+        Reply::Done,
+        [Some(9), Some(3), Some(7), Some(15)],
+        TWO,
+    ),
+    (
+        Command::Speaker(0),
+        Reply::Done,
+        [Some(9), Some(3), Some(7), Some(0)],
+        FOUR,
+    ),
+];
+
 #[test]
 fn least_recent_speaker(rt: HostRuntime) {
     let mut plan = Plan::new(16);
-    let one = [true, false, false, false];
-    let two = [false, true, false, false];
-    let three = [false, false, true, false];
-    let four = [false, false, false, true];
-    let steps = [
-        (
-            Command::Speaker(15),
-            Reply::Done,
-            [Some(15), None, None, None],
-            one,
-        ),
-        (
-            Command::Place(Quad::Two, 7),
-            Reply::Done,
-            [Some(15), Some(7), None, None],
-            two,
-        ),
-        (
-            Command::Place(Quad::Four, 8),
-            Reply::Done,
-            [Some(15), Some(7), None, Some(8)],
-            four,
-        ),
-        (
-            Command::Speaker(9),
-            Reply::Done,
-            [Some(15), Some(7), Some(9), Some(8)],
-            three,
-        ),
-        // The lanes 7 and 8 never spoke: the lower of their places is taken.
-        (
-            Command::Speaker(0),
-            Reply::Done,
-            [Some(15), Some(0), Some(9), Some(8)],
-            two,
-        ),
-        (
-            Command::Speaker(15),
-            Reply::Done,
-            [Some(15), Some(0), Some(9), Some(8)],
-            NONE,
-        ),
-        (
-            Command::Speaker(8),
-            Reply::Done,
-            [Some(15), Some(0), Some(9), Some(8)],
-            NONE,
-        ),
-        // The order is now 8, 15, 0, 9.
-        (
-            Command::Speaker(7),
-            Reply::Done,
-            [Some(15), Some(0), Some(7), Some(8)],
-            three,
-        ),
-        (
-            Command::Pin(Quad::Two),
-            Reply::Done,
-            [Some(15), Some(0), Some(7), Some(8)],
-            NONE,
-        ),
-        (
-            Command::Speaker(9),
-            Reply::Done,
-            [Some(9), Some(0), Some(7), Some(8)],
-            one,
-        ),
-        // Lane 15 left its place, and is still a newer speaker than lane 0.
-        (
-            Command::Place(Quad::Four, 15),
-            Reply::Done,
-            [Some(9), Some(0), Some(7), Some(15)],
-            four,
-        ),
-        (
-            Command::Unpin(Quad::Two),
-            Reply::Done,
-            [Some(9), Some(0), Some(7), Some(15)],
-            NONE,
-        ),
-        (
-            Command::Speaker(3),
-            Reply::Done,
-            [Some(9), Some(3), Some(7), Some(15)],
-            two,
-        ),
-        (
-            Command::Speaker(0),
-            Reply::Done,
-            [Some(9), Some(3), Some(7), Some(0)],
-            four,
-        ),
-    ];
+    let steps = SPEAKERS;
     follow(&rt, &mut plan, &steps);
 }

@@ -10,7 +10,8 @@ use Rattle.pel_bits.proofs.Fields.{field-add, field-zero}
 use Rattle.pel_model.specs.Codes.{begins}
 use Rattle.vlc_codes.specs.declared.lookup.Cell.{Cell}
 use Rattle.vlc_codes.proofs.WordLaws.{either_way, if-true, if-false}
-use Rattle.vlc_codes.specs.Lookup.{cell_of, no_cell, cell_in}
+use Rattle.vlc_codes.specs.Lookup.{cell_of, no_cell}
+use Rattle.vlc_codes.specs.Inner.{cell_in}
 
 -- the bits that an index stands for: some zeros, a 1, and five bits
 abbrev pub front : ℕ → List Bool

@@ -1,8 +1,10 @@
 -- A coefficient's sign, run and level, as they stand in the next 32 bits.
 use Rattle.std.proofs.Common.{◌≡◌, ℕ, zero, suc, ◌+◌, ◌-◌, ◌/◌, ◌%◌, ◌^◌, ◌<◌, ◌≤◌, ◌==◌, ℤ, Bool, true, false, cond, List, ◌++◌, length, take, drop, refl, sym, ◌∙◌, ap, arith, length-drop}
+use mathlib.Core.Path.{fun_ext}
+use Rattle.std.specs.List.{flat_map}
 use Rattle.std.proofs.lemmas.List.{take-append-le, drop-append-le, drop-take, take-take}
 use Rattle.std.proofs.lemmas.Nat.{mod_below}
-use Rattle.pel_bits.specs.Bits.{field, number}
+use Rattle.pel_bits.specs.Bits.{bits, field, number}
 use Rattle.pel_bits.specs.Reading.{zeros}
 use Rattle.pel_bits.proofs.Fields.{number-field}
 use Rattle.pel_bits.proofs.RunBits.{field-part}
@@ -20,6 +22,10 @@ same_number bits = refl
 pub same_field : (n w : ℕ) → model.field n w ≡ field n w
 unfolding field model.field
 same_field n w = refl
+
+-- and those of octets
+pub same_bits : (octets : List ℕ) → model.bits octets ≡ bits octets
+same_bits octets = ap (λ (f : ℕ → List Bool). flat_map f octets) (fun_ext λ b. same_field b 8)
 
 -- some of the next 32 bits
 pub part-of-top : (bits : List Bool) (top s w : ℕ) → top ≡ number (take 32 (bits ++ zeros 32)) → s + w ≤ length bits → s + w ≤ 32 → model.number (take w (drop s bits)) ≡ top / 2 ^ (32 - s - w) % 2 ^ w

@@ -17,11 +17,12 @@ use Rattle.vlc_codes.specs.declared.readers.MbaRow.TheVariants as mba_row
 use Rattle.pel_model.specs.Records.{Axis}
 use Rattle.pel_model.specs.Walk.{Row}
 use Rattle.pel_model.specs.Grammar as grammar
-use Rattle.pel_model.specs.Grammar.{Element, Eob, mba_rows, table_rows, first_rows, later_rows, coefficient_row, escape_row, word_row}
+use Rattle.pel_model.specs.Grammar.{Element, Eob, Slot, AtPsc, AtTr, AtPtype, AtPei, AtPspare, AtGroup, AtGn, AtGquant, AtGei, AtGspare, AtMacroblock, AtMtype, AtMquant, AtCbp, AtDc, AtFirst, AtCoefficient, AtMvd, rows, mba_rows, table_rows, first_rows, later_rows, coefficient_row, escape_row, word_row}
 use Rattle.vlc_codes.specs.Rows.{mba_element}
-use Rattle.vlc_codes.proofs.WordLaws.{codes_of_rows, and_left, and_right, all_at}
+use Rattle.vlc_codes.proofs.WordLaws.{and_left, and_right, all_at}
 use Rattle.vlc_codes.specs.declared.lookup.Table.TheVariants.{Mba, Mtype, Mvd, Cbp, CoefFirst, Coef}
-use Rattle.vlc_codes.specs.Lookup.{words, cell_of, cell_in, no_cell, code_word}
+use Rattle.vlc_codes.specs.Lookup.{words, codes_of_rows, cell_of, no_cell}
+use Rattle.vlc_codes.specs.Inner.{cell_in, code_word}
 use Rattle.vlc_codes.proofs.CellLaws.{front, listed, listed_at, all_settled, cell-in}
 
 abbrev pub cells_of : Table → Cells
@@ -49,6 +50,28 @@ words_free Mvd = refl
 words_free Cbp = refl
 words_free CoefFirst = refl
 words_free Coef = refl
+
+-- nor is one of what may stand behind some elements
+pub slots_free : (slot : Slot) → is_prefix_free (codes_of_rows (rows slot)) ≡ true
+unfolding rows mba_table mtype_table mvd_table cbp_table tcoeff_table
+slots_free AtPsc = refl
+slots_free AtTr = refl
+slots_free AtPtype = refl
+slots_free AtPei = refl
+slots_free AtPspare = refl
+slots_free AtGroup = refl
+slots_free AtGn = refl
+slots_free AtGquant = refl
+slots_free AtGei = refl
+slots_free AtGspare = refl
+slots_free AtMacroblock = refl
+slots_free AtMtype = refl
+slots_free AtMquant = refl
+slots_free AtCbp = refl
+slots_free AtDc = refl
+slots_free AtFirst = refl
+slots_free AtCoefficient = refl
+slots_free (AtMvd axis) = refl
 
 -- no word is longer than 16 bits
 pub words_short : (table : Table) → list_all (λ w. nat_le (length w) 16) (words table) ≡ true

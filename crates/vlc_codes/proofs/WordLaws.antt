@@ -8,7 +8,8 @@ use Rattle.pel_bits.specs.Bits.{field, number}
 use Rattle.pel_bits.proofs.Fields.{length-field, field-add, field-mod, number-field, number-fits, field-number}
 use Rattle.pel_model.specs.Codes.{begins, is_prefix_free}
 use Rattle.vlc_codes.specs.declared.lookup.Cell.{Cell}
-use Rattle.vlc_codes.specs.Lookup.{cell_of, no_cell, code_word, cell_or_cause, place_of, TakesPlace}
+use Rattle.vlc_codes.specs.Lookup.{cell_of, no_cell, codes_of_rows}
+use Rattle.vlc_codes.specs.Inner.{code_word, cell_or_cause, place_of, TakesPlace}
 use Rattle.pel_model.specs.Bits as model
 use Rattle.pel_model.specs.Walk.{Step, Good, Bad, Row, cause, read, whole_word, word_at, TakesWord}
 use Rattle.pel_model.specs.declared.Why.{Why}
@@ -277,9 +278,6 @@ pub record IsFound {E : Type 0} (rows : List (Row E)) (bits : List Bool) (cell :
   pub long : length row.code ≡ cell.len
   pub fits : cell.len ≤ length bits
   pub is : read rows bits ≡ whole_word row bits
-
-abbrev pub codes_of_rows : {E : Type 0} → List (Row E) → List (List Bool)
-codes_of_rows rows = map (λ row. row.code) rows
 
 find_some : {E : Type 0} (rows : List (Row E)) (i : ℕ) (bits : List Bool) → (cell_of (codes_of_rows rows) i bits).len ≢ 0 → (row : Row E) × (k : ℕ) × (find (λ row. begins row.code bits) rows ≡ Some row) × ((d : Row E) → get_or rows k d ≡ row) × (k < length rows) × ((cell_of (codes_of_rows rows) i bits).value ≡ i + k) × (length row.code ≡ (cell_of (codes_of_rows rows) i bits).len) × (begins row.code bits ≡ true)
 find_some [] i bits some = absurd (some refl)

@@ -7,29 +7,38 @@ ghost use Rattle.pel_bits.specs.Bits.{field, number};
 ghost use Rattle.pel_bits.specs.Reading.{zeros};
 ghost use Rattle.pel_model.specs.Codes.{begins};
 ghost use Rattle.pel_model.specs.Walk.{cause};
-ghost use Rattle.vlc_codes.specs.Lookup.{words, cell_of, cell_in, code_word, place_of};
+ghost use Rattle.vlc_codes.specs.Lookup.{words, cell_of};
+ghost use Rattle.vlc_codes.specs.Inner.{cell_in, code_word, place_of};
 
 use crate::cells::Cells;
 use crate::{cells, codes};
 use pel_bits::Reader;
 use pel_model::Why;
 
-/// A list of words: of MBA with stuffing, MTYPE, MVD, CBP, and of the codes of TCOEFF, without sign and without what
-/// follows an escape, where a block without INTRADC begins and at every other place.
-#[derive(Clone, Copy)]
+/// A list of words.
+#[derive(Clone, Copy, Debug, PartialEq, Eq)]
 pub enum Table {
+    /// The differences of addresses from 1 to 33, then stuffing (H.261, 4.2.3.1).
     Mba,
+    /// The kinds of macroblocks (H.261, 4.2.3.2).
     Mtype,
+    /// The differences of a vector's component (H.261, 4.2.3.4).
     Mvd,
+    /// The patterns of coded blocks (H.261, 4.2.3.5).
     Cbp,
+    /// The codes of TCOEFF without their sign, then the escape without what follows it, where a block without INTRADC
+    /// begins (H.261, 4.2.4.1).
     CoefFirst,
+    /// The same at every other place, then the end of a block.
     Coef,
 }
 
-/// A word: its length, and its place in its list, from 0. Length 0 is none.
-#[derive(Clone, Copy)]
+/// A word of a list. Length 0 is none.
+#[derive(Clone, Copy, Debug, PartialEq, Eq)]
 pub struct Cell {
+    /// The length in bits, at most 13.
     pub len: u8,
+    /// The place in the list, from 0.
     pub value: u16,
 }
 

@@ -9,7 +9,8 @@ ghost use Rattle.pel_model.specs.Codes.{mtype_table, mvd_table, cbp_table, escap
 ghost use Rattle.pel_model.specs.Records.{Axis};
 ghost use Rattle.pel_model.specs.Walk.{TakesWord, read, whole_word};
 ghost use Rattle.pel_model.specs.Grammar.{Mtype, Mvd, Cbp, mba_rows, table_rows, first_rows, later_rows, coefficient_row, escape_row, signed, from_twos_complement};
-ghost use Rattle.vlc_codes.specs.Lookup.{words, TakesPlace};
+ghost use Rattle.vlc_codes.specs.Lookup.{words};
+ghost use Rattle.vlc_codes.specs.Inner.{TakesPlace};
 ghost use Rattle.vlc_codes.specs.declared.lookup.Table.TheVariants.{CoefFirst, Coef};
 ghost use Rattle.vlc_codes.specs.Rows.{mba_element, coefficient_element};
 
@@ -18,18 +19,32 @@ use crate::lookup::{Table, word_at};
 use pel_bits::Reader;
 use pel_model::{MbKind, Why};
 
-/// A word of MBA: a difference of addresses from 1 to 33, or stuffing.
+/// A word of MBA (H.261, 4.2.3.1).
 #[derive(Clone, Copy, Debug, PartialEq, Eq)]
 pub enum MbaRow {
+    /// The difference to the address before, from 1 to 33.
     Step(u8),
     Stuffing,
 }
 
-/// A word of TCOEFF: run and level of a code and its sign, those of an escape, or the end of a block.
+/// A word of TCOEFF (H.261, 4.2.4.1).
 #[derive(Clone, Copy, Debug, PartialEq, Eq)]
 pub enum CoefRow {
-    Pair { run: u8, level: i8 },
-    Escape { run: u8, level: i8 },
+    /// A code and its sign.
+    Pair {
+        /// How many zeros stand before the coefficient, from 0 to 26.
+        run: u8,
+        /// The coefficient's level, from -15 to 15 and not 0.
+        level: i8,
+    },
+    /// An escape, whose run and level follow it as fixed fields.
+    Escape {
+        /// How many zeros stand before the coefficient, from 0 to 63.
+        run: u8,
+        /// The coefficient's level, from -128 to 127; 0 and -128 are forbidden there.
+        level: i8,
+    },
+    /// The end of a block.
     Eob,
 }
 

@@ -5,7 +5,8 @@ use Rattle.pel_model.specs.declared.chair.Reply.TheVariants.{Done}
 use Rattle.pel_model.specs.Plan.{is_same}
 use Rattle.stage_plan.specs.declared.per_place.PerPlace.{PerPlace}
 use Rattle.stage_plan.specs.PerPlace.{in_place, with_place}
-use Rattle.stage_plan.specs.Places.{PlanView, lane_in, Obeys}
+use Rattle.stage_plan.specs.Places.{PlanView, lane_in}
+use Rattle.stage_plan.specs.Steps.{Obeys}
 use Rattle.stage_plan.specs.contracts.plan.Plan.{the_view}
 use Rattle.stage_plan.proofs.Seats.{each-with_place, in_place-with_two, Obeys-swap}
 use Rattle.stage_plan.proofs.plan.Plan.swap.Goals as goal
