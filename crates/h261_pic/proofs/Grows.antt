@@ -134,6 +134,7 @@ pub record MayGrow (c : Coding) (quant : ℕ) (bits : List Bool) : Type 0 where
 -- the fields of a picture that has grown
 pub record IsGrown (format : Format) (tr : ℕ) (text : Buffer) (groups : List GroupView) : Type 0 where
   pub capacity : text.capacity ≡ limit format
+  pub begun : 0 < length text.list
   pub within : length text.list ≤ limit format
   pub count : length groups ≤ group_count format
   pub room : length text.list + 26 * (group_count format - length groups) ≤ limit format
@@ -171,6 +172,7 @@ sound-grown format tr text text' text'' groups groups' number quant from len bit
     written-grown format tr text.list text''.list bits groups groups' number quant from len list_is groups_are number_is (from_is ∙ header.1) len_is in (
       record {
         capacity = ap (λ (b : Buffer). b.capacity) text_is' ∙ ap (λ (b : Buffer). b.capacity) text_is ∙ capacity;
+        begun = omega arith;
         within = omega (arith, may.room, may.next);
         count = omega (arith, may.next);
         room = omega (arith, may.room, may.next);

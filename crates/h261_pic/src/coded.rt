@@ -70,7 +70,8 @@ impl Coded {
 
     /// Whether nothing was written.
     pub fn is_empty(&self) -> bool
-        ensures { IsTrue result ↔ (self.now.bits ≡ []) }
+        ensures bits { IsTrue result ↔ (self.now.bits ≡ []) }
+        ensures nothing { IsTrue result ↔ (self.now ≡ nothing self.now.format) }
     {
         self.text.len() == 0
     }
