@@ -93,6 +93,17 @@ impl Coded {
         self.text.bits()
     }
 
+    /// What is written is a valid picture as far as it goes, within the greatest number of bits that its format
+    /// allows, and leaves room for the headers of the groups to come.
+    pub fn valid_so_far(&self)
+        ensures picture { 0 < length self.now.bits → HasPicture self.now }
+        ensures within { length self.now.bits ≤ limit self.now.format }
+        ensures room { 0 < length self.now.bits → length self.now.bits + 26 * (group_count self.now.format - length self.now.groups) ≤ limit self.now.format }
+    {
+        // naming a field tells what is true of the fields
+        let _text = &self.text;
+    }
+
     /// The octets of the strict text, with zeros from its last bit to the end of the octet.
     pub fn octets(&self) -> &[u8]
         ensures { bits result.now ≡ filled_up self.now.bits }
@@ -134,8 +145,7 @@ impl Coded {
         requires next { length self.old.groups < group_count self.old.format }
         ensures { self.new ≡ grown self.old 1 [] }
     {
-        // what was written leaves room for the headers to come
-        let _text = &self.text;
+        self.valid_so_far();
         self.add_group(1, Bits::new(&[], 0, 0));
     }
 
