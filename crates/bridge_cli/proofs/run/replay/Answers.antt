@@ -1,4 +1,4 @@
-use Rattle.std.proofs.Common.{◌≡◌, ℕ, ◌+◌, ◌*◌, ◌<◌, ◌≤◌, List, Option, length, take, arith, sym, ◌∙◌, ap, subst}
+use Rattle.std.proofs.Common.{◌≡◌, ℕ, ◌+◌, ◌*◌, ◌<◌, ◌≤◌, List, Option, length, take, arith, refl, sym, ◌∙◌, ap, subst}
 use Rattle.std.proofs.KnownBytes.{Keeps-refl}
 use Rattle.std.specs.Io.KnownBytes.{Consumes, Appends}
 use Rattle.h261_pic.specs.Coded.{Coding}
@@ -19,6 +19,7 @@ returns-in-AtEnd-clause-ends g c =
       stops.3,
       (take c.fill.result.count c.fill.new.out, omega (arith, stops.2), fills.bytes),
       Keeps-refl (g.K.Sink.written c.args.output.now),
+      refl,
     )
 
 pub returns-in_default-clause-ends : goal.returns-in_default-clause-ends
@@ -32,6 +33,7 @@ returns-in_default-clause-ends g c =
       stops.1,
       (c.fill.new.out, omega (arith, c.fill.auto.out), bytes),
       Keeps-refl (g.K.Sink.written c.args.output.now),
+      refl,
     )
 
 pub send-requires-clause-fits : goal.send-requires-clause-fits
@@ -49,6 +51,8 @@ returns-in-Ok-clause-ends g c =
       (c.fill.new.out, subst (λ (t : List ℕ). Consumes (g.S.Source.left c.args.input.now) (g.S.Source.left c.fill.new.source) t) same fills.bytes, form.1),
       subst (λ (t : List ℕ). Appends (g.K.Sink.written c.args.output.now) (g.K.Sink.written c.send.new.sink) t)
           (sent-is-answer form.0 c.from.result c.in-Some.step c.mix.new.pictures.whole c.from.ensures form.2 form.3) c.in-Ok.ensures.bytes,
+      stops.1,
+      c.in-Ok.ensures.cause.kept,
     )
 
 pub returns-in-Err-clause-ends : goal.returns-in-Err-clause-ends
@@ -61,5 +65,6 @@ returns-in-Err-clause-ends g c =
       (c.fill.new.out, subst (λ (t : List ℕ). Consumes (g.S.Source.left c.args.input.now) (g.S.Source.left c.fill.new.source) t) same fills.bytes, form.1),
       subst (λ (t : List ℕ). PutsFront (g.K.Sink.written c.args.output.now) (g.K.Sink.written c.send.new.sink) t)
           (sent-is-answer form.0 c.from.result c.in-Some.step c.mix.new.pictures.whole c.from.ensures form.2 form.3) c.in-Err.ensures.bytes,
+      stops.1,
       c.in-Err.ensures.cause.failed,
     )
