@@ -46,12 +46,7 @@ fn conference(alloc: Global, place: &[u8]) -> Result<Vec<u8>, AllocError> {
 }
 
 // The same with so many lanes, and a packet of this one of them.
-fn conference_of(
-    alloc: Global,
-    place: &[u8],
-    lanes: u8,
-    lane: u8,
-) -> Result<Vec<u8>, AllocError> {
+fn conference_of(alloc: Global, place: &[u8], lanes: u8, lane: u8) -> Result<Vec<u8>, AllocError> {
     let mut file = Vec::new(alloc);
     file.extend_from_slice(b"H261CONF\x01")?;
     file.push(lanes)?;

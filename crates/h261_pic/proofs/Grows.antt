@@ -1,5 +1,5 @@
 -- A coded picture that has one more group holds a valid picture with one more group.
-use Rattle.std.proofs.Common.{◌≡◌, ℕ, ◌+◌, ◌-◌, ◌*◌, ◌<◌, ◌≤◌, Bool, List, [], ◌∷◌, ◌++◌, length, refl, sym, ◌∙◌, ap, ap₂, subst, None, slice_index, take, drop, flat_map, zero, suc, ◌%◌, arith, append_assoc, length-append, slice_index_or}
+use Rattle.std.proofs.Common.{◌≡◌, ℕ, ◌+◌, ◌-◌, ◌*◌, ◌<◌, ◌≤◌, Bool, List, [], ◌∷◌, ◌++◌, length, refl, sym, ◌∙◌, ap, ap₂, subst, None, slice_index, take, drop, flat_map, zero, suc, ◌%◌, arith, length-append, slice_index_or}
 use Rattle.std.proofs.Math.Logic.{∥∥₁_elim, ∥∥₁_map, ∥∥₁_prop}
 use Rattle.std.proofs.Math.Bridge.{le_prop}
 use Rattle.h261_pic.specs.declared.coded.GroupView.{GroupView}
@@ -8,7 +8,7 @@ use Rattle.h261_pic.proofs.Texts.{coding-with_group, length-views, length-group_
 use Rattle.h261_pic.proofs.ValidPictures.{valid-with_group, group_that_belongs, number-at}
 use Rattle.pel_model.specs.declared.Format.{Format}
 use Rattle.pel_model.specs.declared.Format.TheVariants.{Qcif, Cif}
-use Rattle.pel_model.specs.Records.{Macroblock, Group, Picture}
+use Rattle.pel_model.specs.Records.{Group, Picture}
 use Rattle.pel_model.specs.Text.{group_header, macroblocks_text, group_text, picture_header}
 use Rattle.pel_model.specs.Regions.{renumbered}
 use Rattle.pel_model.specs.Valid.{group_numbers, group_count, IsValidMacroblock, IsValidGroup, IsValidSoFar, limit}

@@ -1,7 +1,7 @@
 -- Bits are in the plain form exactly where they spell a plain picture.
-use Rattle.std.proofs.Common.{◌≡◌, ℕ, zero, suc, ◌+◌, ◌-◌, ◌*◌, ◌/◌, ◌%◌, ◌^◌, ◌<◌, ◌≤◌, ◌==◌, Bool, true, false, cond, List, [], ◌∷◌, ◌++◌, length, take, drop, map, flat_map, slice_index_or, refl, sym, ◌∙◌, ap, ap₂, subst, Option, Some, None, pos, All, arith, append_assoc, append-nil, length-append, replicate, codes, drop_at, pow_pos, IsTrue, nat_eq, eq-eqb}
-use Rattle.std.proofs.lemmas.List.{length-replicate, length-take-le, length-drop, length-map, take-append-drop, drop-append-le, take-append-le}
-use Rattle.std.proofs.lemmas.List.Elements.{All-cons, All-nil, All-map}
+use Rattle.std.proofs.Common.{◌≡◌, ℕ, zero, suc, ◌+◌, ◌-◌, ◌*◌, ◌/◌, ◌%◌, ◌^◌, ◌<◌, ◌≤◌, ◌==◌, Bool, true, false, List, [], ◌∷◌, ◌++◌, length, take, drop, map, flat_map, refl, sym, ◌∙◌, ap, ap₂, subst, Option, Some, None, All, arith, append_assoc, append-nil, length-append, replicate, codes, drop_at, pow_pos, IsTrue, nat_eq, eq-eqb}
+use Rattle.std.proofs.lemmas.List.{length-replicate, length-take-le, length-drop, take-append-drop, drop-append-le, take-append-le}
+use Rattle.std.proofs.lemmas.List.Elements.{All-cons, All-nil}
 use Rattle.std.proofs.Math.Seq.{take-add, take-length, drop-drop, drop-append-add}
 use borrow.Author.Tests.{eqb-true}
 use Rattle.pel_bits.specs.Bits.{number, field as wire_field}
@@ -9,15 +9,14 @@ use Rattle.pel_bits.proofs.Fields.{number-fits, number_below, field-number, fiel
 use Rattle.h261_pic.specs.Coded.{IsGroupText}
 use Rattle.h261_pic.proofs.Texts.{length-group_header}
 use Rattle.h261_pic.proofs.ValidPictures.{valid_plain_group}
-use Rattle.h261_pic.specs.PlainForm.{field_at, IsBlockAt, IsMacroblockAt, IsGroupHeaderAt, IsGroupAt, AreGroups, IsHeader, IsPlainForm}
-use Rattle.pel_model.specs.declared.Format.TheVariants.{Qcif, Cif}
-use Rattle.pel_model.specs.declared.MbKind.TheVariants.{Intra}
+use Rattle.h261_pic.specs.PlainForm.{field_at, IsBlockAt, IsMacroblockAt, IsGroupAt, IsHeader, IsPlainForm}
+use Rattle.pel_model.specs.declared.Format.TheVariants.{Qcif}
 use Rattle.pel_model.specs.Bits.{field, is_odd}
 use Rattle.pel_model.specs.Codes.{word, mba_table, mtype_table, end_of_block_word}
-use Rattle.pel_model.specs.Records.{Block, Macroblock, Group, Picture}
-use Rattle.pel_model.specs.Text.{word_of, address_of, block_text, sent_block_text, macroblock_text, macroblocks_text, group_header, group_text, picture_header, text}
+use Rattle.pel_model.specs.Records.{Macroblock}
+use Rattle.pel_model.specs.Text.{word_of, address_of, block_text, sent_block_text, macroblock_text, macroblocks_text, group_header, group_text}
 use Rattle.pel_model.specs.Plain.{PlainGroup, PlainPicture, IsPlainGroup, IsPlainPicture, plain_block, plain_macroblock, plain_macroblocks, plain_group, plain_picture, FreeBits, plain_header, SpellsPlain}
-use Rattle.pel_model.specs.Valid.{IsValidDc, IsQuantiser}
+use Rattle.pel_model.specs.Valid.{IsValidDc}
 
 -- the fields of the two base crates are the same
 pub field-same : (n w : ℕ) → wire_field n w ≡ field n w

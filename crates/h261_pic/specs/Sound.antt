@@ -1,5 +1,5 @@
 -- What is true of the fields of a coded picture.
-use Rattle.std.specs.Prelude.{◌≡◌, ℕ, ◌+◌, ◌-◌, ◌*◌, ◌<◌, ◌≤◌, List, [], length}
+use Rattle.std.specs.Prelude.{◌≡◌, ◌+◌, ◌-◌, ◌*◌, ◌<◌, ◌≤◌, [], length}
 use Rattle.h261_pic.specs.declared.coded.Coded.TheInside.{Inside}
 use Rattle.h261_pic.specs.Coded.{Coding, HasPicture, nothing}
 use Rattle.pel_model.specs.Valid.{group_count, limit}

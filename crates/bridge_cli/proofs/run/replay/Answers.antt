@@ -1,13 +1,10 @@
-use Rattle.std.proofs.Common.{◌≡◌, ℕ, ◌+◌, ◌*◌, ◌<◌, ◌≤◌, List, Option, length, take, arith, refl, sym, ◌∙◌, ap, subst}
+use Rattle.std.proofs.Common.{◌≡◌, ℕ, ◌≤◌, List, length, take, arith, refl, sym, subst}
 use Rattle.std.proofs.KnownBytes.{Keeps-refl}
 use Rattle.std.specs.Io.KnownBytes.{Consumes, Appends}
 use Rattle.h261_pic.specs.Coded.{Coding}
-use Rattle.bridge_cli.specs.FirstForm.{FirstForm, IsFirstForm}
-use Rattle.bridge_cli.specs.OnePacket.{answer, one_packet}
 use Rattle.bridge_cli.proofs.Ends.{no-form-here, too-short, whole-slice, stops-full, stops-end, length-front, sent-is-answer}
 use Rattle.bridge_cli.proofs.Sends.{PutsFront}
 use Rattle.bridge_cli.proofs.Shows.{text-fits}
-use Rattle.rtp_wire.specs.Frames.{frame}
 use Rattle.bridge_cli.proofs.run.replay.Goals as goal
 
 pub returns-in-AtEnd-clause-ends : goal.returns-in-AtEnd-clause-ends

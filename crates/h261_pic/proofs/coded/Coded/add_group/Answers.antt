@@ -1,4 +1,4 @@
-use Rattle.std.proofs.Common.{◌≡◌, sym, ◌∙◌, ap, subst, ℕ, slice_index, arith, length, ◌<◌}
+use Rattle.std.proofs.Common.{◌≡◌, sym, ◌∙◌, ap, subst, ℕ, slice_index, arith, length}
 use Rattle.h261_pic.specs.Coded.{Coding, grown}
 use Rattle.h261_pic.specs.Sound.{written}
 use Rattle.h261_pic.proofs.Grows.{quant-fits, MayGrow, header-room, IsGrown, sound-grown}

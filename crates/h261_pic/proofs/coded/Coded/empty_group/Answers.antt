@@ -1,7 +1,6 @@
-use Rattle.std.proofs.Common.{◌+◌, ◌-◌, ◌*◌, ◌<◌, ◌≤◌, length, arith, subst, sym}
-use Rattle.h261_pic.specs.Coded.{Coding, IsGroupText, next_number}
+use Rattle.std.proofs.Common.{arith, subst, sym}
+use Rattle.h261_pic.specs.Coded.{IsGroupText, next_number}
 use Rattle.h261_pic.proofs.Grows.{empty_group_text}
-use Rattle.pel_model.specs.Valid.{group_count, limit}
 use Rattle.h261_pic.proofs.coded.Coded.empty_group.Goals as goal
 
 pub add_group-requires-clause-room : goal.add_group-requires-clause-room

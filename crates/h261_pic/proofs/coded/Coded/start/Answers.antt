@@ -1,6 +1,6 @@
-use Rattle.std.proofs.Common.{◌≡◌, ◌<◌, ◌≤◌, ◌+◌, ◌-◌, ◌*◌, ◌++◌, Bool, List, [], length, ap, ap₂, sym, subst, ◌∙◌, append-nil, arith}
+use Rattle.std.proofs.Common.{◌≡◌, ◌≤◌, ◌+◌, ◌-◌, ◌*◌, ◌++◌, Bool, List, length, ap, ap₂, sym, subst, ◌∙◌, append-nil, arith}
 use Rattle.h261_pic.specs.declared.coded.GroupView.{GroupView}
-use Rattle.h261_pic.specs.Coded.{Coding, HasPicture, coding}
+use Rattle.h261_pic.specs.Coded.{HasPicture}
 use Rattle.h261_pic.proofs.Grows.{started-picture, started-room}
 use Rattle.h261_pic.proofs.Texts.{length-picture_header}
 use Rattle.pel_bits.specs.Buffer.{Buffer}
