@@ -16,7 +16,8 @@ say() {
 
 is_built() {
     [ -x "$program" ] && [ -e "$built" ] &&
-        [ -z "$(find "$top/crates" "$top/crates.txt" -name out -prune -o -type f -newer "$built" -print)" ]
+        [ -z "$(find "$top/crates" "$top/crates.txt" -name out -prune -o \
+            \( -name '*.rt' -o -name '*.antt' -o -name crates.txt \) -newer "$built" -print)" ]
 }
 
 build() {
