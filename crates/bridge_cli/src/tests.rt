@@ -101,6 +101,16 @@ fn replay(alloc: Global, file: Vec<u8>) -> Result<Ended, Fail> {
     run_words(alloc, &["replay"], input, output)
 }
 
+// The octets as the digits of a number to the base 31, modulo 2 ^ 32. What is wanted comes from a model of the bridge
+// that was written apart from it.
+fn digest(octets: &[u8]) -> u32 {
+    let mut digest = 0u32;
+    for octet in octets {
+        digest = digest.wrapping_mul(31).wrapping_add(u32::from(*octet));
+    }
+    digest
+}
+
 #[test]
 fn grey_top_left(rt: HostRuntime) -> Result<(), Fail> {
     let alloc = rt.alloc();
@@ -113,6 +123,7 @@ fn grey_top_left(rt: HostRuntime) -> Result<(), Fail> {
     // the length, the fixed header with marker bit, payload type 31, timestamp 3003 and SSRC H261, and EBIT 5
     let head = b"\x03\x60\x80\x9f\0\0\0\0\x0b\xbbH261\x15\0\0\0";
     assert_eq!(rt; &written[..18], head.as_slice());
+    assert_eq!(rt; digest(&written), 4_176_692_136);
     // the picture header with TR 1 and PTYPE 000111, and the header of group 1 with GQUANT 8
     let picture = Bits::new(&written[18..], 0, 6779);
     assert_eq!(rt; picture.number(0, 32), 0x0001_008e);
@@ -130,6 +141,7 @@ fn grey_bottom_right(rt: HostRuntime) -> Result<(), Fail> {
     assert_eq!(rt; ended.status, Status::Done);
     assert_eq!(rt; written.len(), 866);
     let picture = Bits::new(&written[18..], 0, 6779);
+    assert_eq!(rt; digest(&written), 1_631_872_599);
     for (at, group) in [(214, 8), (2411, 10), (4608, 12)] {
         assert_eq!(rt; picture.number(at, 26), 1 << 10 | group << 6 | 8 << 1);
     }
@@ -161,12 +173,12 @@ fn a_file_is_read_to_its_end_entry(rt: HostRuntime) -> Result<(), Fail> {
         (Status::Unsupported, 0, 0)
     );
 
-    let whole = replay(alloc, conference(alloc, b"1")?)?;
     let mut longer = conference(alloc, b"1")?;
     longer.extend_from_slice(b"more")?;
     let ended = replay(alloc, longer)?;
     assert_eq!(rt; (ended.status, ended.left), (Status::Done, 4));
-    assert_eq!(rt; ended.written.as_slice(), whole.written.as_slice());
+    assert_eq!(rt; ended.written.len(), 866);
+    assert_eq!(rt; digest(&ended.written), 4_176_692_136);
     Ok(())
 }
 
