@@ -1,6 +1,6 @@
 -- How a run ends, from what was read.
-use Rattle.std.proofs.Common.{◌≡◌, ℕ, ◌+◌, ◌-◌, ◌*◌, ◌/◌, ◌%◌, ◌<◌, ◌≤◌, Bool, List, [], ◌∷◌, ◌++◌, length, take, drop, slice_index, Option, None, Some, refl, sym, ◌∙◌, ap, ap₂, subst, arith, length-append, append-nil}
-use Rattle.std.proofs.lemmas.List.{take-append-le, length-drop, length-take-le, take_at}
+use Rattle.std.proofs.Common.{◌≡◌, ℕ, ◌-◌, ◌*◌, ◌/◌, ◌%◌, ◌<◌, ◌≤◌, Bool, List, [], ◌∷◌, ◌++◌, length, take, drop, slice_index, Option, None, Some, refl, sym, ◌∙◌, ap, ap₂, subst, arith, length-append, append-nil}
+use Rattle.std.proofs.lemmas.List.{length-drop, length-take-le, take_at}
 use Rattle.std.proofs.Math.Seq.{take-length}
 use Rattle.std.specs.Io.KnownBytes.{Consumes, IsAtEnd}
 use Rattle.io_edge.specs.Whole.{StopsFor}
@@ -13,7 +13,7 @@ use Rattle.pel_model.specs.declared.Format.TheVariants.{Cif}
 use Rattle.pel_model.specs.Plain.{plain_picture}
 use Rattle.pel_model.specs.Regions.{shown_in}
 use Rattle.rtp_wire.specs.Frames.{frame}
-use Rattle.bridge_cli.specs.FirstForm.{FirstForm, IsFirstForm, IsOutline, file_octets, packet_bits}
+use Rattle.bridge_cli.specs.FirstForm.{FirstForm, IsFirstForm, IsOutline, packet_bits}
 use Rattle.pel_model.specs.declared.Quad.{Quad}
 use Rattle.pel_bits.specs.Bits.{bits as wire_bits, field as wire_field}
 use Rattle.pel_model.specs.Bits.{bits, field}

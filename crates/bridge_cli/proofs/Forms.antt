@@ -1,6 +1,6 @@
 -- A file is of the first form, but for its picture, exactly where its octets stand at their places.
-use Rattle.std.proofs.Common.{◌≡◌, ℕ, ◌+◌, ◌-◌, ◌<◌, ◌≤◌, List, [], ◌∷◌, ◌++◌, length, take, drop, slice_index, refl, sym, ◌∙◌, ap, ap₂, subst, arith, codes, get_or}
-use Rattle.std.proofs.lemmas.List.{length-take-le, length-drop, take-append-drop, drop-drop, drop_more, take_at, drop_at, get_or_append_left, get_or-append-add, get_or-take}
+use Rattle.std.proofs.Common.{◌≡◌, ℕ, ◌+◌, ◌<◌, ◌≤◌, List, [], ◌∷◌, ◌++◌, length, take, drop, slice_index, refl, sym, ◌∙◌, ap, ap₂, subst, arith, codes}
+use Rattle.std.proofs.lemmas.List.{length-take-le, length-drop, take-append-drop, drop-drop, drop_more, get_or_append_left, get_or-append-add, get_or-take}
 use Rattle.std.proofs.Math.ListN.{drop_of_length-le}
 use lib.Seq.{get_or-drop}
 use Rattle.bridge_cli.specs.FirstForm.{file_octets, IsWholePacket, IsOutline}

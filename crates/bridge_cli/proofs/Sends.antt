@@ -1,5 +1,5 @@
 -- A picture's octets as the packet's payload, and pieces that are put one after another.
-use Rattle.std.proofs.Common.{◌≡◌, ℕ, ◌+◌, ◌-◌, ◌*◌, ◌/◌, ◌<◌, ◌≤◌, ◌^◌, Bool, true, false, List, [], ◌∷◌, ◌++◌, length, take, Option, Result, Ok, Err, IsErr, suc, append_assoc, append-nil, refl, sym, ◌∙◌, ap, ap₂, subst, arith, length-append, slice_index}
+use Rattle.std.proofs.Common.{◌≡◌, ℕ, ◌+◌, ◌-◌, ◌*◌, ◌/◌, ◌<◌, Bool, true, false, List, [], ◌∷◌, ◌++◌, length, take, Option, Result, Ok, Err, IsErr, suc, append_assoc, append-nil, refl, sym, ◌∙◌, ap, ap₂, subst, arith, length-append, slice_index}
 use Rattle.std.proofs.lemmas.List.{take-append-le}
 use Rattle.std.proofs.Math.Seq.{take-append-add}
 use Rattle.std.proofs.KnownBytes.{Appends-trans}
@@ -10,7 +10,7 @@ use Rattle.pel_bits.specs.Buffer.{whole, filled_up}
 use Rattle.rtp_wire.specs.Frames.{frame}
 use Rattle.rtp_wire.specs.Rtp.{octets_of, plain}
 use Rattle.io_edge.specs.Whole.{PutsAll}
-use Rattle.pel_bits.specs.Bits.{bits, field, number}
+use Rattle.pel_bits.specs.Bits.{bits, field}
 use Rattle.pel_bits.proofs.Fields.{number-fits}
 use Rattle.pel_bits.proofs.OctetBits.{length-bits}
 use Rattle.pel_bits.specs.Reading.{zeros}

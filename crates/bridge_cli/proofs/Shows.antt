@@ -1,11 +1,9 @@
 -- A CIF picture that shows a plain picture in one place, group by group.
-use Rattle.std.proofs.Common.{◌≡◌, ◌⊎◌, ℕ, zero, suc, ◌+◌, ◌-◌, ◌*◌, ◌<◌, ◌≤◌, ◌==◌, Bool, true, false, List, [], ◌∷◌, ◌++◌, length, map, flat_map, slice_index, slice_index_or, Option, None, Some, if◌then◌else◌, refl, sym, ◌∙◌, ap, ap₂, subst, inl, inr, arith, append-nil, length-append}
-use Rattle.std.proofs.lemmas.List.{flat_map_more}
+use Rattle.std.proofs.Common.{◌≡◌, ◌⊎◌, ℕ, zero, suc, ◌+◌, ◌-◌, ◌*◌, ◌<◌, ◌≤◌, ◌==◌, Bool, true, false, List, [], ◌∷◌, ◌++◌, length, flat_map, slice_index, slice_index_or, Option, None, Some, if◌then◌else◌, refl, sym, ◌∙◌, ap, ap₂, subst, inl, inr, arith, append-nil, length-append}
 use Rattle.std.proofs.lemmas.Grind.{flat_map-append}
 use Rattle.std.proofs.lemmas.List.FromFn.{get_or-range_with_len}
-use Rattle.std.specs.List.{range_with_len}
 use borrow.Author.Tests.{eqb-true}
-use Rattle.h261_pic.specs.Coded.{Coding, coding, grown, with_group, next_number, group_of, macroblock_bits, Belongs, IsFinished, views}
+use Rattle.h261_pic.specs.Coded.{Coding, coding, grown, next_number, group_of, macroblock_bits, Belongs, IsFinished}
 use Rattle.h261_pic.proofs.Grows.{bits-of-view, view-quant, no_group}
 use Rattle.h261_pic.proofs.PlainPictures.{length-plain-group}
 use Rattle.h261_pic.proofs.Texts.{coding-with_group, length-views, length-text, length-group_text}

@@ -1,5 +1,5 @@
 -- How a run ends, and what it read and wrote until then.
-use Rattle.std.specs.Prelude.{◌≡◌, ℕ, ◌<◌, ◌≤◌, Bool, false, List, [], ◌∷◌, ◌++◌, length, take, Option, None, Some, String, string_bytes, bytes_eq, codes}
+use Rattle.std.specs.Prelude.{◌≡◌, ℕ, ◌<◌, ◌≤◌, Bool, false, List, [], ◌∷◌, ◌++◌, length, take, Option, Some, String, string_bytes, bytes_eq, codes}
 use Rattle.std.specs.Io.KnownBytes.{Consumes, Appends, Keeps}
 use Rattle.std.specs.Global.{Global}
 use Rattle.io_edge.specs.Causes.{Rose}
@@ -49,15 +49,26 @@ ReadsAtMostForm before after = (taken : List ℕ) × (length taken ≤ 863) × C
 abbrev pub WritesNothing : Outside → Outside → Type 0
 WritesNothing before after = Keeps before.written after.written
 
+-- no call of the source failed
+abbrev pub NoReadFails : Outside → Outside → Type 0
+NoReadFails before after = after.faults ≡ before.faults
+
+-- no call of the sink failed
+abbrev pub NoWriteFails : Outside → Outside → Type 0
+NoWriteFails before after = after.write_faults ≡ before.write_faults
+
 abbrev pub Ends : Outside → Outside → Status → Type 0
-Ends before after Done = (f : FirstForm) × ReadsForm before after f × Appends before.written after.written (answer f)
+Ends before after Done =
+    (f : FirstForm) × ReadsForm before after f × Appends before.written after.written (answer f)
+    × NoReadFails before after × NoWriteFails before after
 Ends before after WriteFault =
     (f : FirstForm) × ReadsForm before after f
     × ((n : ℕ) × (n < length (answer f)) × Appends before.written after.written (take n (answer f)))
-    × Rose before.write_faults after.write_faults
-Ends before after ReadFault = Rose before.faults after.faults × ReadsAtMostForm before after × WritesNothing before after
+    × NoReadFails before after × Rose before.write_faults after.write_faults
+Ends before after ReadFault =
+    Rose before.faults after.faults × ReadsAtMostForm before after × WritesNothing before after × NoWriteFails before after
 Ends before after Unsupported =
     ((octets : List ℕ) → before.left ≡ Some octets → HasNoFirstForm octets)
-    × (after.faults ≡ before.faults) × ReadsAtMostForm before after × WritesNothing before after
+    × NoReadFails before after × ReadsAtMostForm before after × WritesNothing before after × NoWriteFails before after
 Ends before after Usage = IsUntouched before after
 Ends before after NoMemory = IsUntouched before after

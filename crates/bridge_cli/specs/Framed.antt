@@ -1,3 +1,4 @@
+-- Inner contracts alone use this; nothing here has to be believed.
 -- The octets of a file of the first form, by their places.
 use Rattle.std.specs.Prelude.{◌≡◌, ℕ, ◌<◌, ◌≤◌, List, [], ◌∷◌, ◌++◌, take, drop, slice_index, codes}
 

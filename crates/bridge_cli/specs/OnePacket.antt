@@ -1,5 +1,5 @@
 -- The packet that is written for the first form.
-use Rattle.std.specs.Prelude.{◌≡◌, ℕ, ◌+◌, ◌-◌, ◌*◌, Bool, true, List, [], ◌∷◌, ◌++◌, length}
+use Rattle.std.specs.Prelude.{ℕ, ◌+◌, ◌-◌, ◌*◌, Bool, true, List, [], ◌∷◌, ◌++◌, length}
 use Rattle.bridge_cli.specs.FirstForm.{FirstForm}
 use Rattle.pel_bits.specs.Bits.{number}
 use Rattle.pel_bits.specs.Buffer.{whole, filled_up}

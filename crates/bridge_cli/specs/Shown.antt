@@ -1,3 +1,4 @@
+-- Inner contracts alone use this; nothing here has to be believed.
 -- The groups of a CIF picture that shows a QCIF picture in one place, one after another.
 use Rattle.std.specs.Prelude.{ℕ, zero, suc, ◌+◌, ◌==◌, if◌then◌else◌, List, [], ◌∷◌, ◌++◌, slice_index_or, Option, None, Some}
 use Rattle.pel_model.specs.declared.Quad.{Quad}

@@ -26,7 +26,7 @@ A continuous-presence bridge for H.261 in the coded domain.
 Usage: bridge_cli replay < conference file > framed RTP packets
        bridge_cli --help | --version
 
-Status: 0 done, 2 usage, 3 input failed, 4 output failed, 9 no memory, 11 not a file that is read yet";
+Status: 0 done, 2 usage, 3 input failed, 4 output failed, 9 no memory, 11 not a conference file of the first form";
 
 const VERSION: &str = "bridge_cli 0.1.0";
 

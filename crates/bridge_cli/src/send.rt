@@ -16,7 +16,7 @@ use rtp_wire::write_header;
 /// The SSRC of the packets that are written, `H261`.
 const SSRC: u32 = 1_211_250_225;
 
-/// Ticks of the clock of 90 kHz in a step of 1,001 / 30,000 seconds (RFC 4587, 3).
+/// Ticks of the clock of 90 kHz in a step of 1,001 / 30,000 seconds (RFC 4587, 4.1).
 const TICKS: u32 = 3003;
 
 /// Writes a picture as one packet with its length before it.

@@ -41,13 +41,20 @@ fn grey(alloc: Global) -> Result<Vec<bool>, AllocError> {
 }
 
 // The conference file of one lane that sends the grey picture, shown in a place.
-fn conference(alloc: Global, place: &[u8], lanes: u8) -> Result<Vec<u8>, AllocError> {
+fn conference(alloc: Global, place: &[u8]) -> Result<Vec<u8>, AllocError> {
+    conference_of(alloc, place, 1, 0)
+}
+
+// The same with so many lanes, and a packet of this one of them.
+fn conference_of(alloc: Global, place: &[u8], lanes: u8, lane: u8) -> Result<Vec<u8>, AllocError> {
     let mut file = Vec::new(alloc);
     file.extend_from_slice(b"H261CONF\x01")?;
     file.push(lanes)?;
     file.extend_from_slice(b"C\x09place ")?;
     file.extend_from_slice(place)?;
-    file.extend_from_slice(b" 0P\x00\x03\x43\x80\x9f\0\0\0\0\0\0\0\0\0\0\x1d\0\0\0")?;
+    file.extend_from_slice(b" 0P")?;
+    file.push(lane)?;
+    file.extend_from_slice(b"\x03\x43\x80\x9f\0\0\0\0\0\0\0\0\0\0\x1d\0\0\0")?;
     for eight in grey(alloc)?.chunks(8) {
         let mut octet = 0u8;
         for bit in eight {
@@ -59,30 +66,64 @@ fn conference(alloc: Global, place: &[u8], lanes: u8) -> Result<Vec<u8>, AllocEr
     Ok(file)
 }
 
-// Runs `replay`, and gives the status and what was written.
-fn replay(
+// How a run ended: its status, what was written, and how many octets were not read.
+#[derive(Drop)]
+struct Ended {
+    status: Status,
+    written: Vec<u8>,
+    left: usize,
+}
+
+// Runs the program with these words.
+fn run_words(
     alloc: Global,
+    words: &[&str],
     mut input: MemSource,
     mut output: MemSink,
-) -> Result<(Status, Vec<u8>), Fail> {
-    let words = vec![in alloc; String::from_str(alloc, "replay")?]?;
+) -> Result<Ended, Fail> {
+    let mut strings = Vec::new(alloc);
+    for word in words {
+        strings.push(String::from_str(alloc, word)?)?;
+    }
     let mut notes = MemSink::reserve(alloc, 0, Vec::new(alloc), 1)?;
-    let status = run(alloc, &words, &mut input, &mut output, &mut notes);
-    Ok((status, output.bytes().to_vec(alloc)?))
+    let status = run(alloc, &strings, &mut input, &mut output, &mut notes);
+    Ok(Ended {
+        status,
+        written: output.bytes().to_vec(alloc)?,
+        left: input.left().len(),
+    })
+}
+
+// Runs `replay` on a file, over a source and a sink that never fail.
+fn replay(alloc: Global, file: Vec<u8>) -> Result<Ended, Fail> {
+    let output = MemSink::reserve(alloc, 1000, Vec::new(alloc), 1000)?;
+    let input = MemSource::new(file, Vec::new(alloc), 1000);
+    run_words(alloc, &["replay"], input, output)
+}
+
+// The octets as the digits of a number to the base 31, modulo 2 ^ 32. What is wanted comes from a model of the bridge
+// that was written apart from it.
+fn digest(octets: &[u8]) -> u32 {
+    let mut digest = 0u32;
+    for octet in octets {
+        digest = digest.wrapping_mul(31).wrapping_add(u32::from(*octet));
+    }
+    digest
 }
 
 #[test]
 fn grey_top_left(rt: HostRuntime) -> Result<(), Fail> {
     let alloc = rt.alloc();
-    let file = conference(alloc, b"1", 1)?;
+    let file = conference(alloc, b"1")?;
     assert_eq!(rt; file.len(), 863);
-    let output = MemSink::reserve(alloc, 1000, Vec::new(alloc), 1000)?;
-    let (status, written) = replay(alloc, MemSource::new(file, Vec::new(alloc), 1000), output)?;
-    assert_eq!(rt; status, Status::Done);
+    let ended = replay(alloc, file)?;
+    let written = ended.written;
+    assert_eq!(rt; ended.status, Status::Done);
     assert_eq!(rt; written.len(), 866);
     // the length, the fixed header with marker bit, payload type 31, timestamp 3003 and SSRC H261, and EBIT 5
     let head = b"\x03\x60\x80\x9f\0\0\0\0\x0b\xbbH261\x15\0\0\0";
     assert_eq!(rt; &written[..18], head.as_slice());
+    assert_eq!(rt; digest(&written), 4_176_692_136);
     // the picture header with TR 1 and PTYPE 000111, and the header of group 1 with GQUANT 8
     let picture = Bits::new(&written[18..], 0, 6779);
     assert_eq!(rt; picture.number(0, 32), 0x0001_008e);
@@ -94,11 +135,13 @@ fn grey_top_left(rt: HostRuntime) -> Result<(), Fail> {
 fn grey_bottom_right(rt: HostRuntime) -> Result<(), Fail> {
     let alloc = rt.alloc();
     let output = MemSink::reserve(alloc, 1000, Vec::new(alloc), 7)?;
-    let input = MemSource::new(conference(alloc, b"4", 1)?, Vec::new(alloc), 1);
-    let (status, written) = replay(alloc, input, output)?;
-    assert_eq!(rt; status, Status::Done);
+    let input = MemSource::new(conference(alloc, b"4")?, Vec::new(alloc), 1);
+    let ended = run_words(alloc, &["replay"], input, output)?;
+    let written = ended.written;
+    assert_eq!(rt; ended.status, Status::Done);
     assert_eq!(rt; written.len(), 866);
     let picture = Bits::new(&written[18..], 0, 6779);
+    assert_eq!(rt; digest(&written), 1_631_872_599);
     for (at, group) in [(214, 8), (2411, 10), (4608, 12)] {
         assert_eq!(rt; picture.number(at, 26), 1 << 10 | group << 6 | 8 << 1);
     }
@@ -108,41 +151,68 @@ fn grey_bottom_right(rt: HostRuntime) -> Result<(), Fail> {
 #[test]
 fn two_lanes_are_unsupported(rt: HostRuntime) -> Result<(), Fail> {
     let alloc = rt.alloc();
-    let output = MemSink::reserve(alloc, 1000, Vec::new(alloc), 1000)?;
-    let input = MemSource::new(conference(alloc, b"1", 2)?, Vec::new(alloc), 1000);
-    let (status, written) = replay(alloc, input, output)?;
-    assert_eq!(rt; (status, written.len()), (Status::Unsupported, 0));
+    for (lanes, lane) in [(2, 0), (2, 1), (1, 1), (1, 2)] {
+        let ended = replay(alloc, conference_of(alloc, b"1", lanes, lane)?)?;
+        assert_eq!(rt;
+            (ended.status, ended.written.len()),
+            (Status::Unsupported, 0),
+            "{lanes} lanes, packet of lane {lane}"
+        );
+    }
+    Ok(())
+}
+
+#[test]
+fn a_file_is_read_to_its_end_entry(rt: HostRuntime) -> Result<(), Fail> {
+    let alloc = rt.alloc();
+    let mut cut = conference(alloc, b"1")?;
+    cut.truncate(862);
+    let ended = replay(alloc, cut)?;
+    assert_eq!(rt;
+        (ended.status, ended.written.len(), ended.left),
+        (Status::Unsupported, 0, 0)
+    );
+
+    let mut longer = conference(alloc, b"1")?;
+    longer.extend_from_slice(b"more")?;
+    let ended = replay(alloc, longer)?;
+    assert_eq!(rt; (ended.status, ended.left), (Status::Done, 4));
+    assert_eq!(rt; ended.written.len(), 866);
+    assert_eq!(rt; digest(&ended.written), 4_176_692_136);
     Ok(())
 }
 
 #[test]
 fn failing_source_and_sink(rt: HostRuntime) -> Result<(), Fail> {
     let alloc = rt.alloc();
-    let output = MemSink::reserve(alloc, 1000, Vec::new(alloc), 1000)?;
-    let input = MemSource::new(conference(alloc, b"1", 1)?, vec![in alloc; 1]?, 1000);
-    let (status, written) = replay(alloc, input, output)?;
-    assert_eq!(rt; (status, written.len()), (Status::ReadFault, 0));
-
-    let output = MemSink::reserve(alloc, 1000, vec![in alloc; 1]?, 1000)?;
-    let input = MemSource::new(conference(alloc, b"1", 1)?, Vec::new(alloc), 1000);
-    let (status, written) = replay(alloc, input, output)?;
-    assert_eq!(rt; (status, written.len()), (Status::WriteFault, 0));
+    // the call of the source and that of the sink that fail
+    let rows = [(1, 9, Status::ReadFault), (9, 1, Status::WriteFault)];
+    for (read, write, status) in rows {
+        let output = MemSink::reserve(alloc, 1000, vec![in alloc; write]?, 1000)?;
+        let input = MemSource::new(conference(alloc, b"1")?, vec![in alloc; read]?, 1000);
+        let ended = run_words(alloc, &["replay"], input, output)?;
+        assert_eq!(rt; (ended.status, ended.written.len()), (status, 0));
+    }
     Ok(())
 }
 
 #[test]
 fn other_words_are_usage(rt: HostRuntime) -> Result<(), Fail> {
     let alloc = rt.alloc();
-    let mut input = MemSource::new(Vec::new(alloc), Vec::new(alloc), 1);
-    let mut output = MemSink::reserve(alloc, 0, Vec::new(alloc), 1)?;
-    let mut notes = MemSink::reserve(alloc, 0, Vec::new(alloc), 1)?;
-    let words = vec![in alloc;
-        String::from_str(alloc, "replay")?,
-        String::from_str(alloc, "replay")?,
-    ]?;
-    assert_eq!(rt;
-        run(alloc, &words, &mut input, &mut output, &mut notes),
-        Status::Usage
-    );
+    let rows: [&[&str]; 4] = [
+        &[],
+        &["Replay"],
+        &["replay", "replay"],
+        &["replay", "--mtu=1000"],
+    ];
+    for words in rows {
+        let output = MemSink::reserve(alloc, 1000, Vec::new(alloc), 1000)?;
+        let input = MemSource::new(conference(alloc, b"1")?, Vec::new(alloc), 1000);
+        let ended = run_words(alloc, words, input, output)?;
+        assert_eq!(rt;
+            (ended.status, ended.written.len(), ended.left),
+            (Status::Usage, 0, 863)
+        );
+    }
     Ok(())
 }

@@ -1,5 +1,5 @@
 -- A coded picture that has one more group holds a valid picture with one more group.
-use Rattle.std.proofs.Common.{◌≡◌, ℕ, ◌+◌, ◌-◌, ◌*◌, ◌<◌, ◌≤◌, Bool, List, [], ◌∷◌, ◌++◌, length, refl, sym, ◌∙◌, ap, ap₂, subst, None, slice_index, take, drop, flat_map, zero, suc, ◌%◌, arith, append_assoc, length-append, slice_index_or}
+use Rattle.std.proofs.Common.{◌≡◌, ℕ, ◌+◌, ◌-◌, ◌*◌, ◌<◌, ◌≤◌, Bool, List, [], ◌∷◌, ◌++◌, length, refl, sym, ◌∙◌, ap, ap₂, subst, None, slice_index, take, drop, flat_map, zero, suc, ◌%◌, arith, length-append, slice_index_or}
 use Rattle.std.proofs.Math.Logic.{∥∥₁_elim, ∥∥₁_map, ∥∥₁_prop}
 use Rattle.std.proofs.Math.Bridge.{le_prop}
 use Rattle.h261_pic.specs.declared.coded.GroupView.{GroupView}
@@ -8,7 +8,7 @@ use Rattle.h261_pic.proofs.Texts.{coding-with_group, length-views, length-group_
 use Rattle.h261_pic.proofs.ValidPictures.{valid-with_group, group_that_belongs, number-at}
 use Rattle.pel_model.specs.declared.Format.{Format}
 use Rattle.pel_model.specs.declared.Format.TheVariants.{Qcif, Cif}
-use Rattle.pel_model.specs.Records.{Macroblock, Group, Picture}
+use Rattle.pel_model.specs.Records.{Group, Picture}
 use Rattle.pel_model.specs.Text.{group_header, macroblocks_text, group_text, picture_header}
 use Rattle.pel_model.specs.Regions.{renumbered}
 use Rattle.pel_model.specs.Valid.{group_numbers, group_count, IsValidMacroblock, IsValidGroup, IsValidSoFar, limit}
@@ -134,6 +134,7 @@ pub record MayGrow (c : Coding) (quant : ℕ) (bits : List Bool) : Type 0 where
 -- the fields of a picture that has grown
 pub record IsGrown (format : Format) (tr : ℕ) (text : Buffer) (groups : List GroupView) : Type 0 where
   pub capacity : text.capacity ≡ limit format
+  pub begun : 0 < length text.list
   pub within : length text.list ≤ limit format
   pub count : length groups ≤ group_count format
   pub room : length text.list + 26 * (group_count format - length groups) ≤ limit format
@@ -171,6 +172,7 @@ sound-grown format tr text text' text'' groups groups' number quant from len bit
     written-grown format tr text.list text''.list bits groups groups' number quant from len list_is groups_are number_is (from_is ∙ header.1) len_is in (
       record {
         capacity = ap (λ (b : Buffer). b.capacity) text_is' ∙ ap (λ (b : Buffer). b.capacity) text_is ∙ capacity;
+        begun = omega arith;
         within = omega (arith, may.room, may.next);
         count = omega (arith, may.next);
         room = omega (arith, may.room, may.next);

@@ -1,5 +1,5 @@
 -- The fields of a header, pushed one after another.
-use Rattle.std.proofs.Common.{◌≡◌, ℕ, Bool, List, [], ◌∷◌, ◌++◌, refl, sym, ◌∙◌, ap, ap₂, append_assoc}
+use Rattle.std.proofs.Common.{◌≡◌, ℕ, Bool, List, ◌++◌, ◌∙◌, ap, ap₂, append_assoc}
 use Rattle.pel_bits.specs.Bits.{field as wire_field}
 use Rattle.pel_bits.specs.Buffer.{Buffer}
 use Rattle.pel_model.specs.declared.Format.{Format}

@@ -1,5 +1,5 @@
 -- What is written for bits in the plain form is their picture.
-use Rattle.std.proofs.Common.{◌≡◌, ℕ, ◌+◌, ◌-◌, ◌*◌, ◌<◌, ◌≤◌, Bool, List, [], ◌∷◌, ◌++◌, length, take, drop, refl, sym, ◌∙◌, ap, ap₂, None, arith, length-append, length-drop, length-take-le}
+use Rattle.std.proofs.Common.{◌≡◌, ℕ, ◌+◌, ◌≤◌, Bool, List, [], length, take, drop, refl, sym, ◌∙◌, ap, arith, length-append, length-drop, length-take-le}
 use Rattle.h261_pic.specs.Coded.{Coding, coding, grown, with_group, next_number}
 use Rattle.h261_pic.specs.PlainForm.{field_at, IsGroupAt, IsPlainForm}
 use Rattle.h261_pic.proofs.Grows.{length-grown}
@@ -8,7 +8,7 @@ use Rattle.h261_pic.proofs.Texts.{coding-with_group, length-picture_header}
 use Rattle.pel_model.specs.declared.Format.{Format}
 use Rattle.pel_model.specs.declared.Format.TheVariants.{Qcif}
 use Rattle.pel_model.specs.Plain.{plain_group, plain_picture}
-use Rattle.pel_model.specs.Records.{Group, Picture}
+use Rattle.pel_model.specs.Records.{Picture}
 use Rattle.pel_model.specs.Text.{picture_header}
 
 abbrev started : ℕ → Picture

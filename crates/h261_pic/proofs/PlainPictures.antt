@@ -1,23 +1,23 @@
 -- Bits are in the plain form exactly where they spell a plain picture.
-use Rattle.std.proofs.Common.{◌≡◌, ℕ, zero, suc, ◌+◌, ◌-◌, ◌*◌, ◌/◌, ◌%◌, ◌^◌, ◌<◌, ◌≤◌, ◌==◌, Bool, true, false, cond, List, [], ◌∷◌, ◌++◌, length, take, drop, map, flat_map, slice_index_or, refl, sym, ◌∙◌, ap, ap₂, subst, Option, Some, None, pos, All, arith, append_assoc, append-nil, length-append, replicate, codes, drop_at, pow_pos, IsTrue, nat_eq, eq-eqb}
-use Rattle.std.proofs.lemmas.List.{length-replicate, length-take-le, length-drop, length-map, take-append-drop, drop-append-le, take-append-le}
-use Rattle.std.proofs.lemmas.List.Elements.{All-cons, All-nil, All-map}
+use Rattle.std.proofs.Common.{◌≡◌, ℕ, zero, suc, ◌+◌, ◌-◌, ◌*◌, ◌/◌, ◌%◌, ◌^◌, ◌<◌, ◌≤◌, ◌==◌, Bool, true, false, List, [], ◌∷◌, ◌++◌, length, take, drop, map, flat_map, refl, sym, ◌∙◌, ap, ap₂, subst, Option, Some, None, All, arith, append_assoc, append-nil, length-append, replicate, codes, drop_at, pow_pos, IsTrue, nat_eq, eq-eqb}
+use Rattle.std.proofs.lemmas.List.{length-replicate, length-take-le, length-drop, take-append-drop, drop-append-le, take-append-le}
+use Rattle.std.proofs.lemmas.List.Elements.{All-cons, All-nil}
 use Rattle.std.proofs.Math.Seq.{take-add, take-length, drop-drop, drop-append-add}
 use borrow.Author.Tests.{eqb-true}
 use Rattle.pel_bits.specs.Bits.{number, field as wire_field}
 use Rattle.pel_bits.proofs.Fields.{number-fits, number_below, field-number, field-zero, length-field}
 use Rattle.h261_pic.specs.Coded.{IsGroupText}
+use Rattle.h261_pic.proofs.Texts.{length-group_header}
 use Rattle.h261_pic.proofs.ValidPictures.{valid_plain_group}
-use Rattle.h261_pic.specs.PlainForm.{field_at, IsBlockAt, IsMacroblockAt, IsGroupHeaderAt, IsGroupAt, AreGroups, IsHeader, IsPlainForm}
-use Rattle.pel_model.specs.declared.Format.TheVariants.{Qcif, Cif}
-use Rattle.pel_model.specs.declared.MbKind.TheVariants.{Intra}
+use Rattle.h261_pic.specs.PlainForm.{field_at, IsBlockAt, IsMacroblockAt, IsGroupAt, IsHeader, IsPlainForm}
+use Rattle.pel_model.specs.declared.Format.TheVariants.{Qcif}
 use Rattle.pel_model.specs.Bits.{field, is_odd}
 use Rattle.pel_model.specs.Codes.{word, mba_table, mtype_table, end_of_block_word}
-use Rattle.pel_model.specs.Records.{Block, Macroblock, Group, Picture}
-use Rattle.pel_model.specs.Text.{word_of, address_of, block_text, sent_block_text, macroblock_text, macroblocks_text, group_header, group_text, picture_header, text}
+use Rattle.pel_model.specs.Records.{Macroblock}
+use Rattle.pel_model.specs.Text.{word_of, address_of, block_text, sent_block_text, macroblock_text, macroblocks_text, group_header, group_text}
 use Rattle.pel_model.specs.Spelling.{FreeBits}
 use Rattle.pel_model.specs.Plain.{PlainGroup, PlainPicture, IsPlainGroup, IsPlainPicture, plain_block, plain_macroblock, plain_macroblocks, plain_group, plain_picture, plain_header, SpellsPlain}
-use Rattle.pel_model.specs.Valid.{IsValidDc, IsQuantiser}
+use Rattle.pel_model.specs.Valid.{IsValidDc}
 
 -- the fields of the two base crates are the same
 pub field-same : (n w : ℕ) → wire_field n w ≡ field n w
@@ -303,17 +303,14 @@ field-within front piece rest at i w is inside =
     ∙ take-append-le w (drop i piece) rest (omega (arith, length-drop i piece))
     )
 
-number-of-field : (n w : ℕ) → n < 2 ^ w → number (field n w) ≡ n
-number-of-field n w below = ap number (sym (field-same n w)) ∙ number-fits n w below
-
 length-plain_word : (dc : ℕ) → length (plain_word dc) ≡ 10
 unfolding plain_word field
 length-plain_word dc = refl
 
 block-in-word : (dc : ℕ) → IsValidDc dc → IsBlockAt (plain_word dc) 0
-unfolding plain_word field number
+unfolding plain_word field wire_field number
 block-in-word dc valid =
-    let is : field_at (plain_word dc) 0 8 ≡ dc = number-of-field dc 8 (omega (arith, valid.1)) in
+    let is : field_at (plain_word dc) 0 8 ≡ dc = number-fits dc 8 (omega (arith, valid.1)) in
     (subst IsValidDc (sym is) valid, refl)
 
 block-within : (front piece rest : List Bool) (at : ℕ) → at ≡ length front → length piece ≡ 10 → IsBlockAt piece 0 → IsBlockAt (front ++ (piece ++ rest)) at
@@ -369,17 +366,13 @@ length-levels (dcs ∷ levels) six =
     length-append (mb_word dcs) (flat_map mb_word levels)
     ∙ omega (arith, length-mb_word dcs ((six 0 dcs (omega arith)).0), length-levels levels (λ k d l. six (suc k) d (omega arith)))
 
-pub length-group_head : (number quant : ℕ) → length (group_header number quant) ≡ 26
-unfolding group_header field
-length-group_head number quant = refl
-
 plain-group-text : (number : ℕ) (g : PlainGroup) → group_text (plain_group number g) ≡ group_header number g.quant ++ flat_map mb_word g.levels
 plain-group-text number g = ap (λ t. group_header number g.quant ++ t) (levels-text None 0 g.levels refl)
 
 pub length-plain-group : (number : ℕ) (g : PlainGroup) → IsPlainGroup g → length (group_text (plain_group number g)) ≡ 2171
 length-plain-group number g plain =
     ap length (plain-group-text number g) ∙ length-append (group_header number g.quant) (flat_map mb_word g.levels)
-    ∙ omega (arith, length-group_head number g.quant, length-levels g.levels plain.levels, plain.whole)
+    ∙ omega (arith, length-group_header number g.quant, length-levels g.levels plain.levels, plain.whole)
 
 -- the fields of a group's header
 pub record IsHeaderOf (bits : List Bool) (number quant : ℕ) : Type 0 where
@@ -389,11 +382,11 @@ pub record IsHeaderOf (bits : List Bool) (number quant : ℕ) : Type 0 where
   pub no_spare : field_at bits 25 1 ≡ 0
 
 header-of : (n quant : ℕ) → n < 16 → quant < 32 → IsHeaderOf (group_header n quant) n quant
-unfolding group_header field number
+unfolding group_header field wire_field number
 header-of n quant small fits = record {
   start_code = refl;
-  number_is = number-of-field n 4 (omega arith);
-  quant_is = number-of-field quant 5 (omega arith);
+  number_is = number-fits n 4 (omega arith);
+  quant_is = number-fits quant 5 (omega arith);
   no_spare = refl;
 }
 
@@ -401,7 +394,7 @@ group-within : (front : List Bool) (n : ℕ) (g : PlainGroup) (rest : List Bool)
     → IsGroupAt (front ++ (group_text (plain_group n g) ++ rest)) at n
 group-within front n g rest at is small plain =
     let head : List Bool = group_header n g.quant in
-    let long : length head ≡ 26 = length-group_head n g.quant in
+    let long : length head ≡ 26 = length-group_header n g.quant in
     let more : List Bool = flat_map mb_word g.levels ++ rest in
     let of : IsHeaderOf head n g.quant = header-of n g.quant small (omega (arith, plain.quant)) in
     let same : front ++ (head ++ more) ≡ front ++ (group_text (plain_group n g) ++ rest) =

@@ -1,10 +1,10 @@
 -- The strict text of a picture that grows by a group, and where the macroblock bits of its groups stand.
-use Rattle.std.proofs.Common.{◌≡◌, ℕ, zero, suc, ◌+◌, ◌-◌, ◌<◌, ◌≤◌, Bool, List, [], ◌∷◌, ◌++◌, length, take, drop, flat_map, slice_index_or, refl, sym, ◌∙◌, ap, ap₂, subst, Option, None, arith, append_assoc, length-append, add_assoc}
-use Rattle.std.proofs.lemmas.List.{drop_at, take_at}
+use Rattle.std.proofs.Common.{◌≡◌, ℕ, zero, suc, ◌+◌, ◌<◌, Bool, List, [], ◌∷◌, ◌++◌, length, take, drop, flat_map, slice_index_or, refl, sym, ◌∙◌, ap, ap₂, None, arith, append_assoc, length-append}
+use Rattle.std.proofs.lemmas.List.{drop_at}
 use Rattle.std.proofs.Math.Seq.{drop-append-add, take-append_seam}
 use Rattle.std.proofs.lemmas.List.{flat_map_more}
 use Rattle.h261_pic.specs.declared.coded.GroupView.{GroupView}
-use Rattle.h261_pic.specs.Coded.{Coding, views, coding, with_group, grown, next_number, group_of, macroblock_bits}
+use Rattle.h261_pic.specs.Coded.{views, coding, with_group, grown, next_number}
 use Rattle.pel_model.specs.declared.Format.{Format}
 use Rattle.pel_model.specs.declared.Format.TheVariants.{Qcif, Cif}
 use Rattle.pel_model.specs.Bits.{field}

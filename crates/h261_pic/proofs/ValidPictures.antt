@@ -1,5 +1,5 @@
 -- A valid picture stays valid when it gets its next group, and a group stays valid where it may stand.
-use Rattle.std.proofs.Common.{◌≡◌, ℕ, zero, suc, ◌+◌, ◌-◌, ◌*◌, ◌/◌, ◌%◌, ◌<◌, ◌≤◌, Bool, true, false, List, [], ◌∷◌, ◌++◌, length, take, map, slice_index, slice_index_or, refl, sym, ◌∙◌, ap, ap₂, subst, ℤ, pos, negsuc, All, MatchBool, IsSomeAnd, arith, length-append}
+use Rattle.std.proofs.Common.{◌≡◌, ℕ, suc, ◌+◌, ◌%◌, ◌<◌, ◌≤◌, Bool, true, false, List, [], ◌∷◌, ◌++◌, length, take, slice_index, slice_index_or, refl, sym, ◌∙◌, ap, ap₂, subst, ℤ, pos, negsuc, All, MatchBool, IsSomeAnd, arith, length-append}
 use Rattle.std.proofs.lemmas.List.{take_more, get_or-map, get_or-take, map-append, length-map}
 use Rattle.std.proofs.lemmas.List.Elements.{All-push, All-cons, All-nil, All-map}
 use Rattle.h261_pic.specs.Coded.{Belongs, with_group}
@@ -9,7 +9,7 @@ use Rattle.pel_model.specs.declared.Quad.{Quad}
 use Rattle.pel_model.specs.declared.Quad.TheVariants.{One, Two, Three, Four}
 use Rattle.pel_model.specs.Codes.{has_vector}
 use Rattle.pel_model.specs.Records.{Axis, Across, Down, Macroblock, Group, Picture, component}
-use Rattle.pel_model.specs.Regions.{number_in, renumbered, right, below}
+use Rattle.pel_model.specs.Regions.{number_in, renumbered, below}
 use Rattle.pel_model.specs.Plain.{PlainGroup, IsPlainGroup, plain_block, plain_macroblock, plain_macroblocks, plain_group}
 use Rattle.pel_model.specs.Valid.{side, corner, StaysWithin, ComponentFits, IsValidDc, IsValidCoefficient, IsIntraBlock, AddressesRise, IsValidMacroblock, IsValidGroup, IsValidSoFar, group_numbers, group_count}
 

@@ -1,6 +1,6 @@
 -- What contracts see of a coded picture: its format, its TR, the bits of its strict text (H.261, 4.2) as far as it
 -- was written, and where the macroblock bits of each of its groups stand.
-use Rattle.std.specs.Prelude.{◌≡◌, ℕ, ◌+◌, ◌-◌, ◌*◌, ◌<◌, ◌≤◌, Bool, List, [], ◌∷◌, ◌++◌, length, take, drop, slice_index, slice_index_or, Option, None}
+use Rattle.std.specs.Prelude.{◌≡◌, ℕ, ◌+◌, ◌<◌, Bool, List, [], ◌∷◌, ◌++◌, length, take, drop, slice_index, slice_index_or, None}
 use Rattle.h261_pic.specs.declared.coded.GroupView.{GroupView}
 use Rattle.pel_model.specs.declared.Format.{Format}
 use Rattle.pel_model.specs.declared.Format.TheVariants.{Qcif, Cif}

@@ -1,3 +1,4 @@
+-- Inner contracts alone use this; nothing here has to be believed.
 -- The plain form of a picture's bits, by the numbers that stand at fixed places.
 use Rattle.std.specs.Prelude.{◌≡◌, ℕ, ◌+◌, ◌-◌, ◌*◌, ◌/◌, ◌%◌, ◌<◌, ◌≤◌, Bool, List, length, take, drop}
 use Rattle.pel_bits.specs.Bits.{number}

@@ -1,7 +1,7 @@
 -- What is true of the fields of a coded picture.
-use Rattle.std.specs.Prelude.{◌≡◌, ℕ, ◌+◌, ◌-◌, ◌*◌, ◌<◌, ◌≤◌, List, [], length}
+use Rattle.std.specs.Prelude.{◌≡◌, ◌+◌, ◌-◌, ◌*◌, ◌<◌, ◌≤◌, [], length}
 use Rattle.h261_pic.specs.declared.coded.Coded.TheInside.{Inside}
-use Rattle.h261_pic.specs.Coded.{Coding, HasPicture}
+use Rattle.h261_pic.specs.Coded.{Coding, HasPicture, nothing}
 use Rattle.pel_model.specs.Valid.{group_count, limit}
 
 -- the text and the groups that the fields hold
@@ -15,3 +15,4 @@ pub record IsSound (c : Inside) : Type 0 where
   pub groups : length c.groups.items ≤ group_count c.format
   pub room : 0 < length c.text.list → length c.text.list + 26 * (group_count c.format - length c.groups.items) ≤ limit c.format
   pub picture : 0 < length c.text.list → HasPicture (written c)
+  pub empty : c.text.list ≡ [] → written c ≡ nothing c.format

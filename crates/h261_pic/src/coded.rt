@@ -70,7 +70,8 @@ impl Coded {
 
     /// Whether nothing was written.
     pub fn is_empty(&self) -> bool
-        ensures { IsTrue result ↔ (self.now.bits ≡ []) }
+        ensures bits { IsTrue result ↔ (self.now.bits ≡ []) }
+        ensures nothing { IsTrue result ↔ (self.now ≡ nothing self.now.format) }
     {
         self.text.len() == 0
     }
@@ -90,6 +91,17 @@ impl Coded {
         ensures within { length self.now.bits ≤ limit self.now.format }
     {
         self.text.bits()
+    }
+
+    /// What is written is a valid picture as far as it goes, within the greatest number of bits that its format
+    /// allows, and leaves room for the headers of the groups to come.
+    pub fn valid_so_far(&self)
+        ensures picture { 0 < length self.now.bits → HasPicture self.now }
+        ensures within { length self.now.bits ≤ limit self.now.format }
+        ensures room { 0 < length self.now.bits → length self.now.bits + 26 * (group_count self.now.format - length self.now.groups) ≤ limit self.now.format }
+    {
+        // naming a field tells what is true of the fields
+        let _text = &self.text;
     }
 
     /// The octets of the strict text, with zeros from its last bit to the end of the octet.
@@ -133,8 +145,7 @@ impl Coded {
         requires next { length self.old.groups < group_count self.old.format }
         ensures { self.new ≡ grown self.old 1 [] }
     {
-        // what was written leaves room for the headers to come
-        let _text = &self.text;
+        self.valid_so_far();
         self.add_group(1, Bits::new(&[], 0, 0));
     }
 

@@ -1,4 +1,4 @@
-use Rattle.bridge_cli.proofs.Forms.{outline-of-frame, frame-of-outline}
+use Rattle.bridge_cli.proofs.Forms.{outline-of-frame}
 use Rattle.bridge_cli.proofs.form.read_outline.Goals as goal
 
 pub returns-clause-some : goal.returns-clause-some

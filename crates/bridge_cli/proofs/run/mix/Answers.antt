@@ -1,4 +1,4 @@
-use Rattle.std.proofs.Common.{◌≡◌, ℕ, Bool, List, Option, None, refl, sym, ◌∙◌, ap, subst}
+use Rattle.std.proofs.Common.{◌≡◌, ℕ, Bool, List, Option, refl, sym, ◌∙◌, ap, subst}
 use Rattle.std.specs.Option.{IfNone}
 use Rattle.bridge_cli.specs.FirstForm.{FirstForm, IsFirstForm, packet_bits}
 use Rattle.bridge_cli.proofs.Ends.{outline-of, one-packet}

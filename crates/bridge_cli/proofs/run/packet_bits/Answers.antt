@@ -1,4 +1,4 @@
-use Rattle.std.proofs.Common.{◌≡◌, ℕ, ◌-◌, ◌*◌, Bool, List, length, take, drop, slice_index, sym, ◌∙◌, ap, ap₂, arith}
+use Rattle.std.proofs.Common.{◌∙◌}
 use Rattle.bridge_cli.proofs.Ends.{bits-of-packet}
 use Rattle.bridge_cli.proofs.run.packet_bits.Goals as goal
 

@@ -1,13 +1,10 @@
-use Rattle.std.proofs.Common.{◌≡◌, ℕ, ◌+◌, ◌*◌, ◌<◌, ◌≤◌, List, Option, length, take, arith, sym, ◌∙◌, ap, subst}
+use Rattle.std.proofs.Common.{◌≡◌, ℕ, ◌≤◌, List, length, take, arith, refl, sym, subst}
 use Rattle.std.proofs.KnownBytes.{Keeps-refl}
 use Rattle.std.specs.Io.KnownBytes.{Consumes, Appends}
 use Rattle.h261_pic.specs.Coded.{Coding}
-use Rattle.bridge_cli.specs.FirstForm.{FirstForm, IsFirstForm}
-use Rattle.bridge_cli.specs.OnePacket.{answer, one_packet}
 use Rattle.bridge_cli.proofs.Ends.{no-form-here, too-short, whole-slice, stops-full, stops-end, length-front, sent-is-answer}
 use Rattle.bridge_cli.proofs.Sends.{PutsFront}
 use Rattle.bridge_cli.proofs.Shows.{text-fits}
-use Rattle.rtp_wire.specs.Frames.{frame}
 use Rattle.bridge_cli.proofs.run.replay.Goals as goal
 
 pub returns-in-AtEnd-clause-ends : goal.returns-in-AtEnd-clause-ends
@@ -19,6 +16,7 @@ returns-in-AtEnd-clause-ends g c =
       stops.3,
       (take c.fill.result.count c.fill.new.out, omega (arith, stops.2), fills.bytes),
       Keeps-refl (g.K.Sink.written c.args.output.now),
+      refl,
     )
 
 pub returns-in_default-clause-ends : goal.returns-in_default-clause-ends
@@ -32,6 +30,7 @@ returns-in_default-clause-ends g c =
       stops.1,
       (c.fill.new.out, omega (arith, c.fill.auto.out), bytes),
       Keeps-refl (g.K.Sink.written c.args.output.now),
+      refl,
     )
 
 pub send-requires-clause-fits : goal.send-requires-clause-fits
@@ -49,6 +48,8 @@ returns-in-Ok-clause-ends g c =
       (c.fill.new.out, subst (λ (t : List ℕ). Consumes (g.S.Source.left c.args.input.now) (g.S.Source.left c.fill.new.source) t) same fills.bytes, form.1),
       subst (λ (t : List ℕ). Appends (g.K.Sink.written c.args.output.now) (g.K.Sink.written c.send.new.sink) t)
           (sent-is-answer form.0 c.from.result c.in-Some.step c.mix.new.pictures.whole c.from.ensures form.2 form.3) c.in-Ok.ensures.bytes,
+      stops.1,
+      c.in-Ok.ensures.cause.kept,
     )
 
 pub returns-in-Err-clause-ends : goal.returns-in-Err-clause-ends
@@ -61,5 +62,6 @@ returns-in-Err-clause-ends g c =
       (c.fill.new.out, subst (λ (t : List ℕ). Consumes (g.S.Source.left c.args.input.now) (g.S.Source.left c.fill.new.source) t) same fills.bytes, form.1),
       subst (λ (t : List ℕ). PutsFront (g.K.Sink.written c.args.output.now) (g.K.Sink.written c.send.new.sink) t)
           (sent-is-answer form.0 c.from.result c.in-Some.step c.mix.new.pictures.whole c.from.ensures form.2 form.3) c.in-Err.ensures.bytes,
+      stops.1,
       c.in-Err.ensures.cause.failed,
     )

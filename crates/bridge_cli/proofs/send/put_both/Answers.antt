@@ -1,4 +1,3 @@
-use Rattle.std.proofs.Common.{◌≡◌}
 use Rattle.bridge_cli.proofs.Sends.{front-of-front, all-of-front, all-of-next}
 use Rattle.bridge_cli.proofs.send.put_both.Goals as goal
 

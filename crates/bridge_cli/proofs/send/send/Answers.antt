@@ -1,8 +1,7 @@
-use Rattle.std.proofs.Common.{◌≡◌, ◌<◌, ◌+◌, ◌-◌, ◌*◌, ◌/◌, ◌++◌, ℕ, List, length, slice_index, arith, refl, sym, ◌∙◌, ap}
-use Rattle.bridge_cli.specs.OnePacket.{payload_header, one_packet}
+use Rattle.std.proofs.Common.{◌≡◌, ◌<◌, ◌+◌, ◌-◌, ◌*◌, ◌/◌, ◌++◌, ℕ, List, length, slice_index, arith, refl, ◌∙◌, ap}
+use Rattle.bridge_cli.specs.OnePacket.{payload_header}
 use Rattle.bridge_cli.proofs.Sends.{front-of-front, all-of-front, all-of-next, all-of-same, frame-of-pieces}
 use Rattle.pel_bits.specs.Buffer.{whole}
-use Rattle.rtp_wire.specs.Frames.{frame}
 use Rattle.bridge_cli.proofs.send.send.Goals as goal
 
 pub returns-in_err-put_both-clause-bytes : goal.returns-in_err-put_both-clause-bytes

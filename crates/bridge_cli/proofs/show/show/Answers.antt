@@ -1,10 +1,9 @@
-use Rattle.std.proofs.Common.{◌≡◌, ℕ, ◌+◌, ◌-◌, ◌<◌, Some, None, arith, refl, sym, ◌∙◌, ap, subst}
+use Rattle.std.proofs.Common.{◌≡◌, ℕ, ◌+◌, ◌-◌, arith, sym, ◌∙◌, ap, subst}
 use Rattle.h261_pic.specs.Coded.{coding}
-use Rattle.bridge_cli.specs.Shown.{index_in, groups_shown}
+use Rattle.bridge_cli.specs.Shown.{groups_shown}
 use Rattle.bridge_cli.proofs.Shows.{MayGrow, MayCopy, Showing, showing-may-grow, showing-may-copy, showing-empty, showing-copied, all-shown}
 use Rattle.pel_model.specs.declared.Format.TheVariants.{Cif}
 use Rattle.pel_model.specs.Plain.{plain_picture}
-use Rattle.pel_model.specs.Records.{Group}
 use Rattle.bridge_cli.proofs.show.show.Goals as goal
 use Rattle.bridge_cli.proofs.show.show.Goals.{in-Some, in-None}
 

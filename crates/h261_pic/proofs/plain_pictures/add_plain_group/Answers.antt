@@ -1,4 +1,4 @@
-use Rattle.std.proofs.Common.{◌≡◌, ◌<◌, ◌+◌, ℕ, take, drop, arith, sym, subst}
+use Rattle.std.proofs.Common.{◌<◌, ◌+◌, ℕ, take, drop, arith, sym, subst}
 use Rattle.h261_pic.specs.Coded.{IsGroupText, next_number}
 use Rattle.h261_pic.specs.PlainForm.{field_at}
 use Rattle.h261_pic.proofs.PlainPictures.{field-below, plain-text-from}

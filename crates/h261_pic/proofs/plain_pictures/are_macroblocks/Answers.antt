@@ -1,4 +1,4 @@
-use Rattle.std.proofs.Common.{ℕ, ◌+◌, ◌*◌, refl, arith, below_more}
+use Rattle.std.proofs.Common.{◌+◌, ◌*◌, refl, arith, below_more}
 use Rattle.h261_pic.specs.PlainForm.{IsMacroblockAt}
 use Rattle.h261_pic.proofs.plain_pictures.are_macroblocks.Goals as goal
 

@@ -1,4 +1,4 @@
-use Rattle.std.proofs.Common.{arith, ◌≡◌, ◌∙◌, sym}
+use Rattle.std.proofs.Common.{arith, ◌∙◌}
 use Rattle.h261_pic.proofs.plain_pictures.is_plain.Goals as goal
 use Rattle.h261_pic.proofs.plain_pictures.is_plain.Goals.{then-len-lt6545-via-then-len-lt6545, then-len-lt6545-via-else-len-lt6545+then-len-ge6553, then-is_header, else-is_header}
 

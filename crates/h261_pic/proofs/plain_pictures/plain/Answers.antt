@@ -1,10 +1,9 @@
-use Rattle.std.proofs.Common.{◌≡◌, ◌<◌, ◌+◌, ◌≤◌, length, arith, sym, ap, subst, ◌∙◌, []}
-use Rattle.h261_pic.specs.Coded.{Coding, coding}
+use Rattle.std.proofs.Common.{◌≡◌, ◌<◌, ◌+◌, length, arith, ap, subst, ◌∙◌, []}
+use Rattle.h261_pic.specs.Coded.{coding}
 use Rattle.h261_pic.specs.PlainForm.{field_at, IsPlainForm}
 use Rattle.h261_pic.proofs.PlainCodings.{length-started, length-more, plain-coding}
 use Rattle.h261_pic.proofs.PlainPictures.{field-below, plain-form_of, picture_from, plain-picture_from, spells-picture_from}
 use Rattle.pel_model.specs.declared.Format.{Format}
-use Rattle.pel_model.specs.declared.Format.TheVariants.{Qcif}
 use Rattle.h261_pic.proofs.plain_pictures.plain.Goals as goal
 
 pub returns-then-not-is_plain-clause-refused : goal.returns-then-not-is_plain-clause-refused

@@ -1,4 +1,4 @@
-use Rattle.std.proofs.Common.{◌≡◌, sym, ◌∙◌, ap, subst, ℕ, slice_index}
+use Rattle.std.proofs.Common.{◌≡◌, sym, ◌∙◌, ap, subst, ℕ, slice_index, arith, length}
 use Rattle.h261_pic.specs.Coded.{Coding, grown}
 use Rattle.h261_pic.specs.Sound.{written}
 use Rattle.h261_pic.proofs.Grows.{quant-fits, MayGrow, header-room, IsGrown, sound-grown}
@@ -34,7 +34,7 @@ grows c =
 pub invariant_of-self : goal.invariant_of-self
 invariant_of-self c =
     let g = (grows c).0 in
-    record { capacity = g.capacity; within = g.within; groups = g.count; room = λ _. g.room; picture = λ _. g.picture }
+    record { capacity = g.capacity; within = g.within; groups = g.count; room = λ _. g.room; picture = λ _. g.picture; empty = λ none. absurd (omega (arith, g.begun, ap length none)) }
 
 pub returns : goal.returns
 returns c = (grows c).1 ∙ ap (λ (k : Coding). grown k c.args.quant c.args.bits) c.self.view_is

@@ -1,7 +1,6 @@
 use Rattle.std.proofs.Common.{◌≡◌, ◌<◌, ◌≤◌, ◌+◌, Bool, List, length, subst, sym, ap, ap₂, ◌∙◌, take, drop, slice_index_or}
 use Rattle.h261_pic.specs.declared.coded.GroupView.{GroupView}
-use Rattle.h261_pic.specs.Coded.{Coding, HasPicture, IsFinished, Belongs, IsGroupText, group_of, macroblock_bits, next_number}
-use Rattle.h261_pic.specs.Sound.{written}
+use Rattle.h261_pic.specs.Coded.{Coding, HasPicture, IsGroupText, group_of, macroblock_bits, next_number}
 use Rattle.h261_pic.proofs.Grows.{copied-text, group-inside}
 use Rattle.h261_pic.proofs.coded.Coded.copy_group.Goals as goal
 

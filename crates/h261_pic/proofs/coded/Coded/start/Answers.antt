@@ -1,7 +1,8 @@
-use Rattle.std.proofs.Common.{◌≡◌, ◌<◌, ◌≤◌, ◌+◌, ◌-◌, ◌*◌, ◌++◌, Bool, List, [], length, ap, ap₂, sym, subst, ◌∙◌, append-nil, arith}
+use Rattle.std.proofs.Common.{◌≡◌, ◌≤◌, ◌+◌, ◌-◌, ◌*◌, ◌++◌, Bool, List, length, ap, ap₂, sym, subst, ◌∙◌, append-nil, arith}
 use Rattle.h261_pic.specs.declared.coded.GroupView.{GroupView}
-use Rattle.h261_pic.specs.Coded.{Coding, HasPicture, coding}
+use Rattle.h261_pic.specs.Coded.{HasPicture}
 use Rattle.h261_pic.proofs.Grows.{started-picture, started-room}
+use Rattle.h261_pic.proofs.Texts.{length-picture_header}
 use Rattle.pel_bits.specs.Buffer.{Buffer}
 use Rattle.pel_model.specs.Text.{picture_header}
 use Rattle.pel_model.specs.Valid.{group_count, limit}
@@ -28,4 +29,5 @@ invariant_of-self c =
           (sym (ap₂ (λ (bs : List Bool) (vs : List GroupView). record { format = c.self.inside.format; tr = c.args.tr; bits = bs; groups = vs })
           (list-is c ∙ sym (append-nil (picture_header c.self.inside.format c.args.tr))) c.clear-2.ensures))
           (started-picture c.self.inside.format c.args.tr c.requires);
+      empty = λ none. absurd (omega (arith, is, ap length none, length-picture_header c.self.inside.format c.args.tr));
     }
