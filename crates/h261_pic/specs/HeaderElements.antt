@@ -1,7 +1,7 @@
 -- The elements of headers, with their spare bytes (H.261, 4.2.1 and 4.2.2), and slots in which a field is due.
-use Rattle.std.specs.Prelude.{◌≡◌, ℕ, Bool, true, false, List, [], ◌∷◌, ◌++◌, flat_map, Option, None}
+use Rattle.std.specs.Prelude.{◌≡◌, ℕ, Bool, true, false, List, [], ◌∷◌, ◌++◌, flat_map}
 use Rattle.pel_model.specs.declared.Format.{Format}
-use Rattle.pel_model.specs.Grammar.{Element, Psc, Tr, Ptype, Pei, Pspare, Gbsc, Gn, Gquant, Gei, Gspare, Slot, AtPei, AtPspare, AtGei, AtGspare, at_slot, field_rows, faults}
+use Rattle.pel_model.specs.Grammar.{Element, Psc, Tr, Ptype, Pei, Pspare, Gn, Gquant, Gei, Gspare, Slot, AtPei, AtPspare, AtGei, AtGspare, at_slot, field_rows, faults}
 use Rattle.pel_model.specs.Walk.{read}
 
 -- the two layers that have spare bytes
@@ -38,6 +38,18 @@ picture_header_elements tr ptype spares = Psc ∷ Tr tr ∷ Ptype ptype ∷ spar
 -- a group's header behind its start code
 abbrev pub group_header_elements : (number quant : ℕ) → (spares : List ℕ) → List Element
 group_header_elements number quant spares = Gn number ∷ Gquant quant ∷ spares_of OfGroup spares
+
+-- the elements are a front of such a list, and not the whole
+abbrev pub AreSparesSoFar : Layer → List Element → Type 0
+AreSparesSoFar layer es = (octets : List ℕ) × (e : Element) × (more : List Element) × (es ++ e ∷ more ≡ spares_of layer octets)
+
+abbrev pub IsPictureHeaderSoFar : List Element → Type 0
+IsPictureHeaderSoFar es =
+    (tr : ℕ) × (ptype : ℕ) × (spares : List ℕ) × (e : Element) × (more : List Element) × (es ++ e ∷ more ≡ picture_header_elements tr ptype spares)
+
+abbrev pub IsGroupHeaderSoFar : List Element → Type 0
+IsGroupHeaderSoFar es =
+    (number : ℕ) × (quant : ℕ) × (spares : List ℕ) × (e : Element) × (more : List Element) × (es ++ e ∷ more ≡ group_header_elements number quant spares)
 
 -- in the slot any bits of the width may stand, and none are at fault
 abbrev pub FieldOf : Slot → ℕ → (ℕ → Element) → Type 0

@@ -1,14 +1,14 @@
 //! The headers of pictures and of groups of blocks as senders may send them, with spare bytes (H.261, 4.2.1, 4.2.2).
 #![tactic(auto)]
 
-ghost use Rattle.std.specs.Prelude.{◌≡◌, ◌≤◌, ◌<◌, ◌^◌, ℕ, List, length, take, IfOk, IfErr};
+ghost use Rattle.std.specs.Prelude.{◌≡◌, ◌≤◌, ◌<◌, ◌^◌, ◌&&◌, ℕ, true, List, length, take, nat_lt, IfOk, IfErr};
 ghost use Rattle.pel_bits.specs.Reading.{skipped};
 ghost use Rattle.pel_model.specs.declared.Format.{Format as PictureFormat};
 ghost use Rattle.pel_model.specs.declared.Why.TheVariants.{Cut};
 ghost use Rattle.pel_model.specs.Bits.{number};
-ghost use Rattle.pel_model.specs.Grammar.{Element, Psc, Ptype, Gn, Gquant, Slot, slot, AtPsc, AtPtype, AtGn, AtGquant, group, is_group as is_group_of, next};
+ghost use Rattle.pel_model.specs.Grammar.{Element, Psc, Ptype, Gn, Gquant, Slot, slot, AtPsc, AtPtype, AtGn, AtGquant, group, is_group as is_group_of, names_format, next};
 ghost use Rattle.pel_model.specs.Walk.{Takes, Walked};
-ghost use Rattle.h261_pic.specs.HeaderElements.{Layer, FieldOf, flag_slot, spares_of, picture_header_elements, group_header_elements};
+ghost use Rattle.h261_pic.specs.HeaderElements.{Layer, FieldOf, flag_slot, spares_of, picture_header_elements, group_header_elements, AreSparesSoFar, IsPictureHeaderSoFar, IsGroupHeaderSoFar};
 
 use pel_bits::Reader;
 use pel_model::{Fault, Format, Why};
@@ -27,7 +27,7 @@ pub fn read_picture_header(r: &mut Reader<'_>, format: Format) -> Result<u8, Fau
     ensures walk { (before : List Element) → slot before ≡ AtPsc →
         Walked (next format) before
         (λ tr es new. (ptype : ℕ) × (spares : List ℕ) × (es ≡ picture_header_elements tr ptype spares))
-        result r.old r.new }
+        IsPictureHeaderSoFar result r.old r.new }
     ensures within { IfOk result (λ tr. tr < 32) }
 {
     take_start(r)?;
@@ -44,8 +44,8 @@ pub fn read_group_header(r: &mut Reader<'_>, format: Format, last: u8) -> Result
     ensures walk { (before : List Element) → slot before ≡ AtGn → group before ≡ last →
         Walked (next format) before
         (λ header es new. (spares : List ℕ) × (es ≡ group_header_elements header.number header.quant spares))
-        result r.old r.new }
-    ensures within { IfOk result (λ header. (header.number < 16) × (header.quant < 32)) }
+        IsGroupHeaderSoFar result r.old r.new }
+    ensures within { IfOk result (λ header. (is_group_of format header.number ≡ true) × (last < header.number) × (0 < header.quant) × (header.quant < 32)) }
 {
     let number = take_number(r, format, last)?;
     let quant = take_quant(r)?;
@@ -83,11 +83,7 @@ fn take_type(r: &mut Reader<'_>, format: Format) -> Result<u32, Fault>
 {
     let ptype = look(r, 6)?;
     let place = r.place();
-    let wanted = match format {
-        Format::Qcif => 0,
-        Format::Cif => 1,
-    };
-    if ptype / 4 % 2 != wanted {
+    if !names(format, ptype) {
         return Err(Fault {
             place,
             why: Why::WrongFormat,
@@ -103,15 +99,25 @@ fn take_type(r: &mut Reader<'_>, format: Format) -> Result<u32, Fault>
     Ok(ptype)
 }
 
+// The fourth bit is 0 for QCIF and 1 for CIF (4.2.1.3).
+fn names(format: Format, ptype: u32) -> bool
+    ensures { result ≡ names_format format ptype }
+{
+    match format {
+        Format::Qcif => ptype / 4 % 2 == 0,
+        Format::Cif => ptype / 4 % 2 == 1,
+    }
+}
+
 // Takes GN, 4 bits: a number of the format, above that of the group before (4.2.2.2).
 fn take_number(r: &mut Reader<'_>, format: Format, last: u8) -> Result<u8, Fault>
     ensures taken { (before : List Element) → slot before ≡ AtGn → group before ≡ last →
         Takes Gn (next format before r.old) result r.old r.new }
-    ensures within { IfOk result (λ n. n < 16) }
+    ensures within { IfOk result (λ n. (is_group_of format n ≡ true) × (last < n)) }
 {
     let number = look(r, 4)? as u8;
     let place = r.place();
-    if !is_group(format, number) || number <= last {
+    if !may_come(format, number, last) {
         return Err(Fault {
             place,
             why: Why::BadGroup,
@@ -119,6 +125,13 @@ fn take_number(r: &mut Reader<'_>, format: Format, last: u8) -> Result<u8, Fault
     }
     r.skip(4);
     Ok(number)
+}
+
+// The group has a number of the format, and it is above that of the group before.
+fn may_come(format: Format, number: u8, last: u8) -> bool
+    ensures { result ≡ (is_group_of format number && nat_lt last number) }
+{
+    is_group(format, number) && last < number
 }
 
 // The groups of QCIF are 1, 3 and 5, and those of CIF 1 to 12 (4.2.2.2).
@@ -135,7 +148,7 @@ fn is_group(format: Format, number: u8) -> bool
 fn take_quant(r: &mut Reader<'_>) -> Result<u8, Fault>
     ensures taken { (format : PictureFormat) (before : List Element) → slot before ≡ AtGquant →
         Takes Gquant (next format before r.old) result r.old r.new }
-    ensures within { IfOk result (λ q. q < 32) }
+    ensures within { IfOk result (λ q. (0 < q) × (q < 32)) }
 {
     let quant = look(r, 5)? as u8;
     let place = r.place();
@@ -152,7 +165,8 @@ fn take_quant(r: &mut Reader<'_>) -> Result<u8, Fault>
 // Passes over spare bytes, up to the flag behind the last (4.2.1.4, 4.2.2.4).
 fn pass_spares(r: &mut Reader<'_>) -> Result<(), Fault>
     ensures walk { (format : PictureFormat) (before : List Element) (layer : Layer) → slot before ≡ flag_slot layer →
-        Walked (next format) before (λ _ es new. (octets : List ℕ) × (es ≡ spares_of layer octets)) result r.old r.new }
+        Walked (next format) before (λ _ es new. (octets : List ℕ) × (es ≡ spares_of layer octets))
+        (AreSparesSoFar layer) result r.old r.new }
 {
     while take_field(r, 1)? == 1 {
         take_field(r, 8)?;

@@ -8,3 +8,6 @@ mod plain_pictures;
 pub use coded::{Coded, GroupView};
 pub use input_headers::{GroupHeader, read_group_header, read_picture_header};
 pub use plain_pictures::plain;
+
+#[cfg(test)]
+mod tests;
