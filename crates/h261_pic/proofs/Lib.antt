@@ -4,3 +4,6 @@ pub mod PlainCodings
 pub mod PlainPictures
 pub mod Texts
 pub mod ValidPictures
+pub mod HeaderSteps
+pub mod Spares
+pub mod HeaderWalks

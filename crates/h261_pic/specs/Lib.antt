@@ -1,3 +1,4 @@
 pub mod Coded
 pub mod PlainForm
 pub mod Sound
+pub mod HeaderElements

@@ -2,7 +2,12 @@
 #![tactic(auto)]
 
 mod coded;
+mod input_headers;
 mod plain_pictures;
 
 pub use coded::{Coded, GroupView};
+pub use input_headers::{GroupHeader, read_group_header, read_picture_header};
 pub use plain_pictures::plain;
+
+#[cfg(test)]
+mod tests;

@@ -1,0 +1,44 @@
+use Rattle.std.proofs.Common.{List, [], ◌∷◌, false, refl, ap}
+use Rattle.std.proofs.lemmas.Result.{err_from_is_err_and}
+use Rattle.pel_model.specs.Grammar.{Element, Gn, Gquant, Gei, next}
+use Rattle.h261_pic.specs.HeaderElements.{OfGroup, IsGroupHeaderSoFar}
+use Rattle.h261_pic.proofs.HeaderWalks.{goes_first, stops_behind}
+use Rattle.h261_pic.proofs.input_headers.read_group_header.Goals as goal
+
+pub returns-in_err-number-clause-walk : goal.returns-in_err-number-clause-walk
+returns-in_err-number-clause-walk c = λ before due last.
+    let p = err_from_is_err_and c.from_residual.result c.from_residual.ensures.1 in
+    let took = c.in_err-number.ensures.taken before due last in
+    rw (p.1, p.2) (stops_behind (next c.args.format) before IsGroupHeaderSoFar c.args.r.now c.args.r.now c.take_number.new.r [] _ refl (0, 0, [], Gn 0, Gquant 0 ∷ Gei false ∷ [], refl) took.0 took.1 took.2)
+
+pub returns-in_err-quant-clause-walk : goal.returns-in_err-quant-clause-walk
+returns-in_err-quant-clause-walk c = λ before due last.
+    let p = err_from_is_err_and c.from_residual-in_err-quant.result c.from_residual-in_err-quant.ensures.1 in
+    let number = c.in_ok-number.number in
+    let first = c.in_ok-number.ensures.taken before due last in
+    let took = c.in_err-quant.ensures.taken c.args.format (Gn number ∷ before) refl in
+    let walk = goes_first (next c.args.format) before c.args.r.now c.take_number.new.r c.take_number.new.r (Gn number) first.0 [] first.1 first.2 refl in
+    rw (p.1, p.2) (stops_behind (next c.args.format) before IsGroupHeaderSoFar c.args.r.now c.take_number.new.r c.take_quant.new.r (Gn number ∷ []) _ walk (number, 0, [], Gquant 0, Gei false ∷ [], refl) took.0 took.1 took.2)
+
+pub returns-in_err-pass_spares-clause-walk : goal.returns-in_err-pass_spares-clause-walk
+returns-in_err-pass_spares-clause-walk c = λ before due last.
+    let p = err_from_is_err_and c.from_residual-in_err-pass_spares.result c.from_residual-in_err-pass_spares.ensures.1 in
+    let number = c.in_ok-number.number in
+    let quant = c.in_ok-quant.quant in
+    let first = c.in_ok-number.ensures.taken before due last in
+    let second = c.in_ok-quant.ensures.taken c.args.format (Gn number ∷ before) refl in
+    let rest = c.in_err-pass_spares.ensures.walk c.args.format (Gquant quant ∷ Gn number ∷ before) OfGroup refl in
+    let more = goes_first (next c.args.format) (Gn number ∷ before) c.take_number.new.r c.take_quant.new.r c.pass_spares.new.r (Gquant quant) second.0 rest.0 second.1 second.2 rest.1 in
+    let walk = goes_first (next c.args.format) before c.args.r.now c.take_number.new.r c.pass_spares.new.r (Gn number) first.0 (Gquant quant ∷ rest.0) first.1 first.2 more in
+    let part = rest.2 in
+    rw (p.1, p.2) (Gn number ∷ Gquant quant ∷ rest.0, walk, (number, quant, part.0, part.1, part.2, ap (λ (es : List Element). Gn number ∷ Gquant quant ∷ es) part.3), rest.3, rest.4)
+
+pub returns-clause-walk : goal.returns-clause-walk
+returns-clause-walk c = λ before due last.
+    let number = c.in_ok-number.number in
+    let quant = c.in_ok-quant.quant in
+    let first = c.in_ok-number.ensures.taken before due last in
+    let second = c.in_ok-quant.ensures.taken c.args.format (Gn number ∷ before) refl in
+    let rest = c.in_ok-pass_spares.ensures.walk c.args.format (Gquant quant ∷ Gn number ∷ before) OfGroup refl in
+    let more = goes_first (next c.args.format) (Gn number ∷ before) c.take_number.new.r c.take_quant.new.r c.pass_spares.new.r (Gquant quant) second.0 rest.0 second.1 second.2 rest.1 in
+    (Gn number ∷ Gquant quant ∷ rest.0, goes_first (next c.args.format) before c.args.r.now c.take_number.new.r c.pass_spares.new.r (Gn number) first.0 (Gquant quant ∷ rest.0) first.1 first.2 more, (rest.2.0, ap (λ (es : List Element). Gn number ∷ Gquant quant ∷ es) rest.2.1))
