@@ -1,0 +1,36 @@
+-- Blocks in their places: those that are sent stand where CBP has a one.
+use Rattle.std.proofs.Common.{◌≡◌, ℕ, suc, ◌+◌, Bool, true, false, cond, List, [], ◌∷◌, ◌++◌, length, map, flat_map, count_by, Option, Some, None, is_some, refl, sym, ◌∙◌, ap, arith}
+use Rattle.std.proofs.lemmas.List.Sums.{sum_by-cons}
+use Rattle.pel_model.specs.Records.{Block}
+use Rattle.pel_model.specs.Elements.{block_elements}
+use Rattle.pel_model.specs.Grammar.{Element}
+use Rattle.h261_mb.specs.Macroblocks.{blocks_elements}
+
+abbrev pub placed : List Bool → List Block → List (Option Block)
+placed [] bs = []
+placed (false ∷ pattern) bs = None ∷ placed pattern bs
+placed (true ∷ pattern) [] = None ∷ placed pattern []
+placed (true ∷ pattern) (b ∷ bs) = Some b ∷ placed pattern bs
+
+pub length-placed : (pattern : List Bool) (bs : List Block) → length (placed pattern bs) ≡ length pattern
+length-placed [] bs = refl
+length-placed (false ∷ pattern) bs = ap suc (length-placed pattern bs)
+length-placed (true ∷ pattern) [] = ap suc (length-placed pattern [])
+length-placed (true ∷ pattern) (b ∷ bs) = ap suc (length-placed pattern bs)
+
+-- a one more is counted
+counted : (pattern : List Bool) → count_by (λ b. b) (true ∷ pattern) ≡ 1 + count_by (λ b. b) pattern
+counted pattern = sum_by-cons (λ b. cond b 1 0) true pattern
+
+pub placed-pattern : (pattern : List Bool) (bs : List Block) → length bs ≡ count_by (λ b. b) pattern → map is_some (placed pattern bs) ≡ pattern
+placed-pattern [] bs h = refl
+placed-pattern (false ∷ pattern) bs h = ap (λ t. false ∷ t) (placed-pattern pattern bs (omega (arith, h)))
+placed-pattern (true ∷ pattern) [] h = absurd (omega (arith, h, counted pattern))
+placed-pattern (true ∷ pattern) (b ∷ bs) h = ap (λ t. true ∷ t) (placed-pattern pattern bs (omega (arith, h, counted pattern)))
+
+pub placed-elements : (pattern : List Bool) (bs : List Block) → length bs ≡ count_by (λ b. b) pattern → blocks_elements (placed pattern bs) ≡ flat_map block_elements bs
+placed-elements [] [] h = refl
+placed-elements [] (b ∷ bs) h = absurd (omega (arith, h))
+placed-elements (false ∷ pattern) bs h = placed-elements pattern bs (omega (arith, h))
+placed-elements (true ∷ pattern) [] h = absurd (omega (arith, h, counted pattern))
+placed-elements (true ∷ pattern) (b ∷ bs) h = ap (λ (es : List Element). block_elements b ++ es) (placed-elements pattern bs (omega (arith, h, counted pattern)))
