@@ -1,12 +1,13 @@
 -- The elements of blocks pass over what is known of the macroblock.
-use Rattle.std.proofs.Common.{◌≡◌, ℕ, ◌-◌, suc, zero, ◌+◌, Bool, cond, List, [], ◌∷◌, ◌++◌, length, map, flat_map, ℤ, Option, Some, None, refl, sym, ◌∙◌, ap, subst}
+use Rattle.std.proofs.Common.{◌≡◌, ℕ, ◌-◌, suc, zero, ◌+◌, Bool, true, false, cond, List, [], ◌∷◌, ◌++◌, length, map, flat_map, ℤ, Option, Some, None, refl, sym, ◌∙◌, ap, subst}
 use Rattle.pel_model.specs.declared.MbKind.{MbKind}
-use Rattle.pel_model.specs.Codes.{is_intra}
+use Rattle.pel_model.specs.Codes.{has_cbp}
 use Rattle.pel_model.specs.Records.{Across, Down, Coefficient, Block}
 use Rattle.pel_model.specs.Elements.{dc_elements, coefficient_elements, block_elements}
 use Rattle.pel_model.specs.Walk.{after}
-use Rattle.pel_model.specs.Grammar.{Element, Dc, Tcoeff, Eob, Slot, slot, block_slot, kind, blocks, group, address, quant, vector}
+use Rattle.pel_model.specs.Grammar.{Element, Cbp, Dc, Tcoeff, Eob, Slot, slot, block_slot, kind, blocks, group, address, quant, vector}
 use Rattle.pel_model.proofs.Walks.{after-append}
+use Rattle.h261_mb.specs.Macroblocks.{cbp_elements}
 use Rattle.h261_mb.specs.State.{Say}
 
 -- all that elements say of the last macroblock but its blocks
@@ -55,3 +56,16 @@ say_again number at q h v before behind same say = record {
   across_is = ap (λ (s : MbKind × ℕ × ℕ × ℕ × ℤ × ℤ). s.4) same ∙ say.across_is;
   down_is = ap (λ (s : MbKind × ℕ × ℕ × ℕ × ℤ × ℤ). s.5) same ∙ say.down_is;
 }
+
+pass_if : (before : List Element) (n : ℕ) (has : Bool) → said (after before (cond has (Cbp n ∷ []) [])) ≡ said before
+pass_if before n true = refl
+pass_if before n false = refl
+
+pub behind_cbp : (before : List Element) (k : MbKind) (n : ℕ) (es : List Element) → es ≡ cbp_elements k n → said (after before es) ≡ said before
+behind_cbp before k n es is = ap (λ (es : List Element). said (after before es)) is ∙ pass_if before n (has_cbp k)
+
+pub behind_blocks : (before : List Element) (bs : List Block) (es : List Element) → es ≡ flat_map block_elements bs → said (after before es) ≡ said before
+behind_blocks before bs es is = ap (λ (es : List Element). said (after before es)) is ∙ pass_blocks before bs
+
+pub said_kind : (before behind : List Element) (k : MbKind) → said behind ≡ said before → kind before ≡ k → kind behind ≡ k
+said_kind before behind k same is = ap (λ (s : MbKind × ℕ × ℕ × ℕ × ℤ × ℤ). s.0) same ∙ is

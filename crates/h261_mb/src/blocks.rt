@@ -8,7 +8,7 @@ ghost use Rattle.pel_model.specs.Bits.{number};
 ghost use Rattle.pel_model.specs.Codes.{is_intra as intra_by_table};
 ghost use Rattle.pel_model.specs.Records.{Block};
 ghost use Rattle.pel_model.specs.Elements.{block_elements};
-ghost use Rattle.pel_model.specs.Grammar.{Element, Cbp, slot, AtCbp, block_slot, cbp_slot, kind as kind_before, blocks as blocks_before, next};
+ghost use Rattle.pel_model.specs.Grammar.{Element, Cbp, slot, AtMacroblock, AtCbp, block_slot, cbp_slot, kind as kind_before, blocks as blocks_before, next};
 ghost use Rattle.pel_model.specs.Walk.{after, Takes, Walked};
 ghost use Rattle.h261_mb.specs.Macroblocks.{cbp_elements};
 
@@ -41,7 +41,7 @@ pub fn skip_blocks(r: &mut Reader<'_>, intra: bool, count: u32) -> Result<(), Fa
     ensures walk { (format : Format) (before : List Element) (kind : Kind) → kind_before before ≡ kind → intra_by_table kind ≡ intra →
         slot before ≡ block_slot kind count → blocks_before before ≡ count →
         Walked (next format) before
-        (λ _ es new. (blocks : List Block) × (length blocks ≡ count) × (es ≡ flat_map block_elements blocks))
+        (λ _ es new. (blocks : List Block) × (length blocks ≡ count) × (es ≡ flat_map block_elements blocks) × (slot (after before es) ≡ AtMacroblock))
         result r.old r.new }
     ensures onward { IfOk result (λ _. r.old.1 ≤ r.new.1) }
 {

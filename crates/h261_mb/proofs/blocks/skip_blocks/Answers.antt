@@ -1,8 +1,8 @@
-use Rattle.std.proofs.Common.{◌≡◌, ◌-◌, ◌<◌, ◌≤◌, Bool, List, flat_map, refl, ◌∙◌, arith}
+use Rattle.std.proofs.Common.{◌≡◌, ◌-◌, ◌<◌, ◌≤◌, Bool, List, flat_map, refl, ◌∙◌, ap, arith}
 use Rattle.std.proofs.lemmas.Result.{err_from_is_err_and}
 use Rattle.pel_model.specs.Elements.{block_elements}
 use Rattle.pel_model.specs.Walk.{after}
-use Rattle.pel_model.specs.Grammar.{Element, next}
+use Rattle.pel_model.specs.Grammar.{Element, block_slot, next}
 use Rattle.h261_mb.proofs.SentBlocks.{none_read, one_more, first_slot, block_onward}
 use Rattle.h261_mb.proofs.Steps.{fails_later}
 use Rattle.h261_mb.proofs.blocks.skip_blocks.Goals as goal
@@ -38,4 +38,5 @@ loop-block-preserved c = record {
 pub returns-clause-walk : goal.returns-clause-walk
 returns-clause-walk c = λ format before k kind_is intra due to_come.
     let so_far = c.loop-block.invariant.so_far format before k kind_is intra due to_come in
-    (flat_map block_elements so_far.read, so_far.walk, (so_far.read, omega (arith, so_far.many), refl))
+    let none_left : c.args.count - c.loop-block._block ≡ 0 = omega arith in
+    (flat_map block_elements so_far.read, so_far.walk, (so_far.read, omega (arith, so_far.many), refl, so_far.due ∙ ap (block_slot k) none_left))
