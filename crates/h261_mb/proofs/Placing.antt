@@ -1,7 +1,6 @@
 -- Blocks in their places: those that are sent stand where CBP has a one.
 use Rattle.std.proofs.Common.{◌≡◌, ℕ, suc, ◌+◌, Bool, true, false, cond, List, [], ◌∷◌, ◌++◌, ℤ, length, map, flat_map, count_by, Option, Some, None, is_some, refl, sym, ◌∙◌, ap, arith}
 use Rattle.std.proofs.lemmas.List.Sums.{sum_by-cons}
-use Rattle.pel_model.specs.declared.MbKind.{MbKind}
 use Rattle.pel_model.specs.Bits.{number}
 use Rattle.pel_model.specs.Records.{Block, Macroblock}
 use Rattle.pel_model.specs.Text.{coded_block_pattern}

@@ -10,9 +10,9 @@ use Rattle.pel_model.specs.Codes.{is_intra, has_cbp}
 use Rattle.pel_model.specs.Records.{Block}
 use Rattle.pel_model.specs.Elements.{block_elements}
 use Rattle.pel_model.specs.Walk.{Step, after, Goes}
-use Rattle.pel_model.specs.Grammar.{Element, Mtype, Cbp, Slot, AtCbp, AtDc, AtFirst, slot, block_slot, cbp_slot, kind, blocks, next}
+use Rattle.pel_model.specs.Grammar.{Element, Mtype, Cbp, AtCbp, AtDc, AtFirst, slot, block_slot, cbp_slot, kind, blocks, next}
 use Rattle.pel_model.proofs.Walks.{after-append, goes-append}
-use Rattle.h261_mb.proofs.Passing.{said, pass_blocks, blocks-block, slot-block}
+use Rattle.h261_mb.proofs.Passing.{pass_blocks, blocks-block, slot-block}
 use Rattle.h261_mb.proofs.Steps.{goes_onward}
 
 -- ---- the slot of the blocks

@@ -1,7 +1,6 @@
 -- What stands at the slots of a macroblock, from the words there and the conditions of their elements.
-use Rattle.std.proofs.Common.{◌≡◌, ◌≢◌, ℕ, ◌+◌, ◌-◌, ◌≤◌, ◌<◌, ◌==◌, ◌&&◌, not, Bool, true, false, cond, List, [], ◌∷◌, ◌++◌, length, take, Some, None, nat_lt, refl, sym, ◌∙◌, ap, subst, arith}
-use Rattle.std.specs.List.{list_any}
-use Rattle.std.proofs.lemmas.Bool.{eqb-true, eq-eqb, ltb-true, lt-ltb}
+use Rattle.std.proofs.Common.{◌≡◌, ◌≢◌, ℕ, ◌+◌, ◌-◌, ◌≤◌, ◌<◌, ◌==◌, ◌&&◌, not, Bool, true, false, cond, List, [], ◌∷◌, ◌++◌, length, take, Some, None, nat_lt, refl, sym, ◌∙◌, ap, arith}
+use Rattle.std.proofs.lemmas.Bool.{eqb-true, ltb-true, lt-ltb}
 use Rattle.std.proofs.lemmas.List.{take-append-le}
 use Rattle.pel_bits.specs.Bits as bits
 use Rattle.pel_bits.specs.Reading.{zeros}
@@ -11,8 +10,8 @@ use Rattle.pel_model.specs.declared.Why.TheVariants.{Cut, BadQuant, BadAddress}
 use Rattle.pel_model.specs.Bits as model
 use Rattle.pel_model.specs.Codes.{mtype_table, mvd_table, cbp_table}
 use Rattle.pel_model.specs.Records.{Axis}
-use Rattle.pel_model.specs.Walk.{Step, Good, Bad, Stop, Row, read}
-use Rattle.pel_model.specs.Grammar.{Element, Mba, Mtype, Mquant, Mvd, Cbp, Slot, slot, AtMacroblock, AtMtype, AtMquant, AtMvd, AtCbp, at_slot, is_end, rows, table_rows, field_rows, mba_rows, gbsc_row, address, faults, first_why, next}
+use Rattle.pel_model.specs.Walk.{Step, Good, Bad, Stop, read}
+use Rattle.pel_model.specs.Grammar.{Element, Mba, Mtype, Mquant, Mvd, Cbp, Slot, slot, AtMacroblock, AtMtype, AtMquant, AtMvd, AtCbp, at_slot, rows, table_rows, field_rows, mba_rows, gbsc_row, address, faults, first_why, next}
 use Rattle.pel_model.proofs.Steps.{judge, next-at, judged-good, judged-bad, judged-none, field-good, field-cut}
 use Rattle.vlc_codes.proofs.CoefficientLaws.{same_number}
 use Rattle.h261_mb.proofs.Words.{read_front, mba_has_one}

@@ -1,5 +1,5 @@
 -- Walks that begin with one element.
-use Rattle.std.proofs.Common.{◌≡◌, ℕ, ◌+◌, ◌≤◌, Bool, List, [], ◌∷◌, ◌++◌, Result, Ok, Err, sym, ◌∙◌, subst, ap, arith}
+use Rattle.std.proofs.Common.{◌≡◌, ℕ, ◌≤◌, Bool, List, [], ◌∷◌, ◌++◌, Result, Ok, Err, ◌∙◌, subst, ap, arith}
 use Rattle.pel_model.specs.declared.Fault.{Fault}
 use Rattle.pel_model.specs.Walk.{Step, Good, Bad, skipped, after, Goes, Walked}
 use Rattle.pel_model.specs.Grammar.{Element}

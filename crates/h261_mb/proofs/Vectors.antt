@@ -1,8 +1,8 @@
 -- The component that MVD gives.
-use Rattle.std.proofs.Common.{◌≡◌, ℕ, not, List, ◌<◌, ◌≤◌, Bool, true, false, cond, ℤ, pos, negsuc, ◌+ℤ◌, ◌≤ℤ◌, Option, Some, None, nat_lt, refl, sym, ◌∙◌, ap, arith, w8, to_z, of_z}
+use Rattle.std.proofs.Common.{◌≡◌, ℕ, not, List, Bool, true, false, cond, ℤ, pos, negsuc, ◌+ℤ◌, ◌≤ℤ◌, Option, Some, None, refl, sym, ◌∙◌, ap, arith, w8, to_z, of_z}
 use mir.Val.{SFits}
 use Rattle.std.proofs.lemmas.Int.{ints, to_z-of_z}
-use Rattle.std.proofs.lemmas.Bool.{ltb-true, lt-ltb}
+use Rattle.std.proofs.lemmas.Bool.{ltb-true}
 use Rattle.pel_model.specs.declared.Format.{Format}
 use Rattle.pel_model.specs.declared.Why.{Why}
 use Rattle.pel_model.specs.declared.Why.TheVariants.{BadVector, VectorOutside}

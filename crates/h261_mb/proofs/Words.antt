@@ -1,11 +1,11 @@
 -- What is known of the words of MBA and CBP that stand at a place.
-use Rattle.std.proofs.Common.{◌≡◌, ℕ, ◌+◌, ◌<◌, ◌≤◌, ◌&&◌, ◌||◌, Bool, true, false, cond, List, [], ◌∷◌, ◌++◌, length, map, Option, Some, None, nat_lt, nat_le, if◌then◌else◌, ◌⊎◌, inl, inr, refl, sym, ◌∙◌, ap, subst, arith}
+use Rattle.std.proofs.Common.{◌≡◌, ℕ, ◌+◌, ◌<◌, Bool, true, false, cond, List, [], ◌∷◌, ◌++◌, length, Option, Some, None, nat_lt, if◌then◌else◌, ◌⊎◌, inl, inr, refl, sym, ap, subst}
 use Rattle.std.specs.List.{find, list_any, list_all}
-use Rattle.std.proofs.lemmas.Bool.{ltb-true, leb-true}
+use Rattle.std.proofs.lemmas.Bool.{ltb-true}
 use Rattle.pel_model.specs.declared.Why.TheVariants.{Cut}
 use Rattle.pel_model.specs.Codes.{begins, mba_table, stuffing_word, cbp_table}
-use Rattle.pel_model.specs.Walk.{Step, Good, Bad, Row, read, whole_word, word_at}
-use Rattle.pel_model.specs.Grammar.{Element, Mba, Stuffing, Cbp, Gbsc, word_row, table_rows, mba_rows, gbsc_row}
+use Rattle.pel_model.specs.Walk.{Good, Bad, Row, read, word_at}
+use Rattle.pel_model.specs.Grammar.{Element, Mba, Stuffing, Cbp, word_row, table_rows, mba_rows}
 use Rattle.vlc_codes.proofs.WordLaws.{and_left, and_right, either_way}
 
 module _ (bits : List Bool) (e : Element) (n : ℕ) where

@@ -1,5 +1,5 @@
 -- The elements that a macroblock is sent as (H.261, 4.2.3).
-use Rattle.std.specs.Prelude.{◌≡◌, ℕ, ◌+◌, cond, ℤ, List, [], ◌∷◌, ◌++◌, Option, Some, None}
+use Rattle.std.specs.Prelude.{ℕ, cond, ℤ, List, [], ◌∷◌, ◌++◌, Option, Some, None}
 use Rattle.pel_model.specs.declared.MbKind.{MbKind}
 use Rattle.pel_model.specs.Codes.{has_vector, has_cbp}
 use Rattle.pel_model.specs.Records.{Across, Down, Block, Macroblock}

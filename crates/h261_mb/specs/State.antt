@@ -1,7 +1,6 @@
 -- What the state of a group's macroblocks is to the elements before, and what a macroblock adds to both.
-use Rattle.std.specs.Prelude.{◌≡◌, ℕ, ◌+◌, ◌-◌, ◌≤◌, ◌==◌, Bool, cond, ℤ, pos, negsuc, ◌≤ℤ◌, List, length, Option, Some, None}
+use Rattle.std.specs.Prelude.{◌≡◌, ℕ, ◌-◌, ◌≤◌, Bool, cond, ℤ, pos, negsuc, ◌≤ℤ◌, List, length}
 use Rattle.pel_model.specs.declared.Mark.{Mark}
-use Rattle.pel_model.specs.declared.MbKind.{MbKind}
 use Rattle.pel_model.specs.Codes.{is_intra}
 use Rattle.pel_model.specs.Records.{Across, Down, Macroblock}
 use Rattle.pel_model.specs.Walk.{after}
@@ -12,7 +11,7 @@ use Rattle.h261_mb.specs.Macroblocks.{macroblock_elements}
 
 -- ---- what the code asks of a state
 
--- a component of a vector
+-- a component of a vector lies from -15 to 15
 abbrev pub IsNear : ℤ → Type 0
 IsNear z = (negsuc 14 ≤ℤ z) × (z ≤ℤ pos 15)
 

@@ -4,6 +4,7 @@
 ghost use Rattle.std.specs.Prelude.{◌≡◌, ℕ, ◌+◌, ◌-◌, ◌<◌, ◌≤◌, cond, Bool, List, [], ◌∷◌, Option, unwrap_or, IfOk};
 ghost use Rattle.pel_model.specs.declared.Format.{Format};
 ghost use Rattle.pel_model.specs.declared.Why.{Why as Reason};
+ghost use Rattle.pel_model.specs.declared.Why.TheVariants.{NoCode};
 ghost use Rattle.pel_model.specs.Codes.{has_mquant as mquant_by_table, has_vector as vector_by_table};
 ghost use Rattle.pel_model.specs.Grammar.{Element, Mba, Mtype, Mquant, Stuffing, mba_rows, slot, AtMacroblock, AtMtype, AtMquant, vector_slot, address as address_before, starts_anew as anew, next};
 ghost use Rattle.pel_model.specs.Walk.{Good, Bad, read, after, Takes, Walked};
@@ -18,8 +19,7 @@ use vlc_codes::{MbaRow, mba, mtype};
 
 /// Reads MBA, MTYPE and, where the kind has it, MQUANT, and gives with them the predictor of the vector.
 pub fn read_head(r: &mut Reader<'_>, state: &MbState) -> Result<Head, Fault>
-    requires ready { IsReady state.now }
-    requires no_stuffing { (n : ℕ) → read mba_rows r.old.0 ≡ Good Stuffing n → ⊥ }
+    requires { IsReady state.now }
     ensures walk { (format : Format) (before : List Element) (number d n : ℕ) → Stands number state.now before →
         read mba_rows r.old.0 ≡ Good (Mba d) n →
         Walked (next format) before
@@ -27,6 +27,8 @@ pub fn read_head(r: &mut Reader<'_>, state: &MbState) -> Result<Head, Fault>
         result r.old r.new }
     ensures no_word { (why : Reason) → read mba_rows r.old.0 ≡ Bad why →
         (result ≡ Err (record { place = r.old.1; why = why })) × (r.new ≡ r.old) }
+    ensures stuffing { (n : ℕ) → read mba_rows r.old.0 ≡ Good Stuffing n →
+        (result ≡ Err (record { place = r.old.1; why = NoCode })) × (r.new ≡ r.old) }
     ensures within { IfOk result (λ head. (0 < head.address) × (head.address ≤ 33) × IsNear head.h × IsNear head.v) }
     ensures onward { IfOk result (λ _. r.old.1 ≤ r.new.1) }
 {
@@ -50,14 +52,14 @@ pub fn read_head(r: &mut Reader<'_>, state: &MbState) -> Result<Head, Fault>
 // Takes MBA and gives the address, at most 33 (H.261, 4.2.3.1).
 #[inline]
 fn take_address(r: &mut Reader<'_>, last: u8) -> Result<u8, Fault>
-    requires last { last ≤ 33 }
-    requires no_stuffing { (n : ℕ) → read mba_rows r.old.0 ≡ Good Stuffing n → ⊥ }
+    requires { last ≤ 33 }
     ensures taken { (format : Format) (before : List Element) (d n : ℕ) → slot before ≡ AtMacroblock → address_before before ≡ last →
         read mba_rows r.old.0 ≡ Good (Mba d) n →
         Takes (λ address. Mba (address - last)) (next format before r.old) result r.old r.new }
     ensures no_word { (why : Reason) → read mba_rows r.old.0 ≡ Bad why →
         (result ≡ Err (record { place = r.old.1; why = why })) × (r.new ≡ r.old) }
-    ensures word { IfOk result (λ _. (d : ℕ) × (n : ℕ) × (read mba_rows r.old.0 ≡ Good (Mba d) n)) }
+    ensures stuffing { (n : ℕ) → read mba_rows r.old.0 ≡ Good Stuffing n →
+        (result ≡ Err (record { place = r.old.1; why = NoCode })) × (r.new ≡ r.old) }
     ensures within { IfOk result (λ address. (last < address) × (address ≤ 33)) }
     ensures onward { IfOk result (λ _. r.old.1 ≤ r.new.1) }
 {
@@ -74,7 +76,10 @@ fn take_address(r: &mut Reader<'_>, last: u8) -> Result<u8, Fault>
             *r = ahead;
             Ok(last + difference)
         }
-        Ok(MbaRow::Stuffing) => unreachable!(),
+        Ok(MbaRow::Stuffing) => Err(Fault {
+            place,
+            why: Why::NoCode,
+        }),
         Err(why) => Err(Fault { place, why }),
     }
 }

@@ -17,7 +17,12 @@ use pel_model::{Fault, Format, Why};
 use vlc_codes::mvd;
 
 /// Takes the vector where the kind has one; else it is its predictor, (0, 0).
-pub fn vector_after(r: &mut Reader<'_>, format: Format, group: u8, head: &Head) -> Result<(i8, i8), Fault>
+pub fn vector_after(
+    r: &mut Reader<'_>,
+    format: Format,
+    group: u8,
+    head: &Head,
+) -> Result<(i8, i8), Fault>
     requires group { is_group format group ≡ true }
     requires address { (0 < head.now.address) × (head.now.address ≤ 33) }
     requires near { IsNear head.now.h × IsNear head.now.v }
@@ -36,7 +41,12 @@ pub fn vector_after(r: &mut Reader<'_>, format: Format, group: u8, head: &Head) 
 }
 
 // Takes both components of the vector; `head` has their predictor.
-fn read_vector(r: &mut Reader<'_>, format: Format, group: u8, head: &Head) -> Result<(i8, i8), Fault>
+fn read_vector(
+    r: &mut Reader<'_>,
+    format: Format,
+    group: u8,
+    head: &Head,
+) -> Result<(i8, i8), Fault>
     requires group { is_group format group ≡ true }
     requires address { (0 < head.now.address) × (head.now.address ≤ 33) }
     requires near { IsNear head.now.h × IsNear head.now.v }

@@ -5,7 +5,7 @@ use Rattle.pel_model.specs.declared.Mark.{Mark}
 use Rattle.pel_model.specs.Bits.{number}
 use Rattle.pel_model.specs.Records.{Macroblock}
 use Rattle.pel_model.specs.Walk.{after}
-use Rattle.pel_model.specs.Grammar.{Element, next, slot}
+use Rattle.pel_model.specs.Grammar.{Element, next}
 use Rattle.pel_model.proofs.Walks.{goes-append, after-append}
 use Rattle.h261_mb.specs.declared.state.MbState.{MbState}
 use Rattle.h261_mb.specs.State.{Stands, Say}
@@ -88,17 +88,20 @@ returns-clause-walk c = λ before d n stands is.
       down_is = here.down_is ∙ sym (to_z-of_z w8 c.in_ok-h.v (search rules));
     } in
     let m : Macroblock = record { address = state.address; kind = kind; mquant = head.2.0; across = state.h; down = state.v; blocks = placed cbp.2.0 blocks.2.0 } in
-    let mark : ℕ → ℕ → Bool → Mark = λ at end intra. record { at = at; len = end - at; group = number_of; address = state.address; quant_after = state.quant; h_after = state.h; v_after = state.v; intra = intra } in
-    (es, walk, record {
-      macroblock = m;
-      difference = state.address - c.args.state.now.address;
-      across = vector.2.0;
-      down = vector.2.1;
-      elements = whole_elements m (state.address - c.args.state.now.address) vector.2.0 vector.2.1 cbp.2.0 blocks.2.0 refl (blocks.2.1 ∙ sym cbp.2.2) head.0 vector.0 cbp.0 blocks.0 head.2.1 vector.2.2 cbp.2.3 blocks.2.2;
-      stands = subst (λ (b : List Element). Stands number_of state b) (sym behind) (record { due = blocks.2.3; say = say });
-      address_is = refl;
-      across_is = refl;
-      down_is = refl;
-      six = length-placed cbp.2.0 blocks.2.0 ∙ cbp.2.1;
-      mark_is = ap (λ (at : ℕ). mark at c.place.result c.is_intra-intra.result) c.place-at.ensures ∙ (ap (λ (end : ℕ). mark c.args.r.now.1 end c.is_intra-intra.result) c.place.ensures ∙ ap (mark c.args.r.now.1 c.skip_blocks.new.r.1) c.is_intra-intra.ensures);
-    })
+    let mark : ℕ → ℕ → Bool → Mark = λ at end intra. record { at = at; len = end - at; group = number_of; address = state.address; quant_after = state.quant; h_after = state.h; v_after = state.v; intra = intra } in (
+      es,
+      walk,
+      record {
+        macroblock = m;
+        difference = state.address - c.args.state.now.address;
+        across = vector.2.0;
+        down = vector.2.1;
+        elements = whole_elements m (state.address - c.args.state.now.address) vector.2.0 vector.2.1 cbp.2.0 blocks.2.0 refl (blocks.2.1 ∙ sym cbp.2.2) head.0 vector.0 cbp.0 blocks.0 head.2.1 vector.2.2 cbp.2.3 blocks.2.2;
+        stands = subst (λ (b : List Element). Stands number_of state b) (sym behind) (record { due = blocks.2.3; say = say });
+        address_is = refl;
+        across_is = refl;
+        down_is = refl;
+        six = length-placed cbp.2.0 blocks.2.0 ∙ cbp.2.1;
+        mark_is = ap (λ (at : ℕ). mark at c.place.result c.is_intra-intra.result) c.place-at.ensures ∙ (ap (λ (end : ℕ). mark c.args.r.now.1 end c.is_intra-intra.result) c.place.ensures ∙ ap (mark c.args.r.now.1 c.skip_blocks.new.r.1) c.is_intra-intra.ensures);
+      },
+    )

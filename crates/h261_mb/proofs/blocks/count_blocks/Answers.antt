@@ -1,11 +1,10 @@
-use Rattle.std.proofs.Common.{◌≡◌, ℕ, Bool, true, false, cond, List, [], ◌∷◌, replicate, refl, sym, ◌∙◌, ap}
-use Rattle.std.specs.Prelude.{count_ones}
+use Rattle.std.proofs.Common.{◌≡◌, ℕ, Bool, true, false, cond, [], ◌∷◌, replicate, refl, sym, ◌∙◌, ap}
 use Rattle.std.proofs.lemmas.Result.{err_from_is_err_and}
 use Rattle.h261_block.proofs.SoFar.{failed}
 use Rattle.pel_model.specs.declared.MbKind.{MbKind}
 use Rattle.pel_model.specs.Bits.{field, number}
 use Rattle.pel_model.specs.Codes.{is_intra, has_cbp}
-use Rattle.pel_model.specs.Grammar.{Element, Cbp, AtCbp, block_slot, cbp_slot, ones, next}
+use Rattle.pel_model.specs.Grammar.{Cbp, AtCbp, block_slot, cbp_slot, ones, next}
 use Rattle.h261_mb.proofs.SentBlocks.{intra_has_no_cbp, slot-no-cbp}
 use Rattle.h261_mb.proofs.Patterns.{six_ones, six_counted, six_number, six_long}
 use Rattle.h261_mb.proofs.blocks.count_blocks.Goals as goal

@@ -1,8 +1,8 @@
-use Rattle.std.proofs.Common.{◌≡◌, ◌-◌, ◌<◌, ◌≤◌, Bool, List, flat_map, refl, ◌∙◌, ap, arith}
+use Rattle.std.proofs.Common.{◌≡◌, ◌-◌, flat_map, refl, ◌∙◌, ap, arith}
 use Rattle.std.proofs.lemmas.Result.{err_from_is_err_and}
 use Rattle.pel_model.specs.Elements.{block_elements}
 use Rattle.pel_model.specs.Walk.{after}
-use Rattle.pel_model.specs.Grammar.{Element, block_slot, next}
+use Rattle.pel_model.specs.Grammar.{block_slot, next}
 use Rattle.h261_mb.proofs.SentBlocks.{none_read, one_more, first_slot, block_onward}
 use Rattle.h261_mb.proofs.Steps.{fails_later}
 use Rattle.h261_mb.proofs.blocks.skip_blocks.Goals as goal

@@ -1,10 +1,9 @@
-use Rattle.std.proofs.Common.{◌≡◌, ◌-◌, ◌∷◌, [], List, true, false, not, ℤ, subst, refl, sym, ◌∙◌, ap, w8, to_z, of_z, rules, arith}
+use Rattle.std.proofs.Common.{◌≡◌, ◌-◌, ◌∷◌, [], List, ℤ, subst, refl, sym, ◌∙◌, ap, w8, to_z, of_z, rules}
 use Rattle.std.proofs.lemmas.Int.{to_z-of_z}
 use Rattle.std.proofs.lemmas.Result.{err_from_is_err_and}
 use Rattle.h261_block.proofs.SoFar.{failed}
-use Rattle.pel_model.specs.Walk.{after, Goes}
-use Rattle.pel_model.specs.Grammar.{Element, Mba, Mtype, slot, starts_anew, next}
-use Rattle.pel_model.proofs.Walks.{bad_later}
+use Rattle.pel_model.specs.Walk.{after}
+use Rattle.pel_model.specs.Grammar.{Element, Mba, Mtype, slot, next}
 use Rattle.h261_mb.specs.State.{IsBegun}
 use Rattle.h261_mb.proofs.Heads.{predicted, predicted_last, predicted_anew, predicted_none, begun}
 use Rattle.h261_mb.proofs.Steps.{goes_first}

@@ -1,4 +1,4 @@
-use Rattle.std.proofs.Common.{◌≤◌, ◌==◌, ◌++◌, length, take, refl, arith, length-take}
+use Rattle.std.proofs.Common.{◌≤◌, ◌++◌, length, take, refl, arith, length-take}
 use Rattle.std.proofs.lemmas.Bool.{eq-eqb}
 use Rattle.pel_bits.specs.Reading.{zeros}
 use Rattle.pel_bits.proofs.RunBits.{number-fits_in}

@@ -1,4 +1,4 @@
-use Rattle.std.proofs.Common.{◌≡◌, ℕ, ◌∷◌, [], List, ℤ, refl, sym, ◌∙◌, ap, subst, w8, rules}
+use Rattle.std.proofs.Common.{◌≡◌, ℕ, ◌∷◌, List, ℤ, refl, sym, ◌∙◌, ap, subst, w8, rules}
 use Rattle.std.proofs.lemmas.Int.{to_z-of_z}
 use Rattle.std.proofs.lemmas.Result.{err_from_is_err_and}
 use Rattle.pel_model.specs.Records.{Axis, Across, Down}
