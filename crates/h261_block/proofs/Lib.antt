@@ -1,3 +1,4 @@
 pub mod BlockSteps
+pub mod InsideLaws
 pub mod LevelLaws
 pub mod SoFar

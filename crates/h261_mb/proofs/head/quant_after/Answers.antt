@@ -1,17 +1,18 @@
 use Rattle.std.proofs.Common.{◌≡◌, ℕ, Bool, true, cond, List, [], ◌∷◌, Option, Some, unwrap_or, Result, Ok, Err, refl, ap, sym, ◌∙◌}
-use Rattle.h261_block.proofs.SoFar.{failed}
+use Rattle.h261_block.proofs.InsideLaws.{failed_inside}
+use Rattle.h261_block.specs.Inside.{WalkedInside}
 use Rattle.pel_model.specs.declared.Fault.{Fault}
 use Rattle.pel_model.specs.declared.Format.{Format}
 use Rattle.pel_model.specs.declared.MbKind.{MbKind}
 use Rattle.pel_model.specs.Codes.{has_mquant}
-use Rattle.pel_model.specs.Walk.{after, Takes, Walked}
+use Rattle.pel_model.specs.Walk.{after, Takes}
 use Rattle.pel_model.specs.Grammar.{Element, Mtype, Mquant, slot, AtMquant, vector_slot, next}
 use Rattle.h261_mb.specs.Macroblocks.{mquant_elements}
 use Rattle.h261_mb.proofs.head.quant_after.Goals as goal
 
-taken : (format : Format) (before : List Element) (kind : MbKind) (last : ℕ) (old new : List Bool × ℕ) (result : Result ℕ Fault) → Takes Mquant (next format (Mtype kind ∷ before) old) result old new → Walked (next format) (Mtype kind ∷ before) (λ quant es new. (mquant : Option ℕ) × (es ≡ mquant_elements mquant) × (quant ≡ unwrap_or mquant last) × (slot (after (Mtype kind ∷ before) es) ≡ vector_slot kind)) result old new
-taken format before kind last old new (Ok q) took = (Mquant q ∷ [], took, (Some q, refl, refl, refl))
-taken format before kind last old new (Err f) took = failed (next format) (Mtype kind ∷ before) old old new [] f refl took.0 took.1 took.2
+taken : (format : Format) (before : List Element) (kind : MbKind) (last : ℕ) (old new : List Bool × ℕ) (result : Result ℕ Fault) → Takes Mquant (next format (Mtype kind ∷ before) old) result old new → WalkedInside 0 (next format) (Mtype kind ∷ before) (λ quant es new. (mquant : Option ℕ) × (es ≡ mquant_elements mquant) × (quant ≡ unwrap_or mquant last) × (slot (after (Mtype kind ∷ before) es) ≡ vector_slot kind)) result old new
+taken format before kind last old new (Ok q) took = (Mquant q ∷ [], took, (Some q, refl, refl, refl), refl)
+taken format before kind last old new (Err f) took = failed_inside 0 (next format) (Mtype kind ∷ before) old old new [] f refl took.0 took.1 took.2 refl
 
 pub returns-then-has_mquant-clause-walk : goal.returns-then-has_mquant-clause-walk
 returns-then-has_mquant-clause-walk c = λ format before.

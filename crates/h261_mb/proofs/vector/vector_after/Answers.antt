@@ -66,4 +66,5 @@ returns-else-has_vector-clause-walk c = λ before begun.
           };
         },
       ),
+      refl,
     )
