@@ -1,4 +1,3 @@
 pub mod BlockSteps
-pub mod InsideLaws
 pub mod LevelLaws
 pub mod SoFar

@@ -9,7 +9,6 @@ ghost use Rattle.pel_model.specs.Elements.{block_elements, levels};
 ghost use Rattle.pel_model.specs.Grammar.{Element, slot, AtDc, AtFirst, next};
 ghost use Rattle.pel_model.specs.Records.{Block};
 ghost use Rattle.pel_model.specs.Walk.{Walked};
-ghost use Rattle.h261_block.specs.Inside.{WalkedInside};
 
 use coefficients::{coefficient, dc, dc_level, run_and_level};
 use pel_bits::Reader;
@@ -19,7 +18,7 @@ use pel_model::Fault;
 /// the reader stands at the element at fault.
 pub fn scan_block(r: &mut Reader<'_>, intra: bool) -> Result<(), Fault>
     ensures { (format : Format) (before : List Element) → slot before ≡ cond intra AtDc AtFirst →
-        WalkedInside 0 (next format) before (λ _ es new. (b : Block) × (es ≡ block_elements b) × (is_some b.dc ≡ intra))
+        Walked (next format) before (λ _ es new. (b : Block) × (es ≡ block_elements b) × (is_some b.dc ≡ intra))
         result r.old r.new }
 {
     let mut filled = 0;

@@ -3,8 +3,7 @@ use Rattle.std.proofs.lemmas.Result.{err_from_is_err_and}
 use Rattle.pel_model.specs.Elements.{coefficient_elements, block_elements}
 use Rattle.pel_model.specs.Walk.{Good, after}
 use Rattle.pel_model.specs.Grammar.{Element, Slot, AtDc, AtFirst, next}
-use Rattle.h261_block.proofs.SoFar.{none_yet, dc_only, more, whole_walk, row-end, row-coefficient, row-filled}
-use Rattle.h261_block.proofs.InsideLaws.{failed_inside, inside-so-far, inside-block}
+use Rattle.h261_block.proofs.SoFar.{none_yet, dc_only, more, whole_walk, failed, row-end, row-coefficient, row-filled}
 use Rattle.h261_block.proofs.scan_block.Goals as goal
 use Rattle.h261_block.proofs.scan_block.Goals.{then-intra+in_ok-dc, else-intra}
 
@@ -17,7 +16,7 @@ returns-in_err-dc c =
     let p = err_from_is_err_and c.from_residual.result c.from_residual.ensures.1 in
     rw (p.1, p.2) (λ format before due.
     let took = c.in_err-dc.ensures format before (due_at _ c.args.intra true due c.if-intra.true) in
-    failed_inside 0 (next format) before c.args.r.now c.args.r.now c.dc.new.r [] _ refl took.0 took.1 took.2 refl)
+    failed (next format) before c.args.r.now c.args.r.now c.dc.new.r [] _ refl took.0 took.1 took.2)
 
 pub loop-run-init : goal.loop-run-init
 loop-run-init c =
@@ -43,7 +42,7 @@ returns-in_err-coefficient c =
     rw (p.1, p.2) (λ format before due.
     let so_far = c.loop-run.invariant.so_far format before due in
     let took = c.in_err-coefficient.ensures.taken format (after before (coefficient_elements so_far.block)) so_far.due so_far.full in
-    failed_inside 0 (next format) before c.args.r.now c.loop-run.r c.coefficient.new.r (coefficient_elements so_far.block) _ so_far.walk took.0 took.1 took.2 (inside-so-far so_far.block))
+    failed (next format) before c.args.r.now c.loop-run.r c.coefficient.new.r (coefficient_elements so_far.block) _ so_far.walk took.0 took.1 took.2)
 
 pub loop-run-preserved : goal.loop-run-preserved
 loop-run-preserved c =
@@ -68,4 +67,4 @@ returns c = λ format before due.
     let so_far = c.loop-run.invariant.so_far format before due in
     let took = c.in_ok-coefficient.ensures.taken format (after before (coefficient_elements so_far.block)) so_far.due so_far.full in
     let step = took.1 ∙ ap (λ (e : Element). Good e took.0) (row-end c.in_ok-coefficient.field-0 (sym c.run_and_level.ensures ∙ c.in_default.is)) in
-    (block_elements so_far.block, whole_walk (next format) before c.args.intra c.args.r.now c.loop-run.r c.coefficient.new.r c.loop-run.filled so_far took.0 step took.2, (so_far.block, refl, so_far.kind), inside-block so_far.block)
+    (block_elements so_far.block, whole_walk (next format) before c.args.intra c.args.r.now c.loop-run.r c.coefficient.new.r c.loop-run.filled so_far took.0 step took.2, (so_far.block, refl, so_far.kind))
