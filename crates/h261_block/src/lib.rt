@@ -5,7 +5,7 @@ mod coefficients;
 
 ghost use Rattle.std.specs.Prelude.{◌≡◌, cond, List, is_some};
 ghost use Rattle.pel_model.specs.declared.Format.{Format};
-ghost use Rattle.pel_model.specs.Elements.{block_elements, levels};
+ghost use Rattle.pel_model.specs.Elements.{IsBlockSoFar, block_elements, levels};
 ghost use Rattle.pel_model.specs.Grammar.{Element, slot, AtDc, AtFirst, next};
 ghost use Rattle.pel_model.specs.Records.{Block};
 ghost use Rattle.pel_model.specs.Walk.{Walked};
@@ -19,7 +19,7 @@ use pel_model::Fault;
 pub fn scan_block(r: &mut Reader<'_>, intra: bool) -> Result<(), Fault>
     ensures { (format : Format) (before : List Element) → slot before ≡ cond intra AtDc AtFirst →
         Walked (next format) before (λ _ es new. (b : Block) × (es ≡ block_elements b) × (is_some b.dc ≡ intra))
-        result r.old r.new }
+        IsBlockSoFar result r.old r.new }
 {
     let mut filled = 0;
     if intra {
@@ -37,7 +37,7 @@ pub fn scan_block(r: &mut Reader<'_>, intra: bool) -> Result<(), Fault>
 pub fn read_levels(r: &mut Reader<'_>, intra: bool, out: &mut [i16; 64]) -> Result<(), Fault>
     ensures { (format : Format) (before : List Element) → slot before ≡ cond intra AtDc AtFirst →
         Walked (next format) before (λ _ es new. (b : Block) × (es ≡ block_elements b) × (is_some b.dc ≡ intra) × (out.new ≡ levels b))
-        result r.old r.new }
+        IsBlockSoFar result r.old r.new }
 {
     *out = [0; 64];
     let mut filled = 0;

@@ -15,7 +15,8 @@ use Rattle.pel_model.specs.Bits.{field, is_odd}
 use Rattle.pel_model.specs.Codes.{word, mba_table, mtype_table, end_of_block_word}
 use Rattle.pel_model.specs.Records.{Block, Macroblock, Group, Picture}
 use Rattle.pel_model.specs.Text.{word_of, address_of, block_text, sent_block_text, macroblock_text, macroblocks_text, group_header, group_text, picture_header, text}
-use Rattle.pel_model.specs.Plain.{PlainGroup, PlainPicture, IsPlainGroup, IsPlainPicture, plain_block, plain_macroblock, plain_macroblocks, plain_group, plain_picture, FreeBits, plain_header, SpellsPlain}
+use Rattle.pel_model.specs.Spelling.{FreeBits}
+use Rattle.pel_model.specs.Plain.{PlainGroup, PlainPicture, IsPlainGroup, IsPlainPicture, plain_block, plain_macroblock, plain_macroblocks, plain_group, plain_picture, plain_header, SpellsPlain}
 use Rattle.pel_model.specs.Valid.{IsValidDc, IsQuantiser}
 
 -- the fields of the two base crates are the same

@@ -3,7 +3,7 @@ use Rattle.std.proofs.Common.{◌≡◌, ℕ, ◌+◌, Bool, List, [], ◌∷◌
 use Rattle.std.proofs.lemmas.List.{drop-drop}
 use Rattle.pel_model.specs.declared.Fault.{Fault}
 use Rattle.pel_model.specs.declared.Why.{Why}
-use Rattle.pel_model.specs.Walk.{Step, Good, Stop, Bad, skipped, start, after, Goes, Reads, HasOneAnswer, Walked}
+use Rattle.pel_model.specs.Walk.{Step, Good, Stop, Bad, skipped, start, after, Goes, FirstFault, Reads, HasOneAnswer, Walked}
 
 pub after-append : {E : Type 0} (before xs ys : List E) → after before (xs ++ ys) ≡ after (after before xs) ys
 after-append before [] ys = refl
@@ -21,6 +21,9 @@ good_not_stop s e n stop good = cc
 
 good_not_bad : {E : Type 0} (s : Step E) (e : E) (n : ℕ) (why : Why) → s ≡ Bad why → s ≡ Good e n → ⊥
 good_not_bad s e n why bad good = cc
+
+bad_same : {E : Type 0} (why other : Why) → ◌≡◌ {A = Step E} (Bad why) (Bad other) → why ≡ other
+bad_same why other same = cc
 
 stop_not_bad : {E : Type 0} (s : Step E) (why : Why) → s ≡ Stop → s ≡ Bad why → ⊥
 stop_not_bad s why stop bad = cc
@@ -55,26 +58,42 @@ module _ {E : Type 0} (next : List E → List Bool × ℕ → Step E) where
       let same = same_walk (x ∷ before) (skipped p.0 r) end end' xs ys p.2 rest stop no_more in
       (ap (λ t. x ∷ t) same.0 ∙ ap (λ h. h ∷ ys) s.0, same.1)
 
-  pub one_answer : HasOneAnswer next
-  one_answer bits es place why reads fault =
-      let stop = reads.2 in
-      let bad = fault.3 in
-      let same = same_walk [] (start bits) reads.0 fault.1 es fault.0 reads.1 fault.2 (λ e n good. good_not_stop (next (after [] es) reads.0) e n stop good) (λ e n good. good_not_bad (next (after [] fault.0) fault.1) e n why bad good) in
-      stop_not_bad (next (after [] fault.0) fault.1) why (subst (λ (es' : List E). next (after [] es') fault.1 ≡ Stop) same.0 (subst (λ (end : List Bool × ℕ). next (after [] es) end ≡ Stop) same.1 stop)) bad
+  no_more_at_end : (before : List E) (end : List Bool × ℕ) → next before end ≡ Stop → (e : E) (n : ℕ) → next before end ≡ Good e n → ⊥
+  no_more_at_end before end stop e n good = good_not_stop (next before end) e n stop good
+
+  no_more_at_fault : (before : List E) (end : List Bool × ℕ) (why : Why) → next before end ≡ Bad why → (e : E) (n : ℕ) → next before end ≡ Good e n → ⊥
+  no_more_at_fault before end why bad e n good = good_not_bad (next before end) e n why bad good
 
   -- a walk goes one way: what one reading takes is what another takes
   pub one_reading : (bits : List Bool) (xs ys : List E) → Reads next bits xs → Reads next bits ys → xs ≡ ys
   one_reading bits xs ys p q =
-      (same_walk [] (start bits) p.0 q.0 xs ys p.1 q.1 (λ e n good. good_not_stop (next (after [] xs) p.0) e n p.2 good) (λ e n good. good_not_stop (next (after [] ys) q.0) e n q.2 good)).0
+      (same_walk [] (start bits) p.0 q.0 xs ys p.1 q.1 (no_more_at_end (after [] xs) p.0 p.2) (no_more_at_end (after [] ys) q.0 q.2)).0
+
+  -- what stands behind two walks that are one
+  same_step : (xs ys : List E) (end end' : List Bool × ℕ) → xs ≡ ys → end ≡ end' → next (after [] xs) end ≡ next (after [] ys) end'
+  same_step xs ys end end' es at = ap (λ (zs : List E). next (after [] zs) end) es ∙ ap (next (after [] ys)) at
+
+  pub one_fault : (bits : List Bool) (p q : ℕ) (why other : Why) → FirstFault next bits p why → FirstFault next bits q other → (p ≡ q) × (why ≡ other)
+  one_fault bits p q why other a b =
+      let same = same_walk [] (start bits) a.1 b.1 a.0 b.0 a.2 b.2 (no_more_at_fault (after [] a.0) a.1 why a.3) (no_more_at_fault (after [] b.0) b.1 other b.3) in
+      (a.4 ∙ (ap (λ (r : List Bool × ℕ). r.1) same.1 ∙ sym b.4), bad_same why other (sym a.3 ∙ (same_step a.0 b.0 a.1 b.1 same.0 same.1 ∙ b.3)))
+
+  pub not_both : (bits : List Bool) (es : List E) (place : ℕ) (why : Why) → Reads next bits es → FirstFault next bits place why → ⊥
+  not_both bits es place why reads fault =
+      let same = same_walk [] (start bits) reads.0 fault.1 es fault.0 reads.1 fault.2 (no_more_at_end (after [] es) reads.0 reads.2) (no_more_at_fault (after [] fault.0) fault.1 why fault.3) in
+      stop_not_bad (next (after [] es) reads.0) why reads.2 (same_step es fault.0 reads.0 fault.1 same.0 same.1 ∙ fault.3)
+
+  pub one_answer : HasOneAnswer next
+  one_answer = record { one_reading = one_reading; one_fault = one_fault; not_both = not_both }
 
   -- ---- what a caller does with what its callees answered
 
-  module _ {X : Type 0} (before : List E) (Wanted : X → List E → List Bool × ℕ → Type 0) (r mid : List Bool × ℕ) (es : List E) (here : Goes next before r es mid) where
+  module _ {X : Type 0} (before : List E) (Wanted : X → List E → List Bool × ℕ → Type 0) (IsPart : List E → Type 0) (r mid : List Bool × ℕ) (es : List E) (here : Goes next before r es mid) where
     -- behind a walk, an element at fault
-    pub bad_here : (why : Why) (place : ℕ) → next (after before es) mid ≡ Bad why → place ≡ mid.1 → Walked {X = X} next before Wanted (Err (record { place = place; why = why })) r mid
-    bad_here why place bad at = (es, here, bad, at)
+    pub bad_here : (why : Why) (place : ℕ) → IsPart es → next (after before es) mid ≡ Bad why → place ≡ mid.1 → Walked {X = X} next before Wanted IsPart (Err (record { place = place; why = why })) r mid
+    bad_here why place part bad at = (es, here, part, bad, at)
 
     -- behind a walk, one that meets an element at fault
-    pub bad_later : (f : Fault) (end : List Bool × ℕ) (ys : List E) → Goes next (after before es) mid ys end → next (after (after before es) ys) end ≡ Bad f.why → f.place ≡ end.1 → Walked {X = X} next before Wanted (Err f) r end
-    bad_later f end ys there bad at =
-        (es ++ ys, goes-append before r mid end es ys here there, subst (λ (b : List E). next b end ≡ Bad f.why) (sym (after-append before es ys)) bad, at)
+    pub bad_later : (f : Fault) (end : List Bool × ℕ) (ys : List E) → Goes next (after before es) mid ys end → IsPart (es ++ ys) → next (after (after before es) ys) end ≡ Bad f.why → f.place ≡ end.1 → Walked {X = X} next before Wanted IsPart (Err f) r end
+    bad_later f end ys there part bad at =
+        (es ++ ys, goes-append before r mid end es ys here there, part, subst (λ (b : List E). next b end ≡ Bad f.why) (sym (after-append before es ys)) bad, at)

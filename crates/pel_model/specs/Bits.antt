@@ -1,4 +1,4 @@
--- Bits, and the numbers and octets that they spell. Bits stand in the order in which H.261 sends them (3.1: the
+-- Bits, and the numbers and octets that they spell. Bits stand in the order in which H.261 sends them (4.1: the
 -- most significant bit of a field first).
 use Rattle.std.specs.Prelude.{ℕ, zero, suc, ◌+◌, ◌%◌, ◌/◌, ◌^◌, ◌==◌, Bool, cond, List, [], ◌∷◌, length}
 use Rattle.std.specs.List.{flat_map}

@@ -10,6 +10,13 @@ abbrev pub word : List ℕ → List Bool
 word [] = []
 word (digit ∷ digits) = (digit == 49) ∷ word digits
 
+-- PSC (4.2.1.1) and GBSC (4.2.2.1)
+abbrev pub picture_start_code : List Bool
+picture_start_code = word (codes "00000000000000010000")
+
+abbrev pub group_start_code : List Bool
+group_start_code = word (codes "0000000000000001")
+
 -- MBA (4.2.3.1): the difference to the address before
 unfoldable pub mba_table : List (List Bool × ℕ)
 mba_table =

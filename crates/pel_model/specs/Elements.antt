@@ -1,5 +1,5 @@
 -- The elements that a record is sent as, and the levels of its coefficients.
-use Rattle.std.specs.Prelude.{ℕ, ◌-◌, ◌*◌, ◌==◌, if◌then◌else◌, ℤ, pos, List, [], ◌∷◌, ◌++◌, length, map, flat_map, replicate, Option, Some, None}
+use Rattle.std.specs.Prelude.{◌≡◌, ℕ, ◌-◌, ◌*◌, ◌==◌, if◌then◌else◌, ℤ, pos, List, [], ◌∷◌, ◌++◌, length, map, flat_map, replicate, Option, Some, None}
 use Rattle.pel_model.specs.Records.{Coefficient, Block}
 use Rattle.pel_model.specs.Grammar.{Element, Dc, Tcoeff, Eob}
 
@@ -15,6 +15,10 @@ coefficient_elements b = dc_elements b.dc ++ map Tcoeff b.coefficients
 
 abbrev pub block_elements : Block → List Element
 block_elements b = coefficient_elements b ++ Eob ∷ []
+
+-- elements of a block, up to no end
+abbrev pub IsBlockSoFar : List Element → Type 0
+IsBlockSoFar es = (b : Block) × (es ≡ coefficient_elements b)
 
 -- INTRADC: 11111111 stands for 1024, any other n for 8 n
 abbrev pub dc_level : ℕ → ℤ

@@ -1,5 +1,5 @@
 -- The grammar of a coded picture (H.261, 4.2): its elements, what may stand where, and which of them are at fault.
-use Rattle.std.specs.Prelude.{ℕ, zero, suc, ◌+◌, ◌-◌, ◌*◌, ◌/◌, ◌%◌, ◌==◌, ◌&&◌, ◌||◌, not, Bool, true, false, cond, ℤ, pos, negsuc, neg_ℤ, ◌+ℤ◌, List, [], ◌∷◌, ◌++◌, length, map, Option, Some, None, nat_lt, nat_le, codes}
+use Rattle.std.specs.Prelude.{ℕ, zero, suc, ◌+◌, ◌-◌, ◌*◌, ◌/◌, ◌%◌, ◌==◌, ◌&&◌, ◌||◌, not, Bool, true, false, cond, ℤ, pos, negsuc, neg_ℤ, ◌+ℤ◌, List, [], ◌∷◌, ◌++◌, length, map, Option, Some, None, nat_lt, nat_le}
 use Rattle.std.specs.List.{list_any}
 use Rattle.pel_model.specs.declared.Format.{Format}
 use Rattle.pel_model.specs.declared.Format.TheVariants.{Qcif, Cif}
@@ -7,13 +7,16 @@ use Rattle.pel_model.specs.declared.MbKind.{MbKind}
 use Rattle.pel_model.specs.declared.MbKind.TheVariants.{Intra}
 use Rattle.pel_model.specs.declared.Why.{Why}
 use Rattle.pel_model.specs.declared.Why.TheVariants.{NoStart, WrongFormat, StillImage, NoCode, BadGroup, BadQuant, BadAddress, BadVector, VectorOutside, BadDc, BadLevel, TooMany, TooLong}
-use Rattle.pel_model.specs.Codes.{word, mba_table, stuffing_word, mtype_table, mvd_table, cbp_table, tcoeff_table, first_one_word, later_one_word, escape_word, end_of_block_word, is_intra, has_mquant, has_vector, has_cbp}
+use Rattle.pel_model.specs.Codes.{picture_start_code, group_start_code, mba_table, stuffing_word, mtype_table, mvd_table, cbp_table, tcoeff_table, first_one_word, later_one_word, escape_word, end_of_block_word, is_intra, has_mquant, has_vector, has_cbp}
 use Rattle.pel_model.specs.Records.{Axis, Across, Down, Coefficient}
 use Rattle.pel_model.specs.Valid.{side, corner, group_numbers, group_count, limit}
 use Rattle.pel_model.specs.Walk.{Step, Stop, Bad, Row, read, judged}
 
 -- ---- elements
 
+-- a picture layer (4.2.1): PSC, TR, PTYPE with its 6 bits as a number, PEI, PSPARE; a group layer (4.2.2): GBSC, GN,
+-- GQUANT, GEI, GSPARE; a macroblock layer (4.2.3): stuffing, MBA with the difference of addresses, MTYPE, MQUANT, MVD with
+-- the two values of its word, CBP; a block layer (4.2.4): INTRADC with its 8 bits as a number, TCOEFF, EOB
 pub data Element : Type 0 where
   Psc : Element
   Tr : ℕ → Element
@@ -198,10 +201,10 @@ abbrev pub mba_rows : List (Row Element)
 mba_rows = table_rows mba_table Mba ++ word_row stuffing_word Stuffing ∷ []
 
 abbrev pub gbsc_row : Row Element
-gbsc_row = word_row (word (codes "0000000000000001")) Gbsc
+gbsc_row = word_row (group_start_code) Gbsc
 
 unfoldable pub rows : Slot → List (Row Element)
-rows AtPsc = word_row (word (codes "00000000000000010000")) Psc ∷ []
+rows AtPsc = word_row (picture_start_code) Psc ∷ []
 rows AtTr = field_rows 5 Tr
 rows AtPtype = field_rows 6 Ptype
 rows AtPei = flag_rows Pei

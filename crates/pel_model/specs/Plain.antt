@@ -1,11 +1,13 @@
 -- Plain pictures: QCIF pictures of the simplest kind, each of whose 99 macroblocks is Intra and sends nothing but the
 -- INTRADC of its six blocks.
-use Rattle.std.specs.Prelude.{◌≡◌, ℕ, ◌+◌, ◌<◌, Bool, true, false, List, [], ◌∷◌, ◌++◌, length, map, flat_map, replicate, All, Option, Some, None, pos, codes}
+use Rattle.std.specs.Prelude.{◌≡◌, ℕ, ◌+◌, ◌<◌, Bool, false, List, [], ◌∷◌, ◌++◌, length, map, flat_map, replicate, All, Option, Some, None, pos}
+use Rattle.pel_model.specs.declared.Format.TheVariants.{Qcif}
 use Rattle.pel_model.specs.declared.MbKind.TheVariants.{Intra}
 use Rattle.pel_model.specs.Bits.{field}
-use Rattle.pel_model.specs.Codes.{word}
+use Rattle.pel_model.specs.Codes.{picture_start_code}
 use Rattle.pel_model.specs.Records.{Block, Macroblock, Group, Picture}
 use Rattle.pel_model.specs.Text.{group_text}
+use Rattle.pel_model.specs.Spelling.{FreeBits, type_text}
 use Rattle.pel_model.specs.Valid.{IsValidDc, IsQuantiser}
 
 -- the numbers of a plain group: its quantiser, and six INTRADC of each macroblock
@@ -54,17 +56,10 @@ plain_picture p =
 
 -- ---- its input form
 
--- the bits of the picture type that do not decide: split screen, document camera, freeze release, spare
-pub record FreeBits : Type 0 where
-  pub split : Bool
-  pub document : Bool
-  pub release : Bool
-  pub spare : Bool
-
 -- a picture header with QCIF, HI_RES off and PEI 0
 abbrev pub plain_header : FreeBits → ℕ → List Bool
 plain_header free tr =
-    word (codes "00000000000000010000") ++ field tr 5 ++ (free.split ∷ free.document ∷ free.release ∷ false ∷ true ∷ free.spare ∷ []) ++ false ∷ []
+    picture_start_code ++ field tr 5 ++ type_text Qcif free ++ false ∷ []
 
 -- the bits are that picture, with any of the free bits and 0 to 7 zero bits at the end
 abbrev pub SpellsPlain : List Bool → PlainPicture → Type 0

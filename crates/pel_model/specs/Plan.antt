@@ -60,7 +60,8 @@ spoke_before speakers None d = false
 abbrev pub vacant_place : Stage → Option Quad
 vacant_place s = find (λ q. not (s.is_pinned q) && is_none (s.lane_in q)) places
 
--- a lane in an unpinned place spoke less recently than the one in place q
+-- where `before p q` says that the lane in place p spoke less recently than the one in place q: such a lane stands in an
+-- unpinned place
 abbrev pub is_outlasted : (Quad → Bool) → (Quad → Quad → Bool) → Quad → Bool
 is_outlasted is_pinned before q = list_any (λ p. not (is_pinned p) && before p q) places
 

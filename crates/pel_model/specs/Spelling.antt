@@ -1,9 +1,9 @@
 -- The input forms of a picture: what a sender may add to the strict text (H.261, 4.2), and what it may leave out.
-use Rattle.std.specs.Prelude.{◌≡◌, ℕ, zero, suc, ◌<◌, Bool, true, false, List, [], ◌∷◌, ◌++◌, replicate, get_or, drop, Option, Some, None, codes}
+use Rattle.std.specs.Prelude.{◌≡◌, ℕ, zero, suc, ◌<◌, Bool, true, false, List, [], ◌∷◌, ◌++◌, replicate, get_or, drop, Option, Some, None}
 use Rattle.pel_model.specs.declared.Format.{Format}
 use Rattle.pel_model.specs.declared.Format.TheVariants.{Qcif, Cif}
 use Rattle.pel_model.specs.Bits.{field}
-use Rattle.pel_model.specs.Codes.{word, stuffing_word}
+use Rattle.pel_model.specs.Codes.{picture_start_code, group_start_code, stuffing_word}
 use Rattle.pel_model.specs.Records.{Macroblock, Group, Picture}
 use Rattle.pel_model.specs.Text.{macroblock_text}
 
@@ -42,7 +42,8 @@ GroupsFit _ _ = ⊥
 
 -- ---- texts
 
--- PEI and PSPARE, or GEI and GSPARE: a 1 before each spare octet, and a 0 (4.2.1.4, 4.2.2.4)
+-- PEI and PSPARE, or GEI and GSPARE: a 1 before each spare octet, and a 0 (4.2.1.4 and 4.2.1.5, 4.2.2.4 and
+-- 4.2.2.5)
 abbrev pub spare_text : List ℕ → List Bool
 spare_text [] = false ∷ []
 spare_text (octet ∷ octets) = true ∷ (field octet 8 ++ spare_text octets)
@@ -58,7 +59,7 @@ type_text Cif free = free.split ∷ free.document ∷ free.release ∷ true ∷ 
 
 unfoldable pub header_text : Format → FreeBits → List ℕ → ℕ → List Bool
 header_text format free spares tr =
-    word (codes "00000000000000010000") ++ (field tr 5 ++ (type_text format free ++ spare_text spares))
+    picture_start_code ++ (field tr 5 ++ (type_text format free ++ spare_text spares))
 
 -- macroblocks, each with its stuffing behind it
 unfoldable pub stuffed_text : Option Macroblock → List ℕ → List Macroblock → List Bool
@@ -68,7 +69,7 @@ stuffed_text last behind (m ∷ ms) =
 
 unfoldable pub group_header_text : ℕ → ℕ → List ℕ → List Bool
 group_header_text number quant spares =
-    word (codes "0000000000000001") ++ (field number 4 ++ (field quant 5 ++ spare_text spares))
+    group_start_code ++ (field number 4 ++ (field quant 5 ++ spare_text spares))
 
 abbrev pub sent_group_text : GroupForm → Group → List Bool
 sent_group_text LeftOut g = []

@@ -6,7 +6,7 @@ use Rattle.pel_model.specs.declared.Format.{Format}
 use Rattle.pel_model.specs.declared.Format.TheVariants.{Qcif, Cif}
 use Rattle.pel_model.specs.declared.MbKind.{MbKind}
 use Rattle.pel_model.specs.Bits.{field, number}
-use Rattle.pel_model.specs.Codes.{word, mba_table, mtype_table, mvd_table, cbp_table, tcoeff_table, first_one_word, later_one_word, escape_word, end_of_block_word, row_of, has_vector, has_cbp}
+use Rattle.pel_model.specs.Codes.{word, picture_start_code, group_start_code, mba_table, mtype_table, mvd_table, cbp_table, tcoeff_table, first_one_word, later_one_word, escape_word, end_of_block_word, row_of, has_vector, has_cbp}
 use Rattle.pel_model.specs.Records.{Axis, Across, Down, Coefficient, Block, Macroblock, Group, Picture, component}
 
 -- the word of a table whose meaning passes the test
@@ -110,7 +110,7 @@ macroblocks_text last (m ∷ ms) = macroblock_text last m ++ macroblocks_text (S
 
 -- GBSC, GN, GQUANT, and a GEI of 0
 unfoldable pub group_header : ℕ → ℕ → List Bool
-group_header number quant = word (codes "0000000000000001") ++ field number 4 ++ field quant 5 ++ false ∷ []
+group_header number quant = group_start_code ++ field number 4 ++ field quant 5 ++ false ∷ []
 
 abbrev pub group_text : Group → List Bool
 group_text g = group_header g.number g.quant ++ macroblocks_text None g.macroblocks
@@ -122,7 +122,7 @@ picture_type Cif = word (codes "000111")
 
 -- PSC, TR, PTYPE, and a PEI of 0
 unfoldable pub picture_header : Format → ℕ → List Bool
-picture_header format tr = word (codes "00000000000000010000") ++ field tr 5 ++ picture_type format ++ false ∷ []
+picture_header format tr = picture_start_code ++ field tr 5 ++ picture_type format ++ false ∷ []
 
 abbrev pub text : Format → Picture → List Bool
 text format picture = picture_header format picture.tr ++ flat_map group_text picture.groups

@@ -1,5 +1,5 @@
--- Reading element by element, from left to right, and the first fault. Nothing here speaks of H.261: a grammar is a
--- function that says what stands at a place, from the elements before it and the bits that are left.
+-- Reading element by element, from left to right, and the first fault. But for the reasons nothing here speaks of
+-- H.261: a grammar is a function that says what stands at a place, from the elements before it and the bits left.
 use Rattle.std.specs.Prelude.{◌≡◌, ℕ, ◌+◌, Bool, List, [], ◌∷◌, length, map, take, drop, Option, Some, None, Result, Ok, Err, nat_lt, if◌then◌else◌}
 use Rattle.std.specs.List.{find, list_any}
 use Rattle.pel_model.specs.Bits.{number}
@@ -37,7 +37,7 @@ pub record Row (E : Type 0) : Type 0 where
 abbrev pub cause : List (List Bool) → List Bool → Why
 cause codes bits = if list_any (λ code. begins bits code) codes then Cut else NoCode
 
--- a word of the row, of whose code the bits begin with
+-- the whole word of a row whose code begins the bits
 abbrev pub whole_word : {E : Type 0} → Row E → List Bool → Step E
 whole_word row bits =
     if nat_lt (length bits) (length row.code + row.tail) then Bad Cut
@@ -84,10 +84,14 @@ abbrev pub Reads : {E : Type 0} → (List E → List Bool × ℕ → Step E) →
 Reads next bits es =
     (end : List Bool × ℕ) × Goes next [] (start bits) es end × (next (after [] es) end ≡ Stop)
 
--- bits are read to their end in one way, or have one first fault
-abbrev pub HasOneAnswer : {E : Type 0} → (List E → List Bool × ℕ → Step E) → Type 0
-HasOneAnswer {E} next =
-    (bits : List Bool) (es : List E) (place : ℕ) (why : Why) → Reads next bits es → FirstFault next bits place why → ⊥
+-- bits are read to their end in one way, or have one first fault, and not both
+pub record HasOneAnswer {E : Type 0} (next : List E → List Bool × ℕ → Step E) : Type 0 where
+  pub one_reading : (bits : List Bool) (es fs : List E) → Reads next bits es → Reads next bits fs → es ≡ fs
+  pub one_fault :
+      (bits : List Bool) (place other_place : ℕ) (why other_why : Why) → FirstFault next bits place why
+      → FirstFault next bits other_place other_why → (place ≡ other_place) × (why ≡ other_why)
+  pub not_both :
+      (bits : List Bool) (es : List E) (place : ℕ) (why : Why) → Reads next bits es → FirstFault next bits place why → ⊥
 
 -- ---- what readers answer: of one word, of one element, and of several
 
@@ -101,8 +105,9 @@ abbrev pub Takes : {E X : Type 0} → (X → E) → Step E → Result X Fault �
 Takes element here (Ok x) old new = (n : ℕ) × (here ≡ Good (element x) n) × (new ≡ skipped n old)
 Takes element here (Err f) old new = (here ≡ Bad f.why) × (f.place ≡ old.1) × (new ≡ old)
 
--- some good elements were taken, and they are what was wanted, or what stands behind them is at fault
-abbrev pub Walked : {E X : Type 0} → (List E → List Bool × ℕ → Step E) → List E → (X → List E → List Bool × ℕ → Type 0) → Result X Fault → List Bool × ℕ → List Bool × ℕ → Type 0
-Walked {E} next before Wanted (Ok x) old new = (es : List E) × Goes next before old es new × Wanted x es new
-Walked {E} next before Wanted (Err f) old new =
-    (es : List E) × Goes next before old es new × (next (after before es) new ≡ Bad f.why) × (f.place ≡ new.1)
+-- some good elements were taken, and they are what was wanted; else they are a part of it that is not the whole, and
+-- what stands behind them is at fault
+abbrev pub Walked : {E X : Type 0} → (List E → List Bool × ℕ → Step E) → List E → (X → List E → List Bool × ℕ → Type 0) → (List E → Type 0) → Result X Fault → List Bool × ℕ → List Bool × ℕ → Type 0
+Walked {E} next before Wanted IsPart (Ok x) old new = (es : List E) × Goes next before old es new × Wanted x es new
+Walked {E} next before Wanted IsPart (Err f) old new =
+    (es : List E) × Goes next before old es new × IsPart es × (next (after before es) new ≡ Bad f.why) × (f.place ≡ new.1)

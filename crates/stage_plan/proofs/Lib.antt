@@ -1,3 +1,4 @@
 pub mod Seats
 pub mod Ranking
 pub mod Standing
+pub mod Finding

@@ -6,14 +6,14 @@ use Rattle.std.specs.List.{list_all}
 use Rattle.std.proofs.lemmas.Bool.{false≢true}
 use Rattle.std.proofs.lemmas.Bool.Decides.{nat_tests}
 use Rattle.pel_model.specs.declared.Quad.{Quad}
-use Rattle.pel_model.specs.declared.Quad.TheVariants.{One, Two, Three, Four as Fourth}
+use Rattle.pel_model.specs.declared.Quad.TheVariants.{One, Two, Three, Four}
 use Rattle.pel_model.specs.declared.chair.Command.{Command}
 use Rattle.pel_model.specs.declared.chair.Command.TheVariants.{Place, Swap, Speaker}
 use Rattle.pel_model.specs.declared.chair.Reply.{Reply}
 use Rattle.pel_model.specs.declared.chair.Reply.TheVariants.{Done}
 use Rattle.pel_model.specs.Plan.{Stage, stage, ordered, answer, is_same_lane, places, is_place, is_standing, vacant_place, place_for_speaker, answer_at, carried_out, is_done, silence, is_same, is_lane, without, spoke_before, quietest_by, quietest_place}
-use Rattle.stage_plan.specs.declared.four.Four.{Four}
-use Rattle.stage_plan.specs.Four.{in_place, with_place, in_all}
+use Rattle.stage_plan.specs.declared.per_place.PerPlace.{PerPlace}
+use Rattle.stage_plan.specs.PerPlace.{in_place, with_place, in_all}
 use Rattle.stage_plan.specs.Places.{PlanView, lane_in, is_pinned, is_lower, is_ranked_below, IsInOrder, IsPlan, HasStage, StandsFor, IsUnmoved, Obeys, rank_of, stage_of}
 use Rattle.stage_plan.specs.Ranks.{Raises}
 
@@ -38,31 +38,31 @@ quietest-ranked plan speakers good order =
     below plan.lanes plan.ranks speakers good.high order (lane_in plan p) (lane_in plan q) (good.seated p) (good.seated q))
 
 -- the seats, when one is given away
-pub in_place-with_place : {A : Type 0} (f : Four A) (p q : Quad) (x : A) → in_place (with_place f p x) q ≡ (if is_same p q then x else in_place f q)
+pub in_place-with_place : {A : Type 0} (f : PerPlace A) (p q : Quad) (x : A) → in_place (with_place f p x) q ≡ (if is_same p q then x else in_place f q)
 in_place-with_place f One One x = refl
 in_place-with_place f One Two x = refl
 in_place-with_place f One Three x = refl
-in_place-with_place f One Fourth x = refl
+in_place-with_place f One Four x = refl
 in_place-with_place f Two One x = refl
 in_place-with_place f Two Two x = refl
 in_place-with_place f Two Three x = refl
-in_place-with_place f Two Fourth x = refl
+in_place-with_place f Two Four x = refl
 in_place-with_place f Three One x = refl
 in_place-with_place f Three Two x = refl
 in_place-with_place f Three Three x = refl
-in_place-with_place f Three Fourth x = refl
-in_place-with_place f Fourth One x = refl
-in_place-with_place f Fourth Two x = refl
-in_place-with_place f Fourth Three x = refl
-in_place-with_place f Fourth Fourth x = refl
+in_place-with_place f Three Four x = refl
+in_place-with_place f Four One x = refl
+in_place-with_place f Four Two x = refl
+in_place-with_place f Four Three x = refl
+in_place-with_place f Four Four x = refl
 
 -- what holds of all values of f, and of x
-pub each-with_place : {A : Type 0} (P : A → Type 0) (f : Four A) (p : Quad) (x : A) → ((q : Quad) → P (in_place f q)) → P x → (q : Quad) → P (in_place (with_place f p x) q)
+pub each-with_place : {A : Type 0} (P : A → Type 0) (f : PerPlace A) (p : Quad) (x : A) → ((q : Quad) → P (in_place f q)) → P x → (q : Quad) → P (in_place (with_place f p x) q)
 each-with_place P f p x each here q =
     subst P (sym (in_place-with_place f p q x))
     (elim (is_same p q) as (λ v. P (if v then x else in_place f q)) [ true ↦ here | false ↦ each q ])
 
-pub in_place-with_two : {A : Type 0} (f : Four A) (p q r : Quad) →
+pub in_place-with_two : {A : Type 0} (f : PerPlace A) (p q r : Quad) →
     in_place (with_place (with_place f p (in_place f q)) q (in_place f p)) r
     ≡ (if is_same q r then in_place f p else if is_same p r then in_place f q else in_place f r)
 in_place-with_two f p q r =
@@ -103,7 +103,7 @@ swapped p q r x y z apart =
       | false ↦ λ e. refl
     ] refl
 
-pub Obeys-place : (q : Quad) (c : ℕ) (old : PlanView) (seats : Four (Option ℕ)) →
+pub Obeys-place : (q : Quad) (c : ℕ) (old : PlanView) (seats : PerPlace (Option ℕ)) →
     c < old.lanes → is_lane c (lane_in old q) ≡ false →
     ((p : Quad) → in_place seats p ≡ (if is_same q p then Some c else without c (lane_in old p))) →
     Obeys (Place q c) old (record old { seats = seats }) Done
@@ -113,7 +113,7 @@ Obeys-place q c old seats inside elsewhere moved = Obeys-done (Place q c) old (r
     rw (known, elsewhere) refl)
     (λ speakers order. record { seats = moved; pins = λ p. refl; order = order })
 
-pub Obeys-swap : (p q : Quad) (old : PlanView) (seats : Four (Option ℕ)) →
+pub Obeys-swap : (p q : Quad) (old : PlanView) (seats : PerPlace (Option ℕ)) →
     (is_same p q || (is_none (lane_in old p) && is_none (lane_in old q))) ≡ false →
     ((r : Quad) → in_place seats r ≡ (if is_same q r then lane_in old p else if is_same p r then lane_in old q else lane_in old r)) →
     Obeys (Swap p q) old (record old { seats = seats }) Done
@@ -150,7 +150,7 @@ order-raised old new c speakers raised order a b ha hb =
           ] refl
     ] refl
 
-pub Obeys-speaker : (c : ℕ) (old : PlanView) (seats : Four (Option ℕ)) (ranks : List ℕ) → Raises c old.ranks ranks →
+pub Obeys-speaker : (c : ℕ) (old : PlanView) (seats : PerPlace (Option ℕ)) (ranks : List ℕ) → Raises c old.ranks ranks →
     c < old.lanes → (not (is_standing (stage_of old []) c) && list_all (is_pinned old) places) ≡ false →
     ((speakers : List ℕ) → IsInOrder old speakers → (p : Quad) → in_place seats p ≡ (carried_out (stage_of old speakers) (Speaker c)).lane_in p) →
     Obeys (Speaker c) old (record old { seats = seats; ranks = ranks }) Done
@@ -183,52 +183,58 @@ pub is_same_lane-refl : (lane : Option ℕ) → is_same_lane lane lane ≡ true
 is_same_lane-refl None = refl
 is_same_lane-refl (Some c) = grind (arith, nat_tests)
 
-four_is : {A : Type 0} (f : Four A) (x : A) → f.one ≡ x → f.two ≡ x → f.three ≡ x → f.four ≡ x → f ≡ in_all x
-four_is {A} f x one two three four =
-    ap₂ (λ (p q : A × A). (let g : Four A = record { one = p.0; two = p.1; three = q.0; four = q.1 } in g))
+in_all_is : {A : Type 0} (f : PerPlace A) (x : A) → f.one ≡ x → f.two ≡ x → f.three ≡ x → f.four ≡ x → f ≡ in_all x
+in_all_is {A} f x one two three four =
+    ap₂ (λ (p q : A × A). (let g : PerPlace A = record { one = p.0; two = p.1; three = q.0; four = q.1 } in g))
     (ap₂ (λ (a b : A). (a, b)) one two) (ap₂ (λ (a b : A). (a, b)) three four)
 
+-- a plan that stands for commands has the stage that they leave
+has_of : (plan : PlanView) (commands : List Command) → StandsFor plan commands → HasStage plan (stage plan.lanes commands)
+has_of plan commands h = record { seats = h.seats; pins = h.pins; order = h.order }
+
 -- the plan after a command
-module _ (command : Command) (old mid : PlanView) (reply : Reply) (marks : Four Bool) (obeys : Obeys command old mid reply)
+module _ (command : Command) (old mid : PlanView) (reply : Reply) (marks : PerPlace Bool) (obeys : Obeys command old mid reply)
     (marked : (q : Quad) → in_place marks q ≡ not (is_same_lane (lane_in mid q) (lane_in old q))) where
   pub stands_after : (commands : List Command) → StandsFor old commands → StandsFor (record mid { changes = marks }) (command ∷ commands)
   stands_after commands h =
       let s = stage old.lanes commands in
-      let same = stage_is old s h.has in
+      let same = stage_is old s (has_of old commands h) in
       let carried : HasStage mid (stage old.lanes (command ∷ commands)) =
-      subst (λ t. HasStage mid (ordered old.lanes t command)) (sym same) (obeys.carried s.speakers h.has.order) in
+      subst (λ t. HasStage mid (ordered old.lanes t command)) (sym same) (obeys.carried s.speakers h.order) in
       let has : HasStage mid (stage mid.lanes (command ∷ commands)) =
       subst (λ n. HasStage mid (stage n (command ∷ commands))) (sym obeys.lanes) carried in
       record {
-        has = record { seats = has.seats; pins = has.pins; order = has.order };
+        seats = has.seats;
+        pins = has.pins;
+        order = has.order;
         changes = λ q.
             marked q
             ∙ ap₂ (λ (a b : Option ℕ). not (is_same_lane a b)) (has.seats q)
-            (h.has.seats q ∙ ap (λ n. (stage n commands).lane_in q) (sym obeys.lanes));
+            (h.seats q ∙ ap (λ n. (stage n commands).lane_in q) (sym obeys.lanes));
       }
 
   pub reply_is : (commands : List Command) → StandsFor old commands → reply ≡ answer old.lanes commands command
   reply_is commands h =
       let s = stage old.lanes commands in
-      obeys.answered s.speakers h.has.order
-      ∙ ap (λ t. answer_at old.lanes t command) (sym (stage_is old s h.has))
+      obeys.answered s.speakers h.order
+      ∙ ap (λ t. answer_at old.lanes t command) (sym (stage_is old s (has_of old commands h)))
 
   pub refused_after : is_done reply ≡ false → IsUnmoved old (record mid { changes = marks }) × (marks ≡ in_all false)
   refused_after refused =
       let kept = obeys.kept refused in
       let unchanged = λ (q : Quad).
       marked q
-      ∙ ap (λ (f : Four (Option ℕ)). not (is_same_lane (in_place f q) (lane_in old q))) kept.seats
+      ∙ ap (λ (f : PerPlace (Option ℕ)). not (is_same_lane (in_place f q) (lane_in old q))) kept.seats
       ∙ ap not (is_same_lane-refl (lane_in old q)) in
       let one : marks.one ≡ false = unchanged One in
       let two : marks.two ≡ false = unchanged Two in
       let three : marks.three ≡ false = unchanged Three in
-      let four : marks.four ≡ false = unchanged Fourth in
-      (record { lanes = kept.lanes; seats = kept.seats; pins = kept.pins; ranks = kept.ranks }, four_is marks false one two three four)
+      let four : marks.four ≡ false = unchanged Four in
+      (record { lanes = kept.lanes; seats = kept.seats; pins = kept.pins; ranks = kept.ranks }, in_all_is marks false one two three four)
 
 -- one value in all places is that of each
 pub in_place-in_all : {A : Type 0} (x : A) (q : Quad) → in_place (in_all x) q ≡ x
 in_place-in_all x One = refl
 in_place-in_all x Two = refl
 in_place-in_all x Three = refl
-in_place-in_all x Fourth = refl
+in_place-in_all x Four = refl

@@ -4,7 +4,7 @@ use Rattle.std.proofs.Math.Bool.{or-true}
 use Rattle.std.proofs.lemmas.Bool.{false≢true}
 use Rattle.std.proofs.lemmas.Bool.Decides.{nat_tests}
 use Rattle.pel_model.specs.declared.Quad.{Quad}
-use Rattle.pel_model.specs.declared.Quad.TheVariants.{One, Two, Three, Four as Fourth}
+use Rattle.pel_model.specs.declared.Quad.TheVariants.{One, Two, Three, Four}
 use Rattle.pel_model.specs.declared.chair.Command.{Command}
 use Rattle.pel_model.specs.declared.chair.Command.TheVariants.{Place, Clear, Swap, Speaker, Pin, Unpin}
 use Rattle.pel_model.specs.declared.chair.Reply.{Reply}
@@ -16,25 +16,25 @@ same-one : (p q : Quad) → is_same p q ≡ true → p ≡ q
 same-one One One e = refl
 same-one One Two e = cc
 same-one One Three e = cc
-same-one One Fourth e = cc
+same-one One Four e = cc
 same-one Two One e = cc
 same-one Two Two e = refl
 same-one Two Three e = cc
-same-one Two Fourth e = cc
+same-one Two Four e = cc
 same-one Three One e = cc
 same-one Three Two e = cc
 same-one Three Three e = refl
-same-one Three Fourth e = cc
-same-one Fourth One e = cc
-same-one Fourth Two e = cc
-same-one Fourth Three e = cc
-same-one Fourth Fourth e = refl
+same-one Three Four e = cc
+same-one Four One e = cc
+same-one Four Two e = cc
+same-one Four Three e = cc
+same-one Four Four e = refl
 
 same-refl : (q : Quad) → is_same q q ≡ true
 same-refl One = refl
 same-refl Two = refl
 same-refl Three = refl
-same-refl Fourth = refl
+same-refl Four = refl
 
 -- lanes stand once, and are lanes of the conference
 pub record IsSeating (lanes : ℕ) (s : Stage) : Type 0 where
@@ -141,7 +141,7 @@ standing_at s c One e = rw e refl
 standing_at s c Two e = rw e (or-true (is_lane c (s.lane_in One)))
 standing_at s c Three e =
     rw e (ap (λ v. is_lane c (s.lane_in One) || v) (or-true (is_lane c (s.lane_in Two))) ∙ or-true (is_lane c (s.lane_in One)))
-standing_at s c Fourth e =
+standing_at s c Four e =
     rw e
     (ap (λ v. is_lane c (s.lane_in One) || (is_lane c (s.lane_in Two) || v)) (or-true (is_lane c (s.lane_in Three)))
     ∙ ap (λ v. is_lane c (s.lane_in One) || v) (or-true (is_lane c (s.lane_in Two)))

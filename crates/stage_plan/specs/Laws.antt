@@ -2,6 +2,8 @@
 use Rattle.std.specs.Prelude.{◌≡◌, ℕ, ◌<◌, Some, List, ◌∷◌, false}
 use Rattle.pel_model.specs.declared.Quad.{Quad}
 use Rattle.pel_model.specs.declared.chair.Command.{Command}
+use Rattle.pel_model.specs.declared.chair.Command.TheVariants.{Speaker}
+use Rattle.pel_model.specs.declared.chair.Reply.TheVariants.{Done}
 use Rattle.pel_model.specs.Plan.{at, answer, changed, is_done}
 
 -- no lane stands in two places
@@ -18,3 +20,9 @@ abbrev pub RefusalsChangeNothing : Type 0
 RefusalsChangeNothing =
     (lanes : ℕ) (commands : List Command) (c : Command) (q : Quad) → is_done (answer lanes commands c) ≡ false →
     changed lanes (c ∷ commands) q ≡ false
+
+-- a speaker whose command is done stands in a place
+abbrev pub SpeakersStand : Type 0
+SpeakersStand =
+    (lanes : ℕ) (commands : List Command) (c : ℕ) → answer lanes commands (Speaker c) ≡ Done →
+    (q : Quad) × (at lanes (Speaker c ∷ commands) q ≡ Some c)

@@ -1,4 +1,4 @@
-pub mod Four
+pub mod PerPlace
 pub mod Places
 pub mod Ranks
 pub mod Laws

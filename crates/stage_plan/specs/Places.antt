@@ -3,18 +3,18 @@ use Rattle.std.specs.Prelude.{◌≡◌, ◌⊎◌, ℕ, ◌<◌, ◌≤◌, nat
 use Rattle.pel_model.specs.declared.Quad.{Quad}
 use Rattle.pel_model.specs.declared.chair.Command.{Command}
 use Rattle.pel_model.specs.declared.chair.Reply.{Reply}
-use Rattle.pel_model.specs.Plan.{Stage, stage, silence, changed, answer_at, ordered, is_done}
-use Rattle.stage_plan.specs.declared.four.Four.{Four}
-use Rattle.stage_plan.specs.Four.{in_place}
+use Rattle.pel_model.specs.Plan.{Stage, silence, at, pinned, speakers, changed, answer_at, ordered, is_done}
+use Rattle.stage_plan.specs.declared.per_place.PerPlace.{PerPlace}
+use Rattle.stage_plan.specs.PerPlace.{in_place}
 
 -- the number of lanes, the lane in each place, the pins, a rank for each lane from 0 to 15, and the places whose
 -- lane the last command changed. A lane's rank is 0 where it never spoke, and the greater the later it spoke.
 pub record PlanView : Type 0 where
   pub lanes : ℕ
-  pub seats : Four (Option ℕ)
-  pub pins : Four Bool
+  pub seats : PerPlace (Option ℕ)
+  pub pins : PerPlace Bool
   pub ranks : List ℕ
-  pub changes : Four Bool
+  pub changes : PerPlace Bool
 
 -- the lane that stands in a place
 abbrev pub lane_in : PlanView → Quad → Option ℕ
@@ -43,10 +43,10 @@ pub record IsPlan (plan : PlanView) : Type 0 where
   pub seated : (q : Quad) → IfSome (lane_in plan q) (λ c. c < plan.lanes)
   pub ranking : IsRanking plan.ranks
 
--- lanes of lower rank spoke less recently
+-- one lane has a lower rank than another exactly where it spoke less recently
 abbrev pub IsInOrder : PlanView → List ℕ → Type 0
-IsInOrder plan speakers =
-    (c d : ℕ) → c < 16 → d < 16 → nat_lt (rank_of plan c) (rank_of plan d) ≡ nat_lt (silence speakers d) (silence speakers c)
+IsInOrder plan spoke =
+    (c d : ℕ) → c < 16 → d < 16 → nat_lt (rank_of plan c) (rank_of plan d) ≡ nat_lt (silence spoke d) (silence spoke c)
 
 abbrev pub is_lower : List ℕ → Option ℕ → Option ℕ → Bool
 is_lower ranks (Some c) (Some d) = nat_lt (slice_index ranks c) (slice_index ranks d)
@@ -65,12 +65,14 @@ pub record HasStage (plan : PlanView) (s : Stage) : Type 0 where
 
 -- the plan stands for these commands, the newest first
 pub record StandsFor (plan : PlanView) (commands : List Command) : Type 0 where
-  pub has : HasStage plan (stage plan.lanes commands)
+  pub seats : (q : Quad) → lane_in plan q ≡ at plan.lanes commands q
+  pub pins : (q : Quad) → is_pinned plan q ≡ pinned plan.lanes commands q
+  pub order : IsInOrder plan (speakers plan.lanes commands)
   pub changes : (q : Quad) → in_place plan.changes q ≡ changed plan.lanes commands q
 
 -- the stage of a plan, where these lanes spoke
 abbrev pub stage_of : PlanView → List ℕ → Stage
-stage_of plan speakers = record { lane_in = lane_in plan; is_pinned = is_pinned plan; speakers = speakers }
+stage_of plan spoke = record { lane_in = lane_in plan; is_pinned = is_pinned plan; speakers = spoke }
 
 -- nothing but the changes differs
 pub record IsUnmoved (old new : PlanView) : Type 0 where
@@ -82,6 +84,6 @@ pub record IsUnmoved (old new : PlanView) : Type 0 where
 -- the command was obeyed, or refused for the reason that holds
 pub record Obeys (command : Command) (old new : PlanView) (reply : Reply) : Type 0 where
   pub lanes : new.lanes ≡ old.lanes
-  pub answered : (speakers : List ℕ) → IsInOrder old speakers → reply ≡ answer_at old.lanes (stage_of old speakers) command
-  pub carried : (speakers : List ℕ) → IsInOrder old speakers → HasStage new (ordered old.lanes (stage_of old speakers) command)
+  pub answered : (spoke : List ℕ) → IsInOrder old spoke → reply ≡ answer_at old.lanes (stage_of old spoke) command
+  pub carried : (spoke : List ℕ) → IsInOrder old spoke → HasStage new (ordered old.lanes (stage_of old spoke) command)
   pub kept : is_done reply ≡ false → IsUnmoved old new

@@ -1,6 +1,6 @@
 //! Laws of the plan of places: functions without a body, whose contracts are the laws.
 
-ghost use Rattle.stage_plan.specs.Laws.{OnePlace, StandingLanes, RefusalsChangeNothing};
+ghost use Rattle.stage_plan.specs.Laws.{OnePlace, StandingLanes, RefusalsChangeNothing, SpeakersStand};
 
 /// No lane stands in two places.
 pub fn one_place_for_a_lane()
@@ -15,4 +15,9 @@ pub fn standing_lanes_exist()
 /// A refused command changes the lane of no place.
 pub fn refusals_change_nothing()
     ensures { RefusalsChangeNothing }
+{}
+
+/// A speaker whose command is done stands in a place: where a place is not pinned, one is found.
+pub fn speakers_stand()
+    ensures { SpeakersStand }
 {}

@@ -6,9 +6,9 @@ ghost use Rattle.std.specs.List.{list_all};
 ghost use Rattle.pel_model.specs.declared.Quad.{Quad as TheQuad};
 ghost use Rattle.pel_model.specs.declared.chair.Command.{Command as TheCommand};
 ghost use Rattle.pel_model.specs.Plan.{places, is_same, is_lane, without, answer, is_same_lane};
-ghost use Rattle.stage_plan.specs.Four.{in_place, in_all};
+ghost use Rattle.stage_plan.specs.PerPlace.{in_place, in_all};
 
-use crate::four::Four;
+use crate::per_place::PerPlace;
 use crate::ranks;
 use pel_model::{Command, Quad, Reply};
 use std::marker::Model;
@@ -20,12 +20,12 @@ const PLACES: [Quad; 4] = [Quad::One, Quad::Two, Quad::Three, Quad::Four];
 #[derive(Drop)]
 pub struct Plan {
     lanes: u8,
-    seats: Four<Option<u8>>,
-    pins: Four<bool>,
+    seats: PerPlace<Option<u8>>,
+    pins: PerPlace<bool>,
     /// When each lane spoke last: 0 where it never did, and the greater the later.
     ranks: [u8; 16],
     /// The places whose lane the last command changed.
-    changes: Four<bool>,
+    changes: PerPlace<bool>,
 }
 
 impl Model for Plan {
@@ -60,10 +60,10 @@ fn without(seat: Option<u8>, lane: u8) -> Option<u8>
 }
 
 /// All seats, without this lane.
-fn all_without(seats: Four<Option<u8>>, lane: u8) -> Four<Option<u8>>
+fn all_without(seats: PerPlace<Option<u8>>, lane: u8) -> PerPlace<Option<u8>>
     ensures { (q : TheQuad) → in_place result q ≡ without lane (in_place seats q) }
 {
-    Four {
+    PerPlace {
         one: without(seats.one, lane),
         two: without(seats.two, lane),
         three: without(seats.three, lane),
@@ -79,10 +79,10 @@ fn is_changed(before: Option<u8>, after: Option<u8>) -> bool
 }
 
 /// The places whose lanes differ.
-fn changes(before: Four<Option<u8>>, after: Four<Option<u8>>) -> Four<bool>
+fn changes(before: PerPlace<Option<u8>>, after: PerPlace<Option<u8>>) -> PerPlace<bool>
     ensures { (q : TheQuad) → in_place result q ≡ not (is_same_lane (in_place after q) (in_place before q)) }
 {
-    Four {
+    PerPlace {
         one: is_changed(before.one, after.one),
         two: is_changed(before.two, after.two),
         three: is_changed(before.three, after.three),
@@ -105,10 +105,10 @@ impl Plan {
     {
         Plan {
             lanes,
-            seats: Four::all(None),
-            pins: Four::all(false),
+            seats: PerPlace::all(None),
+            pins: PerPlace::all(false),
             ranks: [0; 16],
-            changes: Four::all(false),
+            changes: PerPlace::all(false),
         }
     }
 
@@ -249,7 +249,7 @@ impl Plan {
     }
 
     /// The seats, with one for this speaker: its own, or the one that is found for it.
-    fn seats_with(&self, lane: u8) -> Four<Option<u8>>
+    fn seats_with(&self, lane: u8) -> PerPlace<Option<u8>>
         requires { lane < self.now.lanes }
         ensures seats { (speakers : List ℕ) → IsInOrder self.now speakers → (q : TheQuad) → in_place result q
             ≡ (carried_out (stage_of self.now speakers) (Speaker lane)).lane_in q }

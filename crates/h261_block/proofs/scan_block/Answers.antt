@@ -1,5 +1,6 @@
-use Rattle.std.proofs.Common.{◌≡◌, ◌+◌, Bool, true, false, cond, [], refl, sym, ◌∙◌, ap, arith}
+use Rattle.std.proofs.Common.{◌≡◌, ◌+◌, Bool, true, false, cond, [], None, refl, sym, ◌∙◌, ap, arith}
 use Rattle.std.proofs.lemmas.Result.{err_from_is_err_and}
+use Rattle.pel_model.specs.Records.{Block}
 use Rattle.pel_model.specs.Elements.{coefficient_elements, block_elements}
 use Rattle.pel_model.specs.Walk.{Good, after}
 use Rattle.pel_model.specs.Grammar.{Element, Slot, AtDc, AtFirst, next}
@@ -11,12 +12,15 @@ use Rattle.h261_block.proofs.scan_block.Goals.{then-intra+in_ok-dc, else-intra}
 due_at : (here : Slot) (intra known : Bool) → here ≡ cond intra AtDc AtFirst → intra ≡ known → here ≡ cond known AtDc AtFirst
 due_at here intra known due is = due ∙ ap (λ (b : Bool). cond b AtDc AtFirst) is
 
+abbrev no_elements : Block
+no_elements = record { dc = None; coefficients = [] }
+
 pub returns-in_err-dc : goal.returns-in_err-dc
 returns-in_err-dc c =
     let p = err_from_is_err_and c.from_residual.result c.from_residual.ensures.1 in
     rw (p.1, p.2) (λ format before due.
     let took = c.in_err-dc.ensures format before (due_at _ c.args.intra true due c.if-intra.true) in
-    failed (next format) before c.args.r.now c.args.r.now c.dc.new.r [] _ refl took.0 took.1 took.2)
+    failed (next format) before c.args.r.now c.args.r.now c.dc.new.r no_elements _ refl took.0 took.1 took.2)
 
 pub loop-run-init : goal.loop-run-init
 loop-run-init c =
@@ -42,7 +46,7 @@ returns-in_err-coefficient c =
     rw (p.1, p.2) (λ format before due.
     let so_far = c.loop-run.invariant.so_far format before due in
     let took = c.in_err-coefficient.ensures.taken format (after before (coefficient_elements so_far.block)) so_far.due so_far.full in
-    failed (next format) before c.args.r.now c.loop-run.r c.coefficient.new.r (coefficient_elements so_far.block) _ so_far.walk took.0 took.1 took.2)
+    failed (next format) before c.args.r.now c.loop-run.r c.coefficient.new.r so_far.block _ so_far.walk took.0 took.1 took.2)
 
 pub loop-run-preserved : goal.loop-run-preserved
 loop-run-preserved c =

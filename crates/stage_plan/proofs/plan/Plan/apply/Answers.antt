@@ -1,7 +1,7 @@
 use Rattle.std.proofs.Common.{◌≡◌, ap, subst, sym, ◌∙◌, not}
 use Rattle.pel_model.specs.declared.Quad.{Quad}
 use Rattle.pel_model.specs.Plan.{is_same_lane}
-use Rattle.stage_plan.specs.Four.{in_place}
+use Rattle.stage_plan.specs.PerPlace.{in_place}
 use Rattle.stage_plan.specs.Places.{PlanView, lane_in, Obeys}
 use Rattle.stage_plan.specs.contracts.plan.Plan.{the_view}
 use Rattle.stage_plan.proofs.Seats.{stands_after, reply_is, refused_after}

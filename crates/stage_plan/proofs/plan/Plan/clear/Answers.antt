@@ -1,5 +1,5 @@
 use Rattle.std.proofs.Common.{ℕ, ◌<◌, Option, None, IfSome, subst, sym}
-use Rattle.stage_plan.specs.Four.{in_place}
+use Rattle.stage_plan.specs.PerPlace.{in_place}
 use Rattle.stage_plan.proofs.Seats.{each-with_place}
 use Rattle.stage_plan.proofs.plan.Plan.clear.Goals as goal
 

@@ -4,7 +4,7 @@ use Rattle.pel_model.specs.declared.Quad.{Quad}
 use Rattle.pel_model.specs.declared.chair.Command.TheVariants.{Speaker}
 use Rattle.pel_model.specs.declared.chair.Reply.TheVariants.{Done}
 use Rattle.pel_model.specs.Plan.{places, is_standing, carried_out}
-use Rattle.stage_plan.specs.Four.{in_place}
+use Rattle.stage_plan.specs.PerPlace.{in_place}
 use Rattle.stage_plan.specs.Places.{PlanView, is_pinned, stage_of, IsInOrder, Obeys}
 use Rattle.stage_plan.specs.contracts.plan.Plan.{the_view}
 use Rattle.stage_plan.proofs.Seats.{Obeys-speaker}

@@ -2,7 +2,7 @@ use Rattle.std.proofs.Common.{ℕ, ◌<◌, Option, Some, IfSome, ap, subst, sym
 use Rattle.pel_model.specs.declared.chair.Command.TheVariants.{Place}
 use Rattle.pel_model.specs.declared.chair.Reply.TheVariants.{Done}
 use Rattle.pel_model.specs.Plan.{is_same, is_lane}
-use Rattle.stage_plan.specs.Four.{in_place}
+use Rattle.stage_plan.specs.PerPlace.{in_place}
 use Rattle.stage_plan.specs.Places.{PlanView, Obeys}
 use Rattle.stage_plan.specs.contracts.plan.Plan.{the_view}
 use Rattle.stage_plan.proofs.Seats.{in_place-with_place, each-with_place, seated-without, Obeys-place}

@@ -1,7 +1,7 @@
 use Rattle.std.proofs.Common.{ℕ, ◌<◌, Option, Some, None, IfSome, ap, subst, sym, ◌∙◌, if◌then◌else◌}
 use Rattle.pel_model.specs.declared.Quad.{Quad}
 use Rattle.pel_model.specs.Plan.{is_same}
-use Rattle.stage_plan.specs.Four.{in_place}
+use Rattle.stage_plan.specs.PerPlace.{in_place}
 use Rattle.stage_plan.specs.Places.{PlanView, lane_in, IsPlan}
 use Rattle.stage_plan.proofs.Seats.{each-with_place, in_place-with_place, seats-found}
 use Rattle.stage_plan.proofs.plan.Plan.seats_with.Goals as goal

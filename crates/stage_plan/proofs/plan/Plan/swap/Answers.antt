@@ -3,8 +3,8 @@ use Rattle.pel_model.specs.declared.Quad.{Quad}
 use Rattle.pel_model.specs.declared.chair.Command.TheVariants.{Swap}
 use Rattle.pel_model.specs.declared.chair.Reply.TheVariants.{Done}
 use Rattle.pel_model.specs.Plan.{is_same}
-use Rattle.stage_plan.specs.declared.four.Four.{Four}
-use Rattle.stage_plan.specs.Four.{in_place, with_place}
+use Rattle.stage_plan.specs.declared.per_place.PerPlace.{PerPlace}
+use Rattle.stage_plan.specs.PerPlace.{in_place, with_place}
 use Rattle.stage_plan.specs.Places.{PlanView, lane_in, Obeys}
 use Rattle.stage_plan.specs.contracts.plan.Plan.{the_view}
 use Rattle.stage_plan.proofs.Seats.{each-with_place, in_place-with_two, Obeys-swap}
@@ -40,7 +40,7 @@ returns c =
     let second = c.args.second in
     let placed : c.set-2.new.self ≡ with_place (with_place seats first (in_place seats second)) second (in_place seats first) =
     c.set-2.ensures
-    ∙ ap (λ (f : Four (Option ℕ)). with_place f second c.of-2.result) c.set.ensures
+    ∙ ap (λ (f : PerPlace (Option ℕ)). with_place f second c.of-2.result) c.set.ensures
     ∙ ap (λ (x : Option ℕ). with_place (with_place seats first x) second c.of-2.result) c.of.ensures
     ∙ ap (λ (x : Option ℕ). with_place (with_place seats first (in_place seats second)) second x) c.of-2.ensures in
     let able = idle first second c.self.view_is ∙ sym c.is_idle_swap.ensures ∙ c.if-is_idle_swap.false in

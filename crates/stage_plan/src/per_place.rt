@@ -1,25 +1,25 @@
-//! Four values, one for each place.
+//! A value for each of the four places.
 
 ghost use Rattle.std.specs.Prelude.{◌≡◌};
-ghost use Rattle.stage_plan.specs.Four.{in_place, with_place, in_all};
+ghost use Rattle.stage_plan.specs.PerPlace.{in_place, with_place, in_all};
 
 use pel_model::Quad;
 
 /// A value for each of the four places.
 #[derive(Clone, Copy)]
-pub struct Four<T> {
+pub struct PerPlace<T> {
     pub one: T,
     pub two: T,
     pub three: T,
     pub four: T,
 }
 
-impl<T: Copy> Four<T> {
+impl<T: Copy> PerPlace<T> {
     /// The same value for all places.
-    pub fn all(value: T) -> Four<T>
+    pub fn all(value: T) -> PerPlace<T>
         ensures { result ≡ in_all value }
     {
-        Four {
+        PerPlace {
             one: value,
             two: value,
             three: value,

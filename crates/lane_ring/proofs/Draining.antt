@@ -1,0 +1,100 @@
+-- One held item more that is passed, or taken.
+use Rattle.std.proofs.Common.{◌≡◌, ℕ, suc, ◌+◌, Bool, true, false, Option, Some, None, List, [], ◌∷◌, ◌++◌, length, take, drop, find, slice_get, refl, sym, ap, ap₂, ◌∙◌, arith, append_assoc, length-append}
+use Rattle.std.proofs.lemmas.Bool.{false≢true}
+use Rattle.std.specs.List.{before_first, after_first, position_or_len}
+use Rattle.circular_buffer.specs.Buffer.{Buffer, buffer}
+use Rattle.lane_ring.specs.declared.lane.Held.{Held}
+use Rattle.lane_ring.specs.declared.lane.Lane.TheInside.{Inside}
+use Rattle.lane_ring.specs.Ring.{LaneView}
+use Rattle.lane_ring.specs.Draining.{IsDraining}
+use Rattle.lane_ring.specs.Taking.{fits, taken, passed, items_of}
+
+module _ {X : Type 0} (p : X → Bool) where
+  position-no : (x : X) (xs : List X) → p x ≡ false → position_or_len p (x ∷ xs) ≡ suc (position_or_len p xs)
+  position-no x xs e = rw e (omega arith)
+
+  position-yes : (x : X) (xs : List X) → p x ≡ true → position_or_len p (x ∷ xs) ≡ 0
+  position-yes x xs e = rw e refl
+
+  pub find-no : (x : X) (xs : List X) → p x ≡ false → find p (x ∷ xs) ≡ find p xs
+  find-no x xs e = rw e refl
+
+  pub find-yes : (x : X) (xs : List X) → p x ≡ true → find p (x ∷ xs) ≡ Some x
+  find-yes x xs e = rw e refl
+
+  pub after_first-no : (x : X) (xs : List X) → p x ≡ false → after_first p (x ∷ xs) ≡ after_first p xs
+  after_first-no x xs e =
+      let n : position_or_len p (x ∷ xs) + 1 ≡ suc (position_or_len p xs + 1) = omega (arith, position-no x xs e) in
+      ap (λ k. drop k (x ∷ xs)) n
+
+  pub after_first-yes : (x : X) (xs : List X) → p x ≡ true → after_first p (x ∷ xs) ≡ xs
+  after_first-yes x xs e =
+      let n : position_or_len p (x ∷ xs) + 1 ≡ suc 0 = omega (arith, position-yes x xs e) in
+      ap (λ k. drop k (x ∷ xs)) n
+
+  pub before_first-no : (x : X) (xs : List X) → p x ≡ false → before_first p (x ∷ xs) ≡ x ∷ before_first p xs
+  before_first-no x xs e = ap (λ k. take k (x ∷ xs)) (position-no x xs e)
+
+  pub before_first-yes : (x : X) (xs : List X) → p x ≡ true → before_first p (x ∷ xs) ≡ []
+  before_first-yes x xs e = ap (λ k. take k (x ∷ xs)) (position-yes x xs e)
+
+none_some : {X : Type 0} (x : X) → ◌≡◌ {A = Option X} None (Some x) → ⊥
+none_some x e = let apart : false ≡ true = cc in false≢true apart
+
+-- a list with a first item
+head_is : {X : Type 0} (xs : List X) (x : X) → slice_get xs 0 ≡ Some x → xs ≡ x ∷ drop 1 xs
+head_is [] x e = absurd (none_some x e)
+head_is (y ∷ ys) x e = let same : y ≡ x = cc in ap (λ v. v ∷ ys) same
+
+nothing_first : {X : Type 0} (xs : List X) → slice_get xs 0 ≡ None → xs ≡ []
+nothing_first [] e = refl
+nothing_first (x ∷ xs) e = absurd (none_some x (sym e))
+
+module _ {T : Type 0} where
+  passed-no : (last : Option ℕ) (h : Held T) (hs : List (Held T)) → fits last h ≡ false → passed last (h ∷ hs) ≡ h.item ∷ passed last hs
+  passed-no last h hs e = ap items_of (before_first-no (fits last) h hs e)
+
+  -- an item that does not fit is passed
+  pub draining_more : (last : Option ℕ) (old : LaneView T) (a : Inside T) (h : Held T) (held : Buffer (Held T)) (spares : Buffer T) →
+      IsDraining last old a → slice_get a.held.items 0 ≡ Some h → held ≡ buffer (drop 1 a.held.items) a.held.capacity →
+      spares ≡ buffer (a.spares.items ++ h.item ∷ []) a.spares.capacity → fits last h ≡ false →
+      IsDraining last old (record { held = held; spares = spares; count = a.count })
+  draining_more last old a h held spares d first popped kept unfit =
+      let rest = drop 1 a.held.items in
+      let whole : a.held.items ≡ h ∷ rest = head_is a.held.items h first in
+      let held_is : held.items ≡ rest = ap (λ (b : Buffer (Held T)). b.items) popped in
+      let spares_is : spares.items ≡ a.spares.items ++ h.item ∷ [] = ap (λ (b : Buffer T). b.items) kept in
+      let eight : length rest + length (a.spares.items ++ h.item ∷ []) ≡ 8 =
+      omega (arith, d.lane.eight, ap length whole, length-append a.spares.items (h.item ∷ [])) in
+      record {
+        lane = record {
+          held_room = ap (λ (b : Buffer (Held T)). b.capacity) popped ∙ d.lane.held_room;
+          spare_room = ap (λ (b : Buffer T). b.capacity) kept ∙ d.lane.spare_room;
+          eight = ap₂ (λ (m n : ℕ). m + n) (ap length held_is) (ap length spares_is) ∙ eight;
+        };
+        same_taken = d.same_taken ∙ ap (taken last) whole ∙ find-no (fits last) h rest unfit ∙ ap (taken last) (sym held_is);
+        same_rest =
+            d.same_rest ∙ ap (after_first (fits last)) whole ∙ after_first-no (fits last) h rest unfit
+            ∙ ap (after_first (fits last)) (sym held_is);
+        passes =
+            d.passes ∙ ap (λ hs. a.spares.items ++ passed last hs) whole
+            ∙ ap (λ ts. a.spares.items ++ ts) (passed-no last h rest unfit)
+            ∙ sym (append_assoc a.spares.items (h.item ∷ []) (passed last rest))
+            ∙ ap₂ (λ (xs : List T) (hs : List (Held T)). xs ++ passed last hs) (sym spares_is) (sym held_is);
+        same_count = d.same_count;
+      }
+
+  -- what is left when an item is taken, and when none was left
+  pub rest_taken : (last : Option ℕ) (old : LaneView T) (a : Inside T) (h : Held T) (held : Buffer (Held T)) →
+      IsDraining last old a → slice_get a.held.items 0 ≡ Some h → held ≡ buffer (drop 1 a.held.items) a.held.capacity → fits last h ≡ true →
+      held.items ≡ after_first (fits last) old.held
+  rest_taken last old a h held d first popped fit =
+      ap (λ (b : Buffer (Held T)). b.items) popped
+      ∙ sym (d.same_rest ∙ ap (after_first (fits last)) (head_is a.held.items h first) ∙ after_first-yes (fits last) h (drop 1 a.held.items) fit)
+
+  pub rest_none : (last : Option ℕ) (old : LaneView T) (a : Inside T) (held : Buffer (Held T)) →
+      IsDraining last old a → slice_get a.held.items 0 ≡ None → held ≡ buffer (drop 1 a.held.items) a.held.capacity →
+      held.items ≡ after_first (fits last) old.held
+  rest_none last old a held d nothing popped =
+      let empty = nothing_first a.held.items nothing in
+      ap (λ (b : Buffer (Held T)). b.items) popped ∙ ap (drop 1) empty ∙ sym (d.same_rest ∙ ap (after_first (fits last)) empty)

@@ -1,0 +1,5 @@
+use Rattle.lane_ring.proofs.Serials.{gap_law}
+use Rattle.lane_ring.proofs.laws.gaps_hold_nothing.Goals as goal
+
+pub returns : goal.returns
+returns g c = gap_law

@@ -1,0 +1,5 @@
+use Rattle.lane_ring.proofs.Serials.{post_law}
+use Rattle.lane_ring.proofs.laws.posts_are_held.Goals as goal
+
+pub returns : goal.returns
+returns g c = post_law

@@ -1,0 +1,5 @@
+pub mod Ring
+pub mod LaneFields
+pub mod Taking
+pub mod Draining
+pub mod Serials

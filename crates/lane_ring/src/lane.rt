@@ -1,0 +1,167 @@
+//! A lane over two rings: the held items and the spare ones, eight together.
+
+ghost use Rattle.std.specs.Prelude.{◌≡◌, ℕ, ◌+◌, ◌^◌, ◌<◌, ◌==◌, List, [], ◌∷◌, ◌++◌, drop, length, slice_get, nat_lt, vec_len, IfOk, if◌then◌else◌};
+ghost use Rattle.std.specs.List.{list_any, after_first};
+ghost use Rattle.circular_buffer.specs.Buffer.{buffer, keep_last};
+ghost use Rattle.lane_ring.specs.declared.lane.Held.{Held};
+
+use circular_buffer::HeapCircularBuffer;
+use pel_bits::NoMemory;
+use std::alloc::Global;
+use std::marker::Model;
+use std::mem;
+
+/// How many items a lane holds at most. Held and spare items together are as many.
+const ROOM: usize = 8;
+
+/// A held item with its serial, and whether it may be shown whatever was shown before.
+#[derive(Drop)]
+pub struct Held<T> {
+    pub serial: u64,
+    pub refresh: bool,
+    pub item: T,
+}
+
+/// Adds a spare to a ring that has room for it.
+fn keep<T>(spares: &mut HeapCircularBuffer<T>, spare: T)
+    requires { length spares.old.items < spares.old.capacity }
+    ensures { spares.new ≡ buffer (spares.old.items ++ spare ∷ []) spares.old.capacity }
+{
+    match spares.push_back(spare) {
+        None => {}
+        Some(_refused) => unreachable!(),
+    }
+}
+
+/// The items of a lane that are held, and the boxes that are spare.
+#[derive(Drop)]
+pub struct Lane<T> {
+    held: HeapCircularBuffer<Held<T>>,
+    spares: HeapCircularBuffer<T>,
+    count: u64,
+}
+
+impl<T> Model for Lane<T> {
+    ghost use Rattle.lane_ring.specs.Ring.{LaneView, lane_code};
+
+    ghost Value = { LaneView T };
+
+    ghost coded = { lane_code T.code };
+
+    ghost use Rattle.lane_ring.specs.LaneFields.{view_of, IsLane};
+
+    ghost view = { view_of };
+
+    ghost invariant = { IsLane };
+}
+
+impl<T> Held<T> {
+    ghost use Rattle.lane_ring.specs.Taking.{fits};
+
+    /// Whether the item may be shown after the one with serial `last`, if one was shown: it needs nothing before it, or
+    /// it comes right behind that one.
+    fn fits(&self, last: Option<u64>) -> bool
+        ensures { result ≡ fits last self.now }
+    {
+        self.refresh || last.is_some_and(|last| last < self.serial && self.serial - last == 1)
+    }
+}
+
+impl<T: Drop> Lane<T> {
+    ghost use Rattle.lane_ring.specs.Taking.{fits, taken, passed, items_of, left_by, in_slot, serial_of};
+    ghost use Rattle.lane_ring.specs.Serials.{Entry, Posted, Missed, HasEntries, low_after};
+
+    /// A lane that holds nothing and has given no serial. The eight boxes become its spares. At want of memory they are
+    /// dropped.
+    pub fn reserve(alloc: Global, boxes: Vec<T>) -> Result<Lane<T>, NoMemory>
+        requires { vec_len boxes ≡ 8 }
+        ensures empty { IfOk result (λ lane. lane ≡ record { held = []; spares = boxes.items; count = 0 }) }
+        ensures entries { IfOk result (λ lane. HasEntries lane 0 []) }
+    {
+        let held = HeapCircularBuffer::with_capacity(alloc, ROOM)?;
+        let mut spares = HeapCircularBuffer::with_capacity(alloc, ROOM)?;
+        for spare in boxes {
+            keep(&mut spares, spare);
+        }
+        Ok(Lane {
+            held,
+            spares,
+            count: 0,
+        })
+    }
+
+    /// The serial that was given last, 0 where none was.
+    pub fn count(&self) -> u64
+        ensures { result ≡ self.now.count }
+    {
+        self.count
+    }
+
+    /// Whether the item with this serial is held.
+    pub fn holds(&self, serial: u64) -> bool
+        ensures { result ≡ list_any (λ (h : Held T). h.serial == serial) self.now.held }
+    {
+        self.held.iter().any(|held| held.serial == serial)
+    }
+
+    /// Gives the next serial to nothing.
+    pub fn gap(&mut self)
+        requires { self.old.count < 2 ^ 62 }
+        ensures held { self.new.held ≡ self.old.held }
+        ensures spares { self.new.spares ≡ self.old.spares }
+        ensures count { self.new.count ≡ self.old.count + 1 }
+        ensures entries { (low : ℕ) (es : List (Entry T)) → HasEntries self.old low es → HasEntries self.new low (es ++ Missed ∷ []) }
+    {
+        self.count += 1;
+    }
+
+    /// Holds an item under the next serial. Gives a spare, or the oldest held item where eight were held.
+    pub fn post(&mut self, item: T, refresh: bool) -> T
+        requires { self.old.count < 2 ^ 62 }
+        ensures held { self.new.held
+            ≡ keep_last 8 (self.old.held ++ record { serial = self.old.count + 1; refresh = refresh; item = item } ∷ []) }
+        ensures count { self.new.count ≡ self.old.count + 1 }
+        ensures spares { self.new.spares ≡ (if nat_lt (length self.old.held) 8 then drop 1 self.old.spares else self.old.spares) }
+        ensures given { Some result
+            ≡ (if nat_lt (length self.old.held) 8 then slice_get self.old.spares 0 else slice_get (items_of self.old.held) 0) }
+        ensures entries { (low : ℕ) (es : List (Entry T)) → HasEntries self.old low es → HasEntries self.new low (es ++ Posted refresh item ∷ []) }
+    {
+        let serial = self.count + 1;
+        self.count = serial;
+        let held = Held {
+            serial,
+            refresh,
+            item,
+        };
+        match self.held.push_back(held) {
+            Some(oldest) => oldest.item,
+            None => match self.spares.pop_front() {
+                Some(spare) => spare,
+                None => unreachable!(),
+            },
+        }
+    }
+
+    /// Takes the first held item that may be shown after the one with serial `last`, if one was shown: the first that is
+    /// a refresh or has the serial behind `last`. It then stands in the slot, and what stood there is a spare. The held
+    /// items before it are passed, and become spares; where there is no such item, all are, and the slot stays as it is.
+    pub fn take(&mut self, last: Option<u64>, slot: &mut T) -> Option<u64>
+        ensures serial { result ≡ serial_of (taken last self.old.held) }
+        ensures held { self.new.held ≡ after_first (fits last) self.old.held }
+        ensures slot { slot.new ≡ in_slot (taken last self.old.held) slot.old }
+        ensures spares { self.new.spares
+            ≡ (self.old.spares ++ passed last self.old.held) ++ left_by (taken last self.old.held) slot.old }
+        ensures count { self.new.count ≡ self.old.count }
+        ensures entries { (low : ℕ) (es : List (Entry T)) → HasEntries self.old low es → HasEntries self.new (low_after last self.old.held low) es }
+    {
+        while let Some(held) = self.held.pop_front() {
+            if held.fits(last) {
+                let former = mem::replace(slot, held.item);
+                keep(&mut self.spares, former);
+                return Some(held.serial);
+            }
+            keep(&mut self.spares, held.item);
+        }
+        None
+    }
+}
