@@ -1,3 +1,4 @@
+pub mod InsideLaws
 pub mod Words
 pub mod Slots
 pub mod Vectors

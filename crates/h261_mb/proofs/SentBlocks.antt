@@ -1,5 +1,5 @@
 -- The blocks of a macroblock as far as they were read.
-use Rattle.std.proofs.Common.{◌≡◌, ℕ, zero, suc, ◌+◌, ◌-◌, ◌≤◌, ◌<◌, Bool, true, false, cond, List, [], ◌∷◌, ◌++◌, length, flat_map, ℤ, is_some, drop, refl, sym, ◌∙◌, ap, subst, arith, length-append}
+use Rattle.std.proofs.Common.{◌≡◌, ℕ, zero, suc, ◌+◌, ◌-◌, ◌≤◌, ◌<◌, Bool, true, false, cond, List, [], ◌∷◌, ◌++◌, length, flat_map, ℤ, is_some, refl, sym, ◌∙◌, ap, subst, arith, length-append}
 use Rattle.std.proofs.lemmas.Grind.{flat_map-append}
 use Rattle.std.proofs.lemmas.List.{append-nil}
 use Rattle.pel_model.specs.declared.Format.{Format}
@@ -10,10 +10,8 @@ use Rattle.pel_model.specs.Codes.{is_intra, has_cbp}
 use Rattle.pel_model.specs.Records.{Block}
 use Rattle.pel_model.specs.Elements.{block_elements}
 use Rattle.pel_model.specs.Walk.{Step, after, Goes}
-use Rattle.pel_model.specs.Grammar.{Element, Mtype, Cbp, AtCbp, AtDc, AtFirst, slot, block_slot, cbp_slot, kind, blocks, next}
+use Rattle.pel_model.specs.Grammar.{Element, Mtype, Cbp, AtCbp, AtDc, AtFirst, slot, block_slot, cbp_slot, kind, blocks, may_end, next}
 use Rattle.pel_model.proofs.Walks.{after-append, goes-append}
-use Rattle.h261_block.specs.Inside.{AreInside}
-use Rattle.h261_block.proofs.InsideLaws.{inside-append, inside-block}
 use Rattle.h261_mb.proofs.Passing.{pass_blocks, blocks-block, slot-block}
 use Rattle.h261_mb.proofs.Steps.{goes_onward}
 
@@ -67,15 +65,15 @@ module _ (next : List Element → List Bool × ℕ → Step Element) (before : L
         to_come = ap blocks behind ∙ (blocks-block there b ∙ fewer);
       }
 
-pub inside_blocks : (bs : List Block) → AreInside (flat_map block_elements bs)
-inside_blocks [] = refl
-inside_blocks (b ∷ bs) = inside-append (block_elements b) (flat_map block_elements bs) (inside-block b) (inside_blocks bs)
+pub block_is_inside : (intra : Bool) → may_end (cond intra AtDc AtFirst) ≡ false
+block_is_inside true = refl
+block_is_inside false = refl
 
 -- a block that was read did not lead back
 abbrev BlockRead : Bool → List Bool × ℕ → List Bool × ℕ → Type 0
 BlockRead intra old new =
     (format : Format) (before : List Element) → slot before ≡ cond intra AtDc AtFirst
-    → (es : List Element) × Goes (next format) before old es new × ((b : Block) × (es ≡ block_elements b) × (is_some b.dc ≡ intra)) × AreInside (drop 0 es)
+    → (es : List Element) × Goes (next format) before old es new × ((b : Block) × (es ≡ block_elements b) × (is_some b.dc ≡ intra))
 
 pub block_onward : (intra : Bool) (old new : List Bool × ℕ) → BlockRead intra old new → old.1 ≤ new.1
 block_onward true old new read =

@@ -9,8 +9,8 @@ ghost use Rattle.pel_model.specs.Codes.{is_intra as intra_by_table};
 ghost use Rattle.pel_model.specs.Records.{Block};
 ghost use Rattle.pel_model.specs.Elements.{block_elements};
 ghost use Rattle.pel_model.specs.Grammar.{Element, Cbp, slot, AtMacroblock, AtCbp, block_slot, cbp_slot, kind as kind_before, blocks as blocks_before, next};
-ghost use Rattle.pel_model.specs.Walk.{after, Takes};
-ghost use Rattle.h261_block.specs.Inside.{WalkedInside};
+ghost use Rattle.pel_model.specs.Walk.{after, Takes, Walked};
+ghost use Rattle.h261_mb.specs.Inside.{StaysInside};
 ghost use Rattle.h261_mb.specs.Macroblocks.{cbp_elements};
 
 use crate::kinds::{has_cbp, is_intra};
@@ -23,9 +23,9 @@ use vlc_codes::cbp;
 pub fn count_blocks(r: &mut Reader<'_>, kind: MbKind) -> Result<u32, Fault>
     ensures walk { (format : Format) (before : List Element) → slot before ≡ cbp_slot kind → kind_before before ≡ kind →
         blocks_before before ≡ cond (intra_by_table kind) 6 0 →
-        WalkedInside 0 (next format) before
+        Walked (next format) before
         (λ count es new. (pattern : List Bool) × (length pattern ≡ 6) × (count_by (λ b. b) pattern ≡ count) × (es ≡ cbp_elements kind (number pattern)) × (slot (after before es) ≡ block_slot kind count) × (blocks_before (after before es) ≡ count))
-        result r.old r.new }
+        (StaysInside before) result r.old r.new }
     ensures onward { IfOk result (λ _. r.old.1 ≤ r.new.1) }
 {
     if is_intra(kind) {
@@ -41,9 +41,9 @@ pub fn count_blocks(r: &mut Reader<'_>, kind: MbKind) -> Result<u32, Fault>
 pub fn skip_blocks(r: &mut Reader<'_>, intra: bool, count: u32) -> Result<(), Fault>
     ensures walk { (format : Format) (before : List Element) (kind : Kind) → kind_before before ≡ kind → intra_by_table kind ≡ intra →
         slot before ≡ block_slot kind count → blocks_before before ≡ count →
-        WalkedInside 0 (next format) before
+        Walked (next format) before
         (λ _ es new. (blocks : List Block) × (length blocks ≡ count) × (es ≡ flat_map block_elements blocks) × (slot (after before es) ≡ AtMacroblock))
-        result r.old r.new }
+        (StaysInside before) result r.old r.new }
     ensures onward { IfOk result (λ _. r.old.1 ≤ r.new.1) }
 {
     for _block in 0..count {

@@ -7,8 +7,8 @@ ghost use Rattle.pel_model.specs.declared.Why.{Why as Reason};
 ghost use Rattle.pel_model.specs.declared.Why.TheVariants.{NoCode};
 ghost use Rattle.pel_model.specs.Codes.{has_mquant as mquant_by_table, has_vector as vector_by_table};
 ghost use Rattle.pel_model.specs.Grammar.{Element, Mba, Mtype, Mquant, Stuffing, mba_rows, slot, AtMacroblock, AtMtype, AtMquant, vector_slot, address as address_before, starts_anew as anew, next};
-ghost use Rattle.pel_model.specs.Walk.{Good, Bad, read, after, Takes};
-ghost use Rattle.h261_block.specs.Inside.{WalkedInside};
+ghost use Rattle.pel_model.specs.Walk.{Good, Bad, read, after, Takes, Walked};
+ghost use Rattle.h261_mb.specs.Inside.{StaysInside, IsMacroblockSoFar};
 ghost use Rattle.h261_mb.specs.Macroblocks.{mquant_elements};
 ghost use Rattle.h261_mb.specs.State.{IsReady, IsNear, Stands, IsBegun};
 
@@ -23,9 +23,9 @@ pub fn read_head(r: &mut Reader<'_>, state: &MbState) -> Result<Head, Fault>
     requires { IsReady state.now }
     ensures walk { (format : Format) (before : List Element) (number d n : ℕ) → Stands number state.now before →
         read mba_rows r.old.0 ≡ Good (Mba d) n →
-        WalkedInside 1 (next format) before
+        Walked (next format) before
         (λ head es new. (mquant : Option ℕ) × (es ≡ Mba (head.address - state.now.address) ∷ Mtype head.kind ∷ mquant_elements mquant) × IsBegun number head (after before es))
-        result r.old r.new }
+        (IsMacroblockSoFar before) result r.old r.new }
     ensures no_word { (why : Reason) → read mba_rows r.old.0 ≡ Bad why →
         (result ≡ Err (record { place = r.old.1; why = why })) × (r.new ≡ r.old) }
     ensures stuffing { (n : ℕ) → read mba_rows r.old.0 ≡ Good Stuffing n →
@@ -103,9 +103,9 @@ fn take_kind(r: &mut Reader<'_>) -> Result<MbKind, Fault>
 #[inline]
 fn quant_after(r: &mut Reader<'_>, kind: MbKind, last: u8) -> Result<u8, Fault>
     ensures walk { (format : Format) (before : List Element) →
-        WalkedInside 0 (next format) (Mtype kind ∷ before)
+        Walked (next format) (Mtype kind ∷ before)
         (λ quant es new. (mquant : Option ℕ) × (es ≡ mquant_elements mquant) × (quant ≡ unwrap_or mquant last) × (slot (after (Mtype kind ∷ before) es) ≡ vector_slot kind))
-        result r.old r.new }
+        (StaysInside (Mtype kind ∷ before)) result r.old r.new }
     ensures onward { IfOk result (λ _. r.old.1 ≤ r.new.1) }
 {
     if has_mquant(kind) {

@@ -11,8 +11,8 @@ ghost use Rattle.std.specs.Prelude.{◌≡◌, ℕ, true, List, IfOk, IfErr};
 ghost use Rattle.pel_model.specs.declared.Why.{Why};
 ghost use Rattle.pel_model.specs.declared.Why.TheVariants.{NoCode};
 ghost use Rattle.pel_model.specs.Grammar.{Element, Mba, Stuffing, mba_rows, is_group, next};
-ghost use Rattle.pel_model.specs.Walk.{Good, Bad, read};
-ghost use Rattle.h261_block.specs.Inside.{WalkedInside};
+ghost use Rattle.pel_model.specs.Walk.{Good, Bad, read, Walked};
+ghost use Rattle.h261_mb.specs.Inside.{IsMacroblockSoFar};
 ghost use Rattle.h261_mb.specs.State.{IsReady, Stands, IsRead};
 
 use blocks::{count_blocks, skip_blocks};
@@ -39,7 +39,7 @@ pub fn scan_mb(
     requires ready { IsReady state.old }
     ensures walk { (before : List Element) (d n : ℕ) → Stands group state.old before →
         read mba_rows r.old.0 ≡ Good (Mba d) n →
-        WalkedInside 1 (next format) before (IsRead group r.old.1 before state.new) result r.old r.new }
+        Walked (next format) before (IsRead group r.old.1 before state.new) (IsMacroblockSoFar before) result r.old r.new }
     ensures no_word { (why : Why) → read mba_rows r.old.0 ≡ Bad why →
         (result ≡ Err (record { place = r.old.1; why = why })) × (r.new ≡ r.old) }
     ensures stuffing { (n : ℕ) → read mba_rows r.old.0 ≡ Good Stuffing n →

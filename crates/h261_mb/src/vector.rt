@@ -6,8 +6,8 @@ ghost use Rattle.pel_model.specs.declared.Format.{Format as PictureFormat};
 ghost use Rattle.pel_model.specs.Valid.{side as side_of, corner};
 ghost use Rattle.pel_model.specs.Records.{Axis, Across, Down};
 ghost use Rattle.pel_model.specs.Grammar.{Element, Mvd, slot, AtMvd, group as group_before, address as address_before, vector as vector_before, moved, in_range as is_in_range, is_group, stays_within as stays, next};
-ghost use Rattle.pel_model.specs.Walk.{after};
-ghost use Rattle.h261_block.specs.Inside.{WalkedInside};
+ghost use Rattle.pel_model.specs.Walk.{after, Walked};
+ghost use Rattle.h261_mb.specs.Inside.{StaysInside};
 ghost use Rattle.h261_mb.specs.Macroblocks.{vector_elements};
 ghost use Rattle.h261_mb.specs.State.{IsNear, IsBegun, IsMoved};
 
@@ -28,9 +28,9 @@ pub fn vector_after(
     requires address { (0 < head.now.address) × (head.now.address ≤ 33) }
     requires near { IsNear head.now.h × IsNear head.now.v }
     ensures walk { (before : List Element) → IsBegun group head.now before →
-        WalkedInside 0 (next format) before
+        Walked (next format) before
         (λ vector es new. (across : ℤ × ℤ) × (down : ℤ × ℤ) × (es ≡ vector_elements head.now.kind across down) × IsMoved group head.now vector.0 vector.1 (after before es))
-        result r.old r.new }
+        (StaysInside before) result r.old r.new }
     ensures near { IfOk result (λ vector. IsNear vector.0 × IsNear vector.1) }
     ensures onward { IfOk result (λ _. r.old.1 ≤ r.new.1) }
 {
@@ -53,9 +53,9 @@ fn read_vector(
     requires near { IsNear head.now.h × IsNear head.now.v }
     ensures walk { (before : List Element) → slot before ≡ AtMvd Across → group_before before ≡ group → address_before before ≡ head.now.address →
         vector_before Across before ≡ head.now.h → vector_before Down before ≡ head.now.v →
-        WalkedInside 0 (next format) before
+        Walked (next format) before
         (λ vector es new. (across : ℤ × ℤ) × (down : ℤ × ℤ) × (es ≡ Mvd Across across ∷ Mvd Down down ∷ []) × (moved head.now.h across ≡ vector.0) × (moved head.now.v down ≡ vector.1))
-        result r.old r.new }
+        (StaysInside before) result r.old r.new }
     ensures near { IfOk result (λ vector. IsNear vector.0 × IsNear vector.1) }
     ensures onward { IfOk result (λ _. r.old.1 ≤ r.new.1) }
 {
@@ -70,7 +70,7 @@ fn take_component(r: &mut Reader<'_>, last: i8, first: u32, side: u32) -> Result
     requires first { first ≤ 1000 }
     ensures walk { (format : PictureFormat) (before : List Element) (axis : Axis) → slot before ≡ AtMvd axis → vector_before axis before ≡ last →
         side_of format axis ≡ side → corner axis (group_before before) (address_before before) ≡ first →
-        WalkedInside 0 (next format) before (λ component es new. (values : ℤ × ℤ) × (es ≡ Mvd axis values ∷ []) × (moved last values ≡ component)) result r.old r.new }
+        Walked (next format) before (λ component es new. (values : ℤ × ℤ) × (es ≡ Mvd axis values ∷ []) × (moved last values ≡ component)) (StaysInside before) result r.old r.new }
     ensures near { IfOk result (λ component. IsNear component) }
     ensures onward { IfOk result (λ _. r.old.1 ≤ r.new.1) }
 {

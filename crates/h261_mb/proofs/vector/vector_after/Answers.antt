@@ -5,6 +5,7 @@ use Rattle.pel_model.specs.Codes.{has_vector}
 use Rattle.pel_model.specs.Records.{Across, Down}
 use Rattle.pel_model.specs.Walk.{after}
 use Rattle.pel_model.specs.Grammar.{Element, Mvd, AtMvd, cbp_slot, moved, next}
+use Rattle.h261_mb.specs.Inside.{StaysInside}
 use Rattle.h261_mb.specs.Macroblocks.{vector_elements}
 use Rattle.h261_mb.specs.State.{IsMoved}
 use Rattle.h261_mb.proofs.Steps.{walked_as}
@@ -22,7 +23,7 @@ returns-then-has_vector-clause-walk c = λ before begun.
     let has_one = sym c.has_vector.ensures ∙ c.if-has_vector.true in
     let due = begun.due ∙ ap (λ (has : Bool). cond has (AtMvd Across) (cbp_slot head.kind)) has_one in
     let walk = c.read_vector.ensures.walk before due begun.say.number_is begun.say.address_is begun.say.across_is begun.say.down_is in
-    walked_as (next c.args.format) before _ _ c.read_vector.result c.args.r.now c.read_vector.new.r (λ vector es told. (
+    walked_as (next c.args.format) before _ _ (StaysInside before) c.read_vector.result c.args.r.now c.read_vector.new.r (λ vector es told. (
       told.0,
       told.1,
       told.2 ∙ sym (moves head.kind has_one told.0 told.1),
@@ -66,5 +67,4 @@ returns-else-has_vector-clause-walk c = λ before begun.
           };
         },
       ),
-      refl,
     )
