@@ -1,0 +1,10 @@
+pub mod InsideLaws
+pub mod Words
+pub mod Slots
+pub mod Vectors
+pub mod Patterns
+pub mod Passing
+pub mod Placing
+pub mod Heads
+pub mod Steps
+pub mod SentBlocks

@@ -1,0 +1,72 @@
+use Rattle.std.proofs.Common.{◌≡◌, ◌-◌, ◌∷◌, [], List, ℤ, subst, inl, inr, refl, sym, ◌∙◌, ap, w8, to_z, of_z, rules}
+use Rattle.std.proofs.lemmas.Int.{to_z-of_z}
+use Rattle.std.proofs.lemmas.Result.{err_from_is_err_and}
+use Rattle.pel_model.specs.Walk.{after}
+use Rattle.pel_model.specs.Grammar.{Element, Mba, Mtype, slot, next}
+use Rattle.h261_mb.specs.Inside.{IsMacroblockSoFar}
+use Rattle.h261_mb.specs.State.{IsBegun}
+use Rattle.h261_mb.proofs.Heads.{predicted, predicted_last, predicted_anew, predicted_none, begun}
+use Rattle.h261_mb.proofs.Steps.{goes_first, fails_here}
+use Rattle.h261_mb.proofs.head.read_head.Goals as goal
+use Rattle.h261_mb.proofs.head.read_head.Goals.{then-has_vector+then-not-starts_anew, else-has_vector, else-has_vector-via-then-has_vector+else-not-starts_anew, else-has_vector-via-else-has_vector}
+
+pub returns-in_err-address-clause-walk : goal.returns-in_err-address-clause-walk
+returns-in_err-address-clause-walk c =
+    let p = err_from_is_err_and c.from_residual.result c.from_residual.ensures.1 in
+    rw (p.1, p.2) (λ format before number d n stands is.
+    let took = c.in_err-address.ensures.taken format before d n stands.due stands.say.address_is is in
+    fails_here (next format) before (IsMacroblockSoFar before) c.args.r.now c.args.r.now c.take_address.new.r [] _ refl (refl, inl refl) took.0 took.1 took.2)
+
+pub returns-in_err-kind-clause-walk : goal.returns-in_err-kind-clause-walk
+returns-in_err-kind-clause-walk c =
+    let p = err_from_is_err_and c.from_residual-in_err-kind.result c.from_residual-in_err-kind.ensures.1 in
+    rw (p.1, p.2) (λ format before number d n stands is.
+    let took = c.in_ok-address.ensures.taken format before d n stands.due stands.say.address_is is in
+    let mba = Mba (c.in_ok-address.address - c.args.state.now.address) in
+    let bad = c.in_err-kind.ensures.taken format (mba ∷ before) refl in
+    fails_here (next format) before (IsMacroblockSoFar before) c.args.r.now c.take_address.new.r c.take_kind.new.r (mba ∷ []) _ took (refl, inr refl) bad.0 bad.1 bad.2)
+
+pub returns-in_err-quant-clause-walk : goal.returns-in_err-quant-clause-walk
+returns-in_err-quant-clause-walk c =
+    let p = err_from_is_err_and c.from_residual-in_err-quant.result c.from_residual-in_err-quant.ensures.1 in
+    rw (p.1, p.2) (λ format before number d n stands is.
+    let took = c.in_ok-address.ensures.taken format before d n stands.due stands.say.address_is is in
+    let mba = Mba (c.in_ok-address.address - c.args.state.now.address) in
+    let kind = c.in_ok-kind.ensures.taken format (mba ∷ before) refl in
+    let later = c.in_err-quant.ensures.walk format (mba ∷ before) in
+    let mtype = Mtype c.in_ok-kind.kind in
+    (mba ∷ mtype ∷ later.0, goes_first (next format) before c.args.r.now c.take_address.new.r c.quant_after.new.r mba took.0 (mtype ∷ later.0) took.1 took.2 (goes_first (next format) (mba ∷ before) c.take_address.new.r c.take_kind.new.r c.quant_after.new.r mtype kind.0 later.0 kind.1 kind.2 later.1), (later.2.0, inr later.2.1), later.3, later.4))
+
+pub returns-clause-walk : goal.returns-clause-walk
+returns-clause-walk c = λ format before number d n stands is.
+    let state = c.args.state.now in
+    let at = c.in_ok-address.address in
+    let k = c.in_ok-kind.kind in
+    let took = c.in_ok-address.ensures.taken format before d n stands.due stands.say.address_is is in
+    let mba = Mba (at - state.address) in
+    let mtype = Mtype k in
+    let kind = c.in_ok-kind.ensures.taken format (mba ∷ before) refl in
+    let later = c.in_ok-quant.ensures.walk format (mba ∷ before) in
+    let near : (predicted k (at - state.address) at state.h ≡ c.if-has_vector.h.0) × (predicted k (at - state.address) at state.v ≡ c.if-has_vector.h.1) =
+    elim c.if-has_vector.branch [
+      | then-has_vector+then-not-starts_anew w ↦
+          let moves = sym c.has_vector.ensures ∙ w.if-has_vector.true in
+          let goes_on = sym w.starts_anew.ensures ∙ w.if-not-starts_anew.true in
+          (predicted_last k (at - state.address) at state.h moves goes_on ∙ sym (ap (λ (p : ℤ × ℤ). p.0) w.h-is ∙ to_z-of_z w8 state.h (search rules)), predicted_last k (at - state.address) at state.v moves goes_on ∙ sym (ap (λ (p : ℤ × ℤ). p.1) w.h-is ∙ to_z-of_z w8 state.v (search rules)))
+      | else-has_vector w ↦
+          elim w.else-has_vector.branch [
+            | else-has_vector-via-then-has_vector+else-not-starts_anew w' ↦
+                let moves = sym c.has_vector.ensures ∙ w'.if-has_vector.true in
+                let anew = sym w'.starts_anew.ensures ∙ w'.if-not-starts_anew.false in
+                (predicted_anew k (at - state.address) at state.h moves anew ∙ sym (ap (λ (p : ℤ × ℤ). p.0) w.h-is), predicted_anew k (at - state.address) at state.v moves anew ∙ sym (ap (λ (p : ℤ × ℤ). p.1) w.h-is))
+            | else-has_vector-via-else-has_vector w' ↦
+                let still = sym c.has_vector.ensures ∙ w'.if-has_vector.false in
+                (predicted_none k (at - state.address) at state.h still ∙ sym (ap (λ (p : ℤ × ℤ). p.0) w.h-is), predicted_none k (at - state.address) at state.v still ∙ sym (ap (λ (p : ℤ × ℤ). p.1) w.h-is))
+          ]
+    ] in
+    let h : ℤ = to_z w8 (of_z w8 c.if-has_vector.h.0) in
+    let v : ℤ = to_z w8 (of_z w8 c.if-has_vector.h.1) in
+    let h_is = to_z-of_z w8 c.if-has_vector.h.0 (search rules) in
+    let v_is = to_z-of_z w8 c.if-has_vector.h.1 (search rules) in
+    let behind = begun number state before stands at c.in_ok-quant.quant k h v later.2.0 (c.in_ok-address.ensures.within.0) later.2.2 (ap (λ es. slot (after (mtype ∷ mba ∷ before) es)) (sym later.2.1) ∙ later.2.3) (near.0 ∙ sym h_is) (near.1 ∙ sym v_is) in
+    (mba ∷ mtype ∷ later.0, goes_first (next format) before c.args.r.now c.take_address.new.r c.quant_after.new.r mba took.0 (mtype ∷ later.0) took.1 took.2 (goes_first (next format) (mba ∷ before) c.take_address.new.r c.take_kind.new.r c.quant_after.new.r mtype kind.0 later.0 kind.1 kind.2 later.1), (later.2.0, ap (λ es. mba ∷ mtype ∷ es) later.2.1, subst (λ (es : List Element). IsBegun number (record { address = at; kind = k; quant = c.in_ok-quant.quant; h = h; v = v }) (after (mtype ∷ mba ∷ before) es)) (sym later.2.1) behind))

@@ -1,0 +1,70 @@
+use Rattle.std.proofs.Common.{◌≡◌, ◌∷◌, [], Bool, true, false, cond, List, ℤ, pos, refl, sym, ◌∙◌, ap, subst, w8, rules}
+use Rattle.std.proofs.lemmas.Int.{to_z-of_z}
+use Rattle.pel_model.specs.declared.MbKind.{MbKind}
+use Rattle.pel_model.specs.Codes.{has_vector}
+use Rattle.pel_model.specs.Records.{Across, Down}
+use Rattle.pel_model.specs.Walk.{after}
+use Rattle.pel_model.specs.Grammar.{Element, Mvd, AtMvd, cbp_slot, moved, next}
+use Rattle.h261_mb.specs.Inside.{StaysInside}
+use Rattle.h261_mb.specs.Macroblocks.{vector_elements}
+use Rattle.h261_mb.specs.State.{IsMoved}
+use Rattle.h261_mb.proofs.Steps.{walked_as}
+use Rattle.h261_mb.proofs.vector.vector_after.Goals as goal
+
+moves : (k : MbKind) → has_vector k ≡ true → (a b : ℤ × ℤ) → vector_elements k a b ≡ Mvd Across a ∷ Mvd Down b ∷ []
+moves k has_one a b = ap (λ (has : Bool). cond has (Mvd Across a ∷ Mvd Down b ∷ []) []) has_one
+
+stays : (k : MbKind) → has_vector k ≡ false → (a b : ℤ × ℤ) → vector_elements k a b ≡ []
+stays k has_none a b = ap (λ (has : Bool). cond has (Mvd Across a ∷ Mvd Down b ∷ []) []) has_none
+
+pub returns-then-has_vector-clause-walk : goal.returns-then-has_vector-clause-walk
+returns-then-has_vector-clause-walk c = λ before begun.
+    let head = c.args.head.now in
+    let has_one = sym c.has_vector.ensures ∙ c.if-has_vector.true in
+    let due = begun.due ∙ ap (λ (has : Bool). cond has (AtMvd Across) (cbp_slot head.kind)) has_one in
+    let walk = c.read_vector.ensures.walk before due begun.say.number_is begun.say.address_is begun.say.across_is begun.say.down_is in
+    walked_as (next c.args.format) before _ _ (StaysInside before) c.read_vector.result c.args.r.now c.read_vector.new.r (λ vector es told. (
+      told.0,
+      told.1,
+      told.2 ∙ sym (moves head.kind has_one told.0 told.1),
+      subst (λ (es : List Element). IsMoved c.args.group head vector.0 vector.1 (after before es)) (sym told.2) (record {
+        due = ap cbp_slot begun.kind_is;
+        kind_is = begun.kind_is;
+        blocks_are = begun.blocks_are;
+        say = record {
+          number_is = begun.say.number_is;
+          address_is = begun.say.address_is;
+          quant_is = begun.say.quant_is;
+          across_is = ap (λ (z : ℤ). moved z told.0) begun.say.across_is ∙ told.3;
+          down_is = ap (λ (z : ℤ). moved z told.1) begun.say.down_is ∙ told.4;
+        };
+      }),
+    )) walk
+
+pub returns-else-has_vector-clause-walk : goal.returns-else-has_vector-clause-walk
+returns-else-has_vector-clause-walk c = λ before begun.
+    let head = c.args.head.now in
+    let has_none = sym c.has_vector.ensures ∙ c.if-has_vector.false in
+    let zero : ℤ × ℤ = (pos 0, pos 0) in
+    let h_is = to_z-of_z w8 head.h (search rules) in
+    let v_is = to_z-of_z w8 head.v (search rules) in (
+      [],
+      refl,
+      (
+        zero,
+        zero,
+        sym (stays head.kind has_none zero zero),
+        record {
+          due = begun.due ∙ ap (λ (has : Bool). cond has (AtMvd Across) (cbp_slot head.kind)) has_none;
+          kind_is = begun.kind_is;
+          blocks_are = begun.blocks_are;
+          say = record {
+            number_is = begun.say.number_is;
+            address_is = begun.say.address_is;
+            quant_is = begun.say.quant_is;
+            across_is = begun.say.across_is ∙ sym h_is;
+            down_is = begun.say.down_is ∙ sym v_is;
+          };
+        },
+      ),
+    )
