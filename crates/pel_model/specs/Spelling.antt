@@ -45,7 +45,7 @@ GroupsFit _ _ = ⊥
 -- PEI and PSPARE, or GEI and GSPARE: a 1 before each spare octet, and a 0 (4.2.1.4, 4.2.2.4)
 abbrev pub spare_text : List ℕ → List Bool
 spare_text [] = false ∷ []
-spare_text (octet ∷ octets) = true ∷ field octet 8 ++ spare_text octets
+spare_text (octet ∷ octets) = true ∷ (field octet 8 ++ spare_text octets)
 
 abbrev pub stuffing_text : ℕ → List Bool
 stuffing_text zero = []
@@ -58,22 +58,22 @@ type_text Cif free = free.split ∷ free.document ∷ free.release ∷ true ∷ 
 
 unfoldable pub header_text : Format → FreeBits → List ℕ → ℕ → List Bool
 header_text format free spares tr =
-    word (codes "00000000000000010000") ++ field tr 5 ++ type_text format free ++ spare_text spares
+    word (codes "00000000000000010000") ++ (field tr 5 ++ (type_text format free ++ spare_text spares))
 
 -- macroblocks, each with its stuffing behind it
 unfoldable pub stuffed_text : Option Macroblock → List ℕ → List Macroblock → List Bool
 stuffed_text last behind [] = []
 stuffed_text last behind (m ∷ ms) =
-    macroblock_text last m ++ stuffing_text (get_or behind 0 0) ++ stuffed_text (Some m) (drop 1 behind) ms
+    macroblock_text last m ++ (stuffing_text (get_or behind 0 0) ++ stuffed_text (Some m) (drop 1 behind) ms)
 
 unfoldable pub group_header_text : ℕ → ℕ → List ℕ → List Bool
 group_header_text number quant spares =
-    word (codes "0000000000000001") ++ field number 4 ++ field quant 5 ++ spare_text spares
+    word (codes "0000000000000001") ++ (field number 4 ++ (field quant 5 ++ spare_text spares))
 
 abbrev pub sent_group_text : GroupForm → Group → List Bool
 sent_group_text LeftOut g = []
 sent_group_text (Sent spares stuffings behind) g =
-    group_header_text g.number g.quant spares ++ stuffing_text stuffings ++ stuffed_text None behind g.macroblocks
+    group_header_text g.number g.quant spares ++ (stuffing_text stuffings ++ stuffed_text None behind g.macroblocks)
 
 abbrev pub sent_groups_text : List GroupForm → List Group → List Bool
 sent_groups_text [] gs = []

@@ -1,0 +1,11 @@
+//! Laws of coded pictures: what joins their records and texts to their elements, read from left to right. Each
+//! function does nothing; its contract is the law, whose words stand in `specs/`.
+#![tactic(auto)]
+
+ghost use Rattle.picture_laws.specs.Laws.{TextIsAccepted};
+
+/// The strict text of a valid picture within the limit is accepted with that picture.
+pub fn text_is_accepted()
+    ensures { TextIsAccepted }
+{
+}
