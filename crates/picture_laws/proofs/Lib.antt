@@ -1,1 +1,4 @@
+pub mod Rows
+pub mod Slots
 pub mod Strict
+pub mod Words
