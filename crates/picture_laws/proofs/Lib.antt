@@ -2,3 +2,4 @@ pub mod Rows
 pub mod Slots
 pub mod Strict
 pub mod Words
+pub mod Written

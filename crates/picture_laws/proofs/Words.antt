@@ -100,7 +100,7 @@ read_either xs ys bits e n r = elim (among-either r.row xs ys r.among) [
 
 -- ---- coefficients
 
-abbrev pair_row : List Bool × (ℕ × ℕ) → Row Element
+abbrev pub pair_row : List Bool × (ℕ × ℕ) → Row Element
 pair_row row = coefficient_row row.0 row.1.0 row.1.1
 
 pair_word_case : (s : Slot) (table : List (List Bool × (ℕ × ℕ))) → ((b : Bool) → list_all (pair_is_sent (one_at s) b) table ≡ true) → (row : List Bool × (ℕ × ℕ)) → Among row table → (list : List (Row Element)) (bits : List Bool) (e : Element) (n : ℕ) → (r : IsRead list bits e n) → r.row.code ≡ row.0 → (tail : List Bool) → r.tail ≡ tail → length tail ≡ 1 → e ≡ Tcoeff (record { run = row.1.0; level = signed row.1.1 (number tail); long = false }) → ((c : Coefficient) × IsSent c × (e ≡ Tcoeff c)) × IsWord s bits e n
