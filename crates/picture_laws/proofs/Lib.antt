@@ -1,4 +1,5 @@
 pub mod Chains
+pub mod Limits
 pub mod Rows
 pub mod Slots
 pub mod Strict
