@@ -1,8 +1,11 @@
 pub mod Blocks
 pub mod Chains
 pub mod Limits
+pub mod Macroblocks
+pub mod Patterns
 pub mod Rows
 pub mod Slots
 pub mod Strict
+pub mod Vectors
 pub mod Words
 pub mod Written
