@@ -1,8 +1,10 @@
 pub mod Blocks
 pub mod Chains
+pub mod Groups
 pub mod Limits
 pub mod Macroblocks
 pub mod Patterns
+pub mod Pictures
 pub mod Rows
 pub mod Slots
 pub mod Strict

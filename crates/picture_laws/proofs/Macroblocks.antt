@@ -235,3 +235,66 @@ at-vector number last m before place rise at =
           (ap (λ (s : MbKind × ℕ × ℕ × ℤ × ℤ). s.3) same ∙ predicts Across)
           (ap (λ (s : MbKind × ℕ × ℕ × ℤ × ℤ). s.4) same ∙ predicts Down);
     }
+
+vector-blocks : (before : List Element) (last : Option Macroblock) (m : Macroblock) → blocks (after before (vector_elements last m)) ≡ blocks before
+vector-blocks before last m = elim (either_way (has_vector m.kind)) [
+  | inl has ↦ ap (λ es. blocks (after before es)) (if-true (has_vector m.kind) (mvd_element Across last m ∷ mvd_element Down last m ∷ []) [] has)
+  | inr none ↦ ap (λ es. blocks (after before es)) (if-false (has_vector m.kind) (mvd_element Across last m ∷ mvd_element Down last m ∷ []) [] none)
+]
+
+component_small : (format : Format) (number : ℕ) (axis : Axis) (m : Macroblock) → ComponentFits format number axis m → (nat_abs (component axis m) ≤ 15) × (has_vector m.kind ≡ false → component axis m ≡ pos 0)
+component_small format number axis m fit = elim (either_way (has_vector m.kind)) [
+  | inl has ↦ ((subst (λ b. MatchBool b (IsFit format number axis m) (component axis m ≡ pos 0)) has fit).0, λ none. absurd (false≢true (sym none ∙ has)))
+  | inr none ↦
+      let zero_ : component axis m ≡ pos 0 = subst (λ b. MatchBool b (IsFit format number axis m) (component axis m ≡ pos 0)) none fit in
+      (subst (λ z. nat_abs z ≤ 15) (sym zero_) (omega arith), λ _. zero_)
+]
+
+pub done-behind : (format : Format) (number : ℕ) (m : Macroblock) (before : List Element) → 0 < m.address → IsValidMacroblock format number m → IsDone number m before → IsBehind number (Some m) before
+done-behind format number m before some valid done =
+    let a = component_small format number Across m valid.across in
+    let d = component_small format number Down m valid.down in
+    record {
+      at = done.at;
+      group_is = done.group_is;
+      address_is = done.address_is;
+      vector_is = done.vector_is;
+      last_is = (some, both_axes (λ axis. nat_abs (component axis m) ≤ 15) a.0 d.0, both_axes (λ axis. has_vector m.kind ≡ false → component axis m ≡ pos 0) a.1 d.1);
+    }
+
+-- the parts of a macroblock behind MTYPE
+abbrev pub body : Option Macroblock → Macroblock → List Element
+body last m = mquant_elements m.mquant ++ (vector_elements last m ++ (cbp_elements m ++ blocks_elements m.blocks))
+
+pub after-body : (before : List Element) (last : Option Macroblock) (m : Macroblock) → after before (body last m) ≡ after (after (after before (mquant_elements m.mquant)) (vector_elements last m)) (cbp_elements m ++ blocks_elements m.blocks)
+after-body before last m =
+    after-append before (mquant_elements m.mquant) (vector_elements last m ++ (cbp_elements m ++ blocks_elements m.blocks))
+    ∙ after-append (after before (mquant_elements m.mquant)) (vector_elements last m) (cbp_elements m ++ blocks_elements m.blocks)
+
+five : (a b c d e f : List Bool) → a ++ (b ++ (c ++ (d ++ (e ++ f)))) ≡ a ++ b ++ c ++ d ++ e ++ f
+five a b c d e f =
+    sym (append_assoc a b (c ++ (d ++ (e ++ f))))
+    ∙ (sym (append_assoc (a ++ b) c (d ++ (e ++ f)))
+    ∙ (sym (append_assoc (a ++ b ++ c) d (e ++ f)) ∙ sym (append_assoc (a ++ b ++ c ++ d) e f)))
+
+pub stands-mba : (format : Format) (number : ℕ) (last : Option Macroblock) (m : Macroblock) (before : List Element) → IsBehind number last before → address_of last < m.address → m.address ≤ 33 → Stands format before (Mba (m.address - address_of last))
+stands-mba format number last m before place rise most = record {
+  takes = subst (λ s. Takes s (Mba (m.address - address_of last))) (sym place.at) (inl (m.address - address_of last, (omega (arith, rise), omega (arith, most)), refl));
+  good = one_pass (nat_lt 33 (address before + (m.address - address_of last))) BadAddress (not_less 33 (address before + (m.address - address_of last)) (omega (arith, place.address_is, rise, most)));
+}
+
+pub says-macroblock : (format : Format) (number : ℕ) (last : Option Macroblock) (m : Macroblock) (before : List Element) → IsBehind number last before → address_of last < m.address → m.address ≤ 33 → IsValidMacroblock format number m → Says format before (macroblock_elements last m) (macroblock_text last m) × IsBehind number (Some m) (after before (macroblock_elements last m))
+unfolding macroblock_text
+says-macroblock format number last m before place rise most valid =
+    let head : List Element = headed before last m in
+    let b1 : List Element = after (headed before last m) (mquant_elements m.mquant) in
+    let q = quantiser_says format (headed before last m) (has_mquant m.kind) m.kind m.mquant refl refl valid.mquant in
+    let v_at = at-vector number last m before place rise q.1 in
+    let v = says-vector format (after (headed before last m) (mquant_elements m.mquant)) number last m place.last_is v_at valid.across valid.down in
+    let count : blocks (after (after (headed before last m) (mquant_elements m.mquant)) (vector_elements last m)) ≡ cond (is_intra m.kind) 6 0 = vector-blocks (after (headed before last m) (mquant_elements m.mquant)) last m ∙ mquant-blocks (headed before last m) m.mquant in
+    let r = says-rest format (after (after (headed before last m) (mquant_elements m.mquant)) (vector_elements last m)) number m v.1 count valid.six valid.blocks in
+    let parts = says-append format (headed before last m) (mquant_elements m.mquant) _ (mquant_text m.mquant) _ q.0 (says-append format (after (headed before last m) (mquant_elements m.mquant)) (vector_elements last m) _ (mvd_text last m) _ v.0 r.0) in
+    let mtype : Stands format (Mba (m.address - address_of last) ∷ before) (Mtype m.kind) = record { takes = (m.kind, refl); good = refl } in
+    let whole = says-cons format before (Mba (m.address - address_of last)) (Mtype m.kind ∷ body last m) (mba_word last m) _ (stands-mba format number last m before place rise most) refl (says-cons format (Mba (m.address - address_of last) ∷ before) (Mtype m.kind) (body last m) (mtype_word m.kind) _ mtype refl parts) in
+    (says-text format before (macroblock_elements last m) _ _ (five (mba_word last m) (mtype_word m.kind) (mquant_text m.mquant) (mvd_text last m) (cbp_text m) (flat_map sent_block_text m.blocks)) whole,
+     done-behind format number m (after before (macroblock_elements last m)) (omega (arith, rise)) valid (subst (λ b. IsDone number m b) (sym (after-body (headed before last m) last m)) r.1))

@@ -2,10 +2,16 @@
 //! function does nothing; its contract is the law, whose words stand in `specs/`.
 #![tactic(auto)]
 
-ghost use Rattle.picture_laws.specs.Laws.{TextIsAccepted};
+ghost use Rattle.picture_laws.specs.Laws.{TextIsAccepted, AcceptedIsRead};
 
 /// The strict text of a valid picture within the limit is accepted with that picture.
 pub fn text_is_accepted()
     ensures { TextIsAccepted }
+{
+}
+
+/// Accepted bits are good elements up to the lawful end, and these tell the picture.
+pub fn accepted_text_is_read()
+    ensures { AcceptedIsRead }
 {
 }
