@@ -5,6 +5,7 @@ pub mod Limits
 pub mod Macroblocks
 pub mod Patterns
 pub mod Pictures
+pub mod ReadBlocks
 pub mod Rows
 pub mod Slots
 pub mod Strict
