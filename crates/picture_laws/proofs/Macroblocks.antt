@@ -236,7 +236,7 @@ at-vector number last m before place rise at =
           (ap (λ (s : MbKind × ℕ × ℕ × ℤ × ℤ). s.4) same ∙ predicts Down);
     }
 
-vector-blocks : (before : List Element) (last : Option Macroblock) (m : Macroblock) → blocks (after before (vector_elements last m)) ≡ blocks before
+pub vector-blocks : (before : List Element) (last : Option Macroblock) (m : Macroblock) → blocks (after before (vector_elements last m)) ≡ blocks before
 vector-blocks before last m = elim (either_way (has_vector m.kind)) [
   | inl has ↦ ap (λ es. blocks (after before es)) (if-true (has_vector m.kind) (mvd_element Across last m ∷ mvd_element Down last m ∷ []) [] has)
   | inr none ↦ ap (λ es. blocks (after before es)) (if-false (has_vector m.kind) (mvd_element Across last m ∷ mvd_element Down last m ∷ []) [] none)
