@@ -43,7 +43,7 @@ pub mquant-blocks : (before : List Element) (q : Option ℕ) → blocks (after b
 mquant-blocks before None = refl
 mquant-blocks before (Some q) = refl
 
-quantiser_says : (format : Format) (before : List Element) (b : Bool) (k : MbKind) (q : Option ℕ) → slot before ≡ cond b AtMquant (vector_slot k) → kind before ≡ k → MatchBool b (IsSomeAnd q IsQuantiser) (IsNone q) → Says format before (mquant_elements q) (mquant_text q) × (slot (after before (mquant_elements q)) ≡ vector_slot k)
+pub quantiser_says : (format : Format) (before : List Element) (b : Bool) (k : MbKind) (q : Option ℕ) → slot before ≡ cond b AtMquant (vector_slot k) → kind before ≡ k → MatchBool b (IsSomeAnd q IsQuantiser) (IsNone q) → Says format before (mquant_elements q) (mquant_text q) × (slot (after before (mquant_elements q)) ≡ vector_slot k)
 quantiser_says format before true k None at is h = absurd h
 quantiser_says format before true k (Some q) at is h =
     let stands : Stands format before (Mquant q) = record {

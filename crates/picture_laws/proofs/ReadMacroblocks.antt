@@ -23,7 +23,7 @@ use Rattle.picture_laws.proofs.Chains.{Stands}
 use Rattle.picture_laws.proofs.Vectors.{IsLast, predictor-small, range-in, stays-back, pair-back}
 use Rattle.picture_laws.proofs.Patterns.{trues, ones-trues, trues-some, sent-trues, intra-blocks, coded-blocks, none-blocks, sent-any, not-both}
 use Rattle.picture_laws.proofs.Blocks.{one_passed, two_passed, not_equal, sent, AreBlocksOf, state}
-use Rattle.picture_laws.proofs.Macroblocks.{says-vector, says-rest, IsAtVector, IsBehindVector, IsBehind, headed, at-vector, mquant-blocks, vector-blocks, body}
+use Rattle.picture_laws.proofs.Macroblocks.{quantiser_says, says-vector, says-rest, IsAtVector, IsBehindVector, IsBehind, headed, at-vector, mquant-blocks, vector-blocks, body}
 use Rattle.picture_laws.proofs.ReadBlocks.{IsRest, rest-after, rest-step, IsMore, rest-more, ReadsBlocks, read-blocks}
 use Rattle.vlc_codes.proofs.WordLaws.{either_way, if-true, if-false}
 
@@ -201,3 +201,76 @@ read-rest format before es number m place count r = elim (either_way (has_cbp m.
           place.at ∙ (ap (λ b. cond b AtCbp (block_slot m.kind (cond (is_intra m.kind) 6 0))) none ∙ (ap (block_slot m.kind) (sym flags) ∙ ap (λ k. block_slot k (trues (replicate 6 (is_intra (kind before))))) (sym place.kind_is))) in
       rest_alone m es (is_intra (kind before)) none same (read-blocks format before es (replicate 6 (is_intra (kind before))) at (count ∙ sym flags) r)
 ]
+
+-- ---- the macroblock
+
+pub record ReadsMacroblock (format : Format) (number : ℕ) (last : Option Macroblock) (es : List Element) : Type 0 where
+  pub m : Macroblock
+  pub rest : List Element
+  pub is : es ≡ macroblock_elements last m ++ rest
+  pub valid : IsValidMacroblock format number m
+  pub rise : address_of last < m.address
+  pub most : m.address ≤ 33
+
+vector_same : (last : Option Macroblock) (m : Macroblock) (bs : List (Option Block)) → vector_elements last m ≡ vector_elements last (with_blocks m bs)
+vector_same last m bs =
+    ap (λ p. if has_vector m.kind then Mvd Across (pair_in (m.across -ℤ p) mvd_table) ∷ mvd_element Down last m ∷ [] else []) (predictor_same Across last m (with_blocks m bs) refl)
+    ∙ ap (λ p. if has_vector m.kind then mvd_element Across last (with_blocks m bs) ∷ Mvd Down (pair_in (m.down -ℤ p) mvd_table) ∷ [] else []) (predictor_same Down last m (with_blocks m bs) refl)
+
+-- a macroblock so far: its address, kind and MQUANT
+abbrev begun_macroblock : ℕ → MbKind → Option ℕ → Macroblock
+begun_macroblock at k q = record { address = at; kind = k; mquant = q; across = pos 0; down = pos 0; blocks = [] }
+
+join3 : (a b c rest : List Element) → a ++ (b ++ (c ++ rest)) ≡ (a ++ (b ++ c)) ++ rest
+join3 a b c rest = sym (append_assoc a (b ++ c) rest ∙ ap (λ t. a ++ t) (append_assoc b c rest))
+
+built : (format : Format) (number : ℕ) (last : Option Macroblock) (es : List Element) (m : Macroblock) (left : List Element) → es ≡ Mba (m.address - address_of last) ∷ (Mtype m.kind ∷ (mquant_elements m.mquant ++ left)) → MquantFits m.kind m.mquant → address_of last < m.address → m.address ≤ 33 → (v : ReadsVector format number last m left) → (r : ReadsRest (with_vector m v.a v.d) v.rest) → ReadsMacroblock format number last es
+built format number last es m left is mquant rise most v r =
+    let n : Macroblock = with_blocks (with_vector m v.a v.d) r.bs in
+    let vec : List Element = vector_elements last (with_vector m v.a v.d) in
+    let tail : List Element = cbp_elements (with_blocks (with_vector m v.a v.d) r.bs) ++ blocks_elements r.bs in
+    record {
+      m = with_blocks (with_vector m v.a v.d) r.bs;
+      rest = r.rest;
+      is = is ∙ ap (λ t. Mba (m.address - address_of last) ∷ (Mtype m.kind ∷ t))
+          (ap (λ t. mquant_elements m.mquant ++ t) (v.is
+            ∙ (ap (λ t. vector_elements last (with_vector m v.a v.d) ++ t) r.is
+            ∙ ap (λ t. t ++ ((cbp_elements (with_blocks (with_vector m v.a v.d) r.bs) ++ blocks_elements r.bs) ++ r.rest)) (vector_same last (with_vector m v.a v.d) r.bs)))
+          ∙ join3 (mquant_elements m.mquant) (vector_elements last (with_blocks (with_vector m v.a v.d) r.bs)) (cbp_elements (with_blocks (with_vector m v.a v.d) r.bs) ++ blocks_elements r.bs) r.rest);
+      valid = record { mquant = mquant; across = v.across; down = v.down; six = r.six; blocks = r.fits };
+      rise = rise;
+      most = most;
+    }
+
+-- behind the vector
+read_behind : (format : Format) (before all : List Element) (number : ℕ) (last : Option Macroblock) (m : Macroblock) (es : List Element) → IsBehind number last before → address_of last < m.address → m.address ≤ 33 → all ≡ Mba (m.address - address_of last) ∷ (Mtype m.kind ∷ (mquant_elements m.mquant ++ es)) → MquantFits m.kind m.mquant → IsRest format (after (headed before last m) (mquant_elements m.mquant)) es → slot (after (headed before last m) (mquant_elements m.mquant)) ≡ vector_slot m.kind → (v : ReadsVector format number last m es) → ReadsMacroblock format number last all
+read_behind format before all number last m es place rise most all_is mquant r at v =
+    let b1 : List Element = after (headed before last m) (mquant_elements m.mquant) in
+    let place2 = at-vector number last (with_vector m v.a v.d) before place rise at in
+    let says = says-vector format (after (headed before last m) (mquant_elements m.mquant)) number last (with_vector m v.a v.d) place.last_is place2 v.across v.down in
+    let left = rest-after format (after (headed before last m) (mquant_elements m.mquant)) es (vector_elements last (with_vector m v.a v.d)) v.rest r v.is in
+    let count : blocks (after (after (headed before last m) (mquant_elements m.mquant)) (vector_elements last (with_vector m v.a v.d))) ≡ cond (is_intra m.kind) 6 0 = vector-blocks (after (headed before last m) (mquant_elements m.mquant)) last (with_vector m v.a v.d) ∙ mquant-blocks (headed before last m) m.mquant in
+    built format number last all m es all_is mquant rise most v (read-rest format (after (after (headed before last m) (mquant_elements m.mquant)) (vector_elements last (with_vector m v.a v.d))) v.rest number (with_vector m v.a v.d) says.1 count left)
+
+-- behind MTYPE
+read_headed : (format : Format) (before es all : List Element) (number : ℕ) (last : Option Macroblock) (at : ℕ) (k : MbKind) → IsBehind number last before → address_of last < at → at ≤ 33 → all ≡ Mba (at - address_of last) ∷ (Mtype k ∷ es) → IsRest format (headed before last (begun_macroblock at k None)) es → (q : ReadsMquant (has_mquant k) es) → ReadsMacroblock format number last all
+read_headed format before es all number last at k place rise most all_is r q =
+    let m : Macroblock = begun_macroblock at k q.q in
+    let b0 : List Element = headed before last (begun_macroblock at k None) in
+    let b1 : List Element = after (headed before last (begun_macroblock at k None)) (mquant_elements q.q) in
+    let left = rest-after format (headed before last (begun_macroblock at k None)) es (mquant_elements q.q) q.rest r q.is in
+    let at_vector = (quantiser_says format (headed before last (begun_macroblock at k None)) (has_mquant k) k q.q refl refl q.valid).1 in
+    let place1 = at-vector number last (begun_macroblock at k q.q) before place rise at_vector in
+    let v = read-vector format (after (headed before last (begun_macroblock at k None)) (mquant_elements q.q)) q.rest number last (begun_macroblock at k q.q) place.last_is place1 left in
+    read_behind format before all number last (begun_macroblock at k q.q) q.rest place rise most (all_is ∙ ap (λ t. Mba (at - address_of last) ∷ (Mtype k ∷ t)) q.is) q.valid left at_vector v
+
+pub read-macroblock : (format : Format) (before es : List Element) (number : ℕ) (last : Option Macroblock) (n : ℕ) → IsBehind number last before → IsStep n → Stands format before (Mba n) → IsRest format (Mba n ∷ before) es → ReadsMacroblock format number last (Mba n ∷ es)
+read-macroblock format before es number last n place step_ stands r =
+    let most : address before + n ≤ 33 = ltb-false 33 (address before + n) (one_passed (nat_lt 33 (address before + n)) BadAddress stands.good) in
+    let at : ℕ = address_of last + n in
+    let d : n ≡ address_of last + n - address_of last = omega arith in
+    let r2 : IsRest format (Mba (address_of last + n - address_of last) ∷ before) es = subst (λ k. IsRest format (Mba k ∷ before) es) d r in
+    let more = rest-more format (Mba (address_of last + n - address_of last) ∷ before) es AtMtype refl refl r2 in
+    let s = rest-step format (Mba (address_of last + n - address_of last) ∷ before) more.first (Mtype more.takes.0) more.rest more.left more.takes.1 in
+    let q = read-mquant format (Mtype more.takes.0 ∷ Mba (address_of last + n - address_of last) ∷ before) more.rest (has_mquant more.takes.0) more.takes.0 refl s.1 in
+    read_headed format before more.rest (Mba n ∷ es) number last (address_of last + n) more.takes.0 place (omega (arith, step_.0)) (omega (arith, most, place.address_is)) (ap (λ k. Mba k ∷ es) d ∙ ap (λ t. Mba (address_of last + n - address_of last) ∷ t) (more.is ∙ ap (λ x. x ∷ more.rest) more.takes.1)) s.1 q
