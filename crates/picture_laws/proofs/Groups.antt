@@ -29,7 +29,7 @@ use Rattle.vlc_codes.proofs.WordLaws.{either_way, if-true, if-false, and_left, a
 
 -- ---- stuffing
 
-stuffed_behind : (number : ℕ) (last : Option Macroblock) (before : List Element) → IsBehind number last before → IsBehind number last (Stuffing ∷ before)
+pub stuffed_behind : (number : ℕ) (last : Option Macroblock) (before : List Element) → IsBehind number last before → IsBehind number last (Stuffing ∷ before)
 stuffed_behind number last before place = record {
   at = refl;
   group_is = place.group_is;

@@ -6,6 +6,7 @@ pub mod Macroblocks
 pub mod Patterns
 pub mod Pictures
 pub mod ReadBlocks
+pub mod ReadGroups
 pub mod ReadMacroblocks
 pub mod Rows
 pub mod Slots

@@ -221,7 +221,7 @@ vector_same last m bs =
 abbrev begun_macroblock : ℕ → MbKind → Option ℕ → Macroblock
 begun_macroblock at k q = record { address = at; kind = k; mquant = q; across = pos 0; down = pos 0; blocks = [] }
 
-join3 : (a b c rest : List Element) → a ++ (b ++ (c ++ rest)) ≡ (a ++ (b ++ c)) ++ rest
+pub join3 : (a b c rest : List Element) → a ++ (b ++ (c ++ rest)) ≡ (a ++ (b ++ c)) ++ rest
 join3 a b c rest = sym (append_assoc a (b ++ c) rest ∙ ap (λ t. a ++ t) (append_assoc b c rest))
 
 built : (format : Format) (number : ℕ) (last : Option Macroblock) (es : List Element) (m : Macroblock) (left : List Element) → es ≡ Mba (m.address - address_of last) ∷ (Mtype m.kind ∷ (mquant_elements m.mquant ++ left)) → MquantFits m.kind m.mquant → address_of last < m.address → m.address ≤ 33 → (v : ReadsVector format number last m left) → (r : ReadsRest (with_vector m v.a v.d) v.rest) → ReadsMacroblock format number last es
