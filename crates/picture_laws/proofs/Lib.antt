@@ -8,6 +8,7 @@ pub mod Pictures
 pub mod ReadBlocks
 pub mod ReadGroups
 pub mod ReadMacroblocks
+pub mod ReadPictures
 pub mod Rows
 pub mod Slots
 pub mod Strict

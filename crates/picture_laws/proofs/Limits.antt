@@ -115,7 +115,7 @@ verdict_stop : {E : Type 0} (e : E) (n : ℕ) (o : Option Why) → verdict e n o
 verdict_stop e n None h = h
 verdict_stop e n (Some why) h = absurd cc
 
-judged_stop : {E : Type 0} (judge : E → ℕ → Option Why) (s : Step E) → judged judge s ≡ Stop → s ≡ Stop
+pub judged_stop : {E : Type 0} (judge : E → ℕ → Option Why) (s : Step E) → judged judge s ≡ Stop → s ≡ Stop
 judged_stop judge (Good e n) h = verdict_stop e n (judge e n) h
 judged_stop judge Stop h = refl
 judged_stop judge (Bad why) h = absurd cc

@@ -30,11 +30,11 @@ use Rattle.vlc_codes.proofs.WordLaws.{either_way, if-true, if-false}
 
 -- ---- the groups' numbers
 
-abbrev Rising : Format → ℕ → List ℕ → Type 0
+abbrev pub Rising : Format → ℕ → List ℕ → Type 0
 Rising format low [] = Unit {0}
 Rising format low (n ∷ ns) = (is_group format n ≡ true) × (low < n) × Rising format n ns
 
-numbers_rise : (format : Format) → Rising format 0 (group_numbers format)
+pub numbers_rise : (format : Format) → Rising format 0 (group_numbers format)
 numbers_rise Qcif = (refl, omega arith, (refl, omega arith, (refl, omega arith, tt)))
 numbers_rise Cif = (refl, omega arith, (refl, omega arith, (refl, omega arith, (refl, omega arith, (refl, omega arith, (refl, omega arith, (refl, omega arith, (refl, omega arith, (refl, omega arith, (refl, omega arith, (refl, omega arith, (refl, omega arith, tt))))))))))))
 
@@ -42,7 +42,7 @@ rise_groups : (format : Format) (low : ℕ) (gs : List Group) → Rising format 
 rise_groups format low [] h = tt
 rise_groups format low (g ∷ gs) h = (h.0, h.1, rise_groups format g.number gs h.2)
 
-take_all : {A : Type 0} (xs : List A) → take (length xs) xs ≡ xs
+pub take_all : {A : Type 0} (xs : List A) → take (length xs) xs ≡ xs
 take_all [] = refl
 take_all (x ∷ xs) = ap (λ t. x ∷ t) (take_all xs)
 
@@ -92,7 +92,7 @@ type_long : (format : Format) (free : FreeBits) → length (type_text format fre
 type_long Qcif free = refl
 type_long Cif free = refl
 
-says-header : (format : Format) (free : FreeBits) (spares : List ℕ) (tr : ℕ) → tr < 32 → Says format [] (header_elements format free spares tr) (header_text format free spares tr) × IsAtGroup 0 (after [] (header_elements format free spares tr))
+pub says-header : (format : Format) (free : FreeBits) (spares : List ℕ) (tr : ℕ) → tr < 32 → Says format [] (header_elements format free spares tr) (header_text format free spares tr) × IsAtGroup 0 (after [] (header_elements format free spares tr))
 unfolding header_text
 says-header format free spares tr fits =
     let p : ℕ = number (type_text format free) in

@@ -20,6 +20,7 @@ use Rattle.picture_laws.proofs.Chains.{Stands, Chain}
 use Rattle.picture_laws.proofs.Blocks.{all-cons, all-nil, one_passed, not_equal, state}
 use Rattle.picture_laws.proofs.Macroblocks.{IsBehind, says-macroblock, both_axes}
 use Rattle.picture_laws.proofs.Groups.{says-gspares, gspares-state, says-sent, IsAtGroup, IsBehindGroup, stuffed_behind, among_numbers}
+use Rattle.picture_laws.proofs.Pictures.{Rising}
 use Rattle.picture_laws.proofs.ReadBlocks.{IsRest, rest-after, rest-step, IsMore, rest-more}
 use Rattle.picture_laws.proofs.ReadMacroblocks.{ReadsMacroblock, read-macroblock, join3}
 use Rattle.vlc_codes.proofs.WordLaws.{either_way, and_left, and_right}
@@ -218,15 +219,11 @@ read-group format before es n =
 
 -- ---- all groups
 
-abbrev pub Rises : Format → ℕ → List ℕ → Type 0
-Rises format low [] = Unit {0}
-Rises format low (n ∷ ns) = (is_group format n ≡ true) × (low < n) × Rises format n ns
-
 -- each group above `low` is one of these
 abbrev pub Covers : Format → ℕ → List ℕ → Type 0
 Covers format low ns = (n : ℕ) → is_group format n ≡ true → low < n → Among n ns
 
-rises_above : (format : Format) (low : ℕ) (ns : List ℕ) (n : ℕ) → Rises format low ns → Among n ns → low < n
+rises_above : (format : Format) (low : ℕ) (ns : List ℕ) (n : ℕ) → Rising format low ns → Among n ns → low < n
 rises_above format low [] n rise h = absurd h
 rises_above format low (m ∷ ns) n rise h = elim h [
   | inl same ↦ omega (arith, same, rise.1)
@@ -291,7 +288,7 @@ after_group format before es low place r n above g =
 higher : (low high : ℕ) (before : List Element) → low ≤ high → IsAtGroup low before → IsAtGroup high before
 higher low high before h place = record { at = place.at; group_is = omega (arith, h, place.group_is) }
 
-pub read-groups : (format : Format) (before es : List Element) (low : ℕ) (numbers : List ℕ) → IsAtGroup low before → IsRest format before es → Rises format low numbers → Covers format low numbers → OpensAbove format low before es → ReadsGroups format numbers es
+pub read-groups : (format : Format) (before es : List Element) (low : ℕ) (numbers : List ℕ) → IsAtGroup low before → IsRest format before es → Rising format low numbers → Covers format low numbers → OpensAbove format low before es → ReadsGroups format numbers es
 read-groups format before es low [] place r rise covers opening = elim opening [
   | inl none ↦ record { forms = []; gs = []; is = none; fits = tt; numbers_are = refl; valid = all-nil (IsValidGroup format) }
   | inr n ↦ absurd (covers n.0.number n.0.known n.1)

@@ -2,7 +2,7 @@
 //! function does nothing; its contract is the law, whose words stand in `specs/`.
 #![tactic(auto)]
 
-ghost use Rattle.picture_laws.specs.Laws.{TextIsAccepted, AcceptedIsRead};
+ghost use Rattle.picture_laws.specs.Laws.{TextIsAccepted, AcceptedIsRead, WalkHasRecord};
 
 /// The strict text of a valid picture within the limit is accepted with that picture.
 pub fn text_is_accepted()
@@ -13,5 +13,11 @@ pub fn text_is_accepted()
 /// Accepted bits are good elements up to the lawful end, and these tell the picture.
 pub fn accepted_text_is_read()
     ensures { AcceptedIsRead }
+{
+}
+
+/// Good elements up to the lawful end tell a picture, and the bits are accepted with it.
+pub fn walk_has_a_record()
+    ensures { WalkHasRecord }
 {
 }
