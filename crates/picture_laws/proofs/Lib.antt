@@ -1,7 +1,9 @@
+pub mod Answers
 pub mod Blocks
 pub mod Chains
 pub mod Groups
 pub mod Limits
+pub mod Longs
 pub mod Macroblocks
 pub mod Patterns
 pub mod Pictures

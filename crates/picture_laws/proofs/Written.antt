@@ -85,13 +85,17 @@ written_step n is rest =
     let f = found_step n is in
     written_word (rows AtMacroblock) (rows_free AtMacroblock) f.0.0 (Mba n) (among-left _ mba_rows (gbsc_row ∷ []) (among-left _ (table_rows mba_table Mba) _ (subst (λ k. Among (word_row f.0.0 (Mba k)) (table_rows mba_table Mba)) f.3 (among-mapped (λ row. word_row row.0 (Mba row.1)) f.0 mba_table f.1)))) (word_of (λ k. k == n) mba_table) (sym f.2) rest
 
+pub found_pattern : (n : ℕ) → IsPattern n → (row : List Bool × ℕ) × Among row cbp_table × (word_of (λ k. k == n) cbp_table ≡ row.0) × (row.1 ≡ n)
+found_pattern n is =
+    let one : n - 1 + 1 ≡ n = omega arith in
+    let f = found_in (λ k. k == n) cbp_table (ap (λ m. list_any (λ row. row.1 == m) cbp_table) (sym one) ∙ below_all (λ n. list_any (λ row. row.1 == n + 1) cbp_table) 63 (n - 1) patterns_found (omega arith)) in
+    (f.0, f.1, f.3, eqb-true f.0.1 n f.2)
+
 written_pattern : (n : ℕ) → IsPattern n → (rest : List Bool) → read (rows AtCbp) (word_of (λ k. k == n) cbp_table ++ rest) ≡ Good (Cbp n) (length (word_of (λ k. k == n) cbp_table))
 unfolding rows
 written_pattern n is rest =
-    let one : n - 1 + 1 ≡ n = omega arith in
-    let f = found_in (λ k. k == n) cbp_table (ap (λ m. list_any (λ row. row.1 == m) cbp_table) (sym one) ∙ below_all (λ n. list_any (λ row. row.1 == n + 1) cbp_table) 63 (n - 1) patterns_found (omega arith)) in
-    let same : f.0.1 ≡ n = eqb-true f.0.1 n f.2 in
-    written_word (rows AtCbp) (rows_free AtCbp) f.0.0 (Cbp n) (subst (λ k. Among (word_row f.0.0 (Cbp k)) (table_rows cbp_table Cbp)) same (among-mapped (λ row. word_row row.0 (Cbp row.1)) f.0 cbp_table f.1)) (word_of (λ k. k == n) cbp_table) (sym f.3) rest
+    let f = found_pattern n is in
+    written_word (rows AtCbp) (rows_free AtCbp) f.0.0 (Cbp n) (subst (λ k. Among (word_row f.0.0 (Cbp k)) (table_rows cbp_table Cbp)) f.3 (among-mapped (λ row. word_row row.0 (Cbp row.1)) f.0 cbp_table f.1)) (word_of (λ k. k == n) cbp_table) (sym f.2) rest
 
 written_kind : (k : MbKind) (rest : List Bool) → read (rows AtMtype) (mtype_word k ++ rest) ≡ Good (Mtype k) (length (mtype_word k))
 unfolding rows mtype_table
