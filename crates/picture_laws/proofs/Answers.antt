@@ -13,9 +13,10 @@ use Rattle.pel_model.specs.Text.{coefficient_word, mtype_word, pair_word, is_neg
 use Rattle.pel_model.specs.Accepts.{Accepts}
 use Rattle.pel_model.specs.Walk.{Step, Good, Stop, Bad, skipped, start, after, Goes, Reads, FirstFault}
 use Rattle.pel_model.specs.Grammar.{Element, Slot, slot, next, picture}
-use Rattle.pel_model.proofs.Walks.{same_walk, one_answer}
-use Rattle.picture_laws.specs.Laws.{HasRecordOrFault, NeverBoth, OneFault}
-use Rattle.picture_laws.proofs.Rows.{IsRead, read-is}
+use Rattle.pel_model.proofs.Walks.{same_walk, one_answer, one_reading}
+use Rattle.picture_laws.specs.Laws.{HasRecordOrFault, NeverBoth, OneRecord, OneFault}
+use Rattle.picture_laws.specs.Elements.{Tells}
+use Rattle.picture_laws.proofs.Told.{told-one}
 use Rattle.picture_laws.proofs.Slots.{word_at}
 use Rattle.picture_laws.proofs.Chains.{next-is}
 use Rattle.picture_laws.proofs.Limits.{picture-next}
@@ -82,3 +83,11 @@ record-or-fault format bits =
       | inl stop ↦ let w = walk-record format bits e.es (e.end, e.walk, stop) in inl (w.0, w.2)
       | inr bad ↦ inr (e.end.1, bad.0, (e.es, e.end, e.walk, bad.1, refl))
     ]
+
+-- two pictures of the same bits are one
+pub one-record : OneRecord
+one-record format bits p q a b =
+    let x = accepted-read format bits p a in
+    let y = accepted-read format bits q b in
+    let same : x.0 ≡ y.0 = one_reading (picture format) bits x.0 y.0 x.1 y.1 in
+    told-one format y.0 p q (subst (λ es. Tells format es p) same x.2) a.1.valid y.2 b.1.valid

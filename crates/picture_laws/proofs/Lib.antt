@@ -14,6 +14,7 @@ pub mod ReadPictures
 pub mod Rows
 pub mod Slots
 pub mod Strict
+pub mod Told
 pub mod Vectors
 pub mod Words
 pub mod Written

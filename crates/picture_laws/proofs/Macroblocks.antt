@@ -242,7 +242,7 @@ vector-blocks before last m = elim (either_way (has_vector m.kind)) [
   | inr none ↦ ap (λ es. blocks (after before es)) (if-false (has_vector m.kind) (mvd_element Across last m ∷ mvd_element Down last m ∷ []) [] none)
 ]
 
-component_small : (format : Format) (number : ℕ) (axis : Axis) (m : Macroblock) → ComponentFits format number axis m → (nat_abs (component axis m) ≤ 15) × (has_vector m.kind ≡ false → component axis m ≡ pos 0)
+pub component_small : (format : Format) (number : ℕ) (axis : Axis) (m : Macroblock) → ComponentFits format number axis m → (nat_abs (component axis m) ≤ 15) × (has_vector m.kind ≡ false → component axis m ≡ pos 0)
 component_small format number axis m fit = elim (either_way (has_vector m.kind)) [
   | inl has ↦ ((subst (λ b. MatchBool b (IsFit format number axis m) (component axis m ≡ pos 0)) has fit).0, λ none. absurd (false≢true (sym none ∙ has)))
   | inr none ↦

@@ -45,7 +45,7 @@ read-mquant format before es false k at r = record { q = None; rest = es; is = r
 
 -- ---- MVD
 
-predictor_same : (axis : Axis) (last : Option Macroblock) (m n : Macroblock) → m.address ≡ n.address → predictor axis last m ≡ predictor axis last n
+pub predictor_same : (axis : Axis) (last : Option Macroblock) (m n : Macroblock) → m.address ≡ n.address → predictor axis last m ≡ predictor axis last n
 predictor_same axis None m n same = refl
 predictor_same axis (Some l) m n same = ap (λ (a : ℕ). cond ((a == 12) || (a == 23) || not (a == l.address + 1) || not (has_vector l.kind)) (pos 0) (component axis l)) same
 
@@ -218,7 +218,7 @@ vector_same last m bs =
     ∙ ap (λ p. if has_vector m.kind then mvd_element Across last (with_blocks m bs) ∷ Mvd Down (pair_in (m.down -ℤ p) mvd_table) ∷ [] else []) (predictor_same Down last m (with_blocks m bs) refl)
 
 -- a macroblock so far: its address, kind and MQUANT
-abbrev begun_macroblock : ℕ → MbKind → Option ℕ → Macroblock
+abbrev pub begun_macroblock : ℕ → MbKind → Option ℕ → Macroblock
 begun_macroblock at k q = record { address = at; kind = k; mquant = q; across = pos 0; down = pos 0; blocks = [] }
 
 pub join3 : (a b c rest : List Element) → a ++ (b ++ (c ++ rest)) ≡ (a ++ (b ++ c)) ++ rest
