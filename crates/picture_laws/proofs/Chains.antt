@@ -84,7 +84,7 @@ or_here _ found e n h = h
 stop_good : {E : Type 0} (e : E) (n : ℕ) → Stop ≡ Good e n → ⊥
 stop_good e n h = cc
 
-slot_good : (s : Slot) (left : List Bool) (e : Element) (n : ℕ) → at_slot s left ≡ Good e n → (read (rows s) left ≡ Good e n) × ((may_end s && is_end left) ≡ false)
+pub slot_good : (s : Slot) (left : List Bool) (e : Element) (n : ℕ) → at_slot s left ≡ Good e n → (read (rows s) left ≡ Good e n) × ((may_end s && is_end left) ≡ false)
 slot_good s left e n h = elim (either_way (may_end s && is_end left)) [
   | inl end ↦ absurd (stop_good e n (sym (if-true (may_end s && is_end left) Stop (or_no_start s (read (rows s) left)) end) ∙ h))
   | inr on ↦ (or_good s (read (rows s) left) e n (sym (if-false (may_end s && is_end left) Stop (or_no_start s (read (rows s) left)) on) ∙ h), on)

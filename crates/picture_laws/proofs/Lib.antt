@@ -1,6 +1,7 @@
 pub mod Answers
 pub mod Blocks
 pub mod Chains
+pub mod Cuts
 pub mod Groups
 pub mod Limits
 pub mod Longs

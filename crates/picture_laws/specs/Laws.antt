@@ -1,5 +1,5 @@
 -- The laws that join the two accounts of a coded picture: its record and texts, and its elements in their order.
-use Rattle.std.specs.Prelude.{◌≡◌, ℕ, ◌+◌, ◌-◌, ◌*◌, ◌<◌, ◌≤◌, Bool, true, false, List, [], ◌∷◌, ◌++◌, length, take, ◌⊎◌}
+use Rattle.std.specs.Prelude.{◌≡◌, ℕ, ◌+◌, ◌-◌, ◌*◌, ◌<◌, ◌≤◌, Bool, true, false, List, [], ◌∷◌, ◌++◌, length, take, drop, ◌⊎◌}
 use Rattle.pel_model.specs.declared.Format.{Format}
 use Rattle.pel_model.specs.declared.Why.{Why}
 use Rattle.pel_model.specs.declared.Why.TheVariants.{Cut, TooLong}
@@ -64,6 +64,19 @@ StandInside before (e ∷ es) = (may_end (slot before) ≡ false) × StandInside
 -- the k bits from a place on are those that the limit leaves
 abbrev pub Leaves : Format → List Element → ℕ → ℕ → Type 0
 Leaves format before place k = place + k + 26 * (group_count format - begun before) ≡ limit format
+
+-- good elements that end within the first k bits are good over these
+abbrev pub GoodOverFirst : Type 0
+GoodOverFirst =
+    (format : Format) (before : List Element) (r end : List Bool × ℕ) (es : List Element) (k : ℕ)
+    → Goes (next format) before r es end → end.1 ≤ r.1 + k
+    → Goes (next format) before (take k r.0, r.1) es (take (r.1 + k - end.1) end.0, end.1)
+
+-- elements that are good over the first k bits are good
+abbrev pub GoodOverAll : Type 0
+GoodOverAll =
+    (format : Format) (before : List Element) (r end : List Bool × ℕ) (es : List Element) (k : ℕ)
+    → Goes (next format) before (take k r.0, r.1) es end → Goes (next format) before r es (end.0 ++ drop k r.0, end.1)
 
 -- good elements of a macroblock that end within the limit are good elements of the picture
 abbrev pub WithinTheLimit : Type 0
