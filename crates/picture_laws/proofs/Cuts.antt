@@ -11,12 +11,12 @@ use Rattle.pel_model.specs.Codes.{begins, is_prefix_free}
 use Rattle.pel_model.specs.Valid.{limit, group_count}
 use Rattle.pel_model.specs.Walk.{Step, Good, Stop, Bad, Row, skipped, after, Goes, read, word_at, whole_word, cause, judged}
 use Rattle.pel_model.specs.Grammar.{Element, Gbsc, Slot, AtPsc, AtTr, AtPtype, AtPei, AtPspare, AtGroup, AtGn, AtGquant, AtGei, AtGspare, AtMacroblock, AtMtype, AtMquant, AtMvd, AtCbp, AtDc, AtFirst, AtCoefficient, slot, begun, rows, faults, first_why, may_end, is_end, or_no_start, at_slot, next, picture, counted}
-use Rattle.picture_laws.specs.Laws.{StandInside, Leaves, GoodOverFirst, GoodOverAll, WithinTheLimit, PastTheLimit, TooLongAt}
+use Rattle.picture_laws.specs.Laws.{StandInside, Leaves, GoodOverFirst, GoodOverAll, WithinTheLimit, PastTheLimit, TooLongAt, JudgedByTheLimit}
 use Rattle.picture_laws.proofs.Rows.{Among, IsRead, read-is, codes_of, find-row, drop-front, take-front, take-drop-append, among-mapped}
 use Rattle.picture_laws.proofs.Slots.{Takes, rows_free}
 use Rattle.picture_laws.proofs.Words.{IsWord}
 use Rattle.picture_laws.proofs.Chains.{Stands, word_in, words, next-is, next-good, IsWalk, goes-walk, walk-goes, judged_good, slot_good}
-use Rattle.picture_laws.proofs.Limits.{picture-good, picture-long}
+use Rattle.picture_laws.proofs.Limits.{picture-good, picture-long, picture-stops, picture-bad}
 use Rattle.vlc_codes.proofs.WordLaws.{begins_length, begins_both, either_way, if-true, if-false, and_left, and_right, whole-cut}
 
 -- ---- lists
@@ -284,3 +284,11 @@ past-the-limit format before r end (e ∷ es) k leaves inside goes past = elim (
       let one = one_within format before r e goes.0 k leaves inside.0 goes.1 few in
       long_later format before r e goes.0 k inside.0 goes.1 few one.0 (past-the-limit format (e ∷ before) (skipped goes.0 r) end es (k - goes.0) one.1 inside.1 goes.2 (omega (arith, few, past)))
 ]
+
+pub judged-by-the-limit : JudgedByTheLimit
+judged-by-the-limit format before r = record {
+  good = picture-good format before r;
+  long = picture-long format before r;
+  end = picture-stops format before r;
+  bad = picture-bad format before r;
+}

@@ -3,6 +3,7 @@ pub mod Blocks
 pub mod Chains
 pub mod Cuts
 pub mod Groups
+pub mod Kept
 pub mod Limits
 pub mod Longs
 pub mod Macroblocks

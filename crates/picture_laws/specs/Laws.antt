@@ -7,8 +7,8 @@ use Rattle.pel_model.specs.Records.{Picture}
 use Rattle.pel_model.specs.Text.{text}
 use Rattle.pel_model.specs.Valid.{IsValid, group_count, limit}
 use Rattle.pel_model.specs.Accepts.{Accepts}
-use Rattle.pel_model.specs.Walk.{Good, Bad, after, start, skipped, Goes, FirstFault, Reads}
-use Rattle.pel_model.specs.Grammar.{Element, slot, may_end, begun, next, picture}
+use Rattle.pel_model.specs.Walk.{Good, Stop, Bad, after, start, skipped, Goes, FirstFault, Reads}
+use Rattle.pel_model.specs.Grammar.{Element, slot, may_end, begun, counted, next, picture}
 use Rattle.picture_laws.specs.Elements.{Tells}
 
 -- the strict text of a valid picture is accepted with that picture, where it is no longer than the format allows
@@ -55,6 +55,17 @@ OneFault =
     → FirstFault (picture format) bits q other → (p ≡ q) × (why ≡ other)
 
 -- ---- the limit
+
+-- an element of a picture is what stands there whatever the picture's length, or is too long; a lawful end and another
+-- fault are as they were
+pub record IsJudged (format : Format) (before : List Element) (r : List Bool × ℕ) : Type 0 where
+  pub good : (e : Element) (n : ℕ) → next format before r ≡ Good e n → counted format (e ∷ before) (r.1 + n) ≤ limit format → picture format before r ≡ Good e n
+  pub long : (e : Element) (n : ℕ) → next format before r ≡ Good e n → limit format < counted format (e ∷ before) (r.1 + n) → picture format before r ≡ Bad TooLong
+  pub end : next format before r ≡ Stop → picture format before r ≡ Stop
+  pub bad : (why : Why) → next format before r ≡ Bad why → picture format before r ≡ Bad why
+
+abbrev pub JudgedByTheLimit : Type 0
+JudgedByTheLimit = (format : Format) (before : List Element) (r : List Bool × ℕ) → IsJudged format before r
 
 -- elements none of which stands where a lawful end can be
 abbrev pub StandInside : List Element → List Element → Type 0

@@ -2,7 +2,7 @@
 //! function does nothing; its contract is the law, whose words stand in `specs/`.
 #![tactic(auto)]
 
-ghost use Rattle.picture_laws.specs.Laws.{TextIsAccepted, AcceptedIsRead, WalkHasRecord, HasRecordOrFault, NeverBoth, OneRecord, OneFault};
+ghost use Rattle.picture_laws.specs.Laws.{TextIsAccepted, AcceptedIsRead, WalkHasRecord, HasRecordOrFault, NeverBoth, OneRecord, OneFault, GoodOverFirst, GoodOverAll, JudgedByTheLimit, WithinTheLimit, PastTheLimit, KeptLength};
 
 /// The strict text of a valid picture within the limit is accepted with that picture.
 pub fn text_is_accepted()
@@ -28,5 +28,23 @@ pub fn one_record_or_one_fault()
     ensures never_both { NeverBoth }
     ensures one_record { OneRecord }
     ensures one_fault { OneFault }
+{
+}
+
+/// What is read over the first bits alone, and the limit of a picture where a macroblock's elements go past it: the
+/// element that is too long is the one that is cut in a reading of the bits that the limit leaves.
+pub fn limit_is_read_by_a_cut()
+    ensures over_first { GoodOverFirst }
+    ensures over_all { GoodOverAll }
+    ensures judged { JudgedByTheLimit }
+    ensures within { WithinTheLimit }
+    ensures past { PastTheLimit }
+{
+}
+
+/// Bits behind the first 65,600 of a QCIF picture, or 262,208 of a CIF picture, change neither the picture with which
+/// bits are accepted nor the first fault.
+pub fn kept_length()
+    ensures { KeptLength }
 {
 }
