@@ -63,7 +63,7 @@ impl<'a> Bits<'a> {
 
     /// The number that `width` bits from bit `from` on spell.
     #[inline]
-    pub(crate) fn number(&self, from: u32, width: u32) -> u32
+    pub fn number(&self, from: u32, width: u32) -> u32
         requires width { width ≤ 32 }
         requires inside { from + width ≤ length self.now }
         ensures { result ≡ number (take width (drop from self.now)) }

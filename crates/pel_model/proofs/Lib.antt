@@ -1,3 +1,4 @@
+pub mod Steps
+pub mod Walks
 mod WorkedPictures
 mod WorkedTexts
-pub mod Walks

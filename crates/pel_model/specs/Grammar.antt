@@ -274,7 +274,7 @@ is_end left = nat_lt (length left) 8 && not (list_any (λ b. b) left)
 -- bits that do not begin with PSC, nor are a front of it, are no picture
 abbrev pub or_no_start : Slot → Step Element → Step Element
 or_no_start AtPsc (Bad NoCode) = Bad NoStart
-or_no_start _ step = step
+or_no_start _ here = here
 
 abbrev pub at_slot : Slot → List Bool → Step Element
 at_slot place left = cond (may_end place && is_end left) Stop (or_no_start place (read (rows place) left))

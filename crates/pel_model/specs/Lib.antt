@@ -1,9 +1,11 @@
 pub mod Accepts
 pub mod Bits
 pub mod Codes
+pub mod Elements
 pub mod Grammar
-pub mod Records
 pub mod Plain
+pub mod Plan
+pub mod Records
 pub mod Regions
 pub mod Spelling
 pub mod Text

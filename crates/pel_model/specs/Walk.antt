@@ -93,13 +93,13 @@ HasOneAnswer {E} next =
 
 -- the word that stands there was taken; else nothing was
 abbrev pub TakesWord : {E X : Type 0} → (X → E) → Step E → Result X Why → List Bool × ℕ → List Bool × ℕ → Type 0
-TakesWord element step (Ok x) old new = (n : ℕ) × (step ≡ Good (element x) n) × (new ≡ skipped n old)
-TakesWord element step (Err why) old new = (step ≡ Bad why) × (new ≡ old)
+TakesWord element here (Ok x) old new = (n : ℕ) × (here ≡ Good (element x) n) × (new ≡ skipped n old)
+TakesWord element here (Err why) old new = (here ≡ Bad why) × (new ≡ old)
 
 -- the element that stands there was taken; else nothing was, and the fault is there
 abbrev pub Takes : {E X : Type 0} → (X → E) → Step E → Result X Fault → List Bool × ℕ → List Bool × ℕ → Type 0
-Takes element step (Ok x) old new = (n : ℕ) × (step ≡ Good (element x) n) × (new ≡ skipped n old)
-Takes element step (Err f) old new = (step ≡ Bad f.why) × (f.place ≡ old.1) × (new ≡ old)
+Takes element here (Ok x) old new = (n : ℕ) × (here ≡ Good (element x) n) × (new ≡ skipped n old)
+Takes element here (Err f) old new = (here ≡ Bad f.why) × (f.place ≡ old.1) × (new ≡ old)
 
 -- some good elements were taken, and they are what was wanted, or what stands behind them is at fault
 abbrev pub Walked : {E X : Type 0} → (List E → List Bool × ℕ → Step E) → List E → (X → List E → List Bool × ℕ → Type 0) → Result X Fault → List Bool × ℕ → List Bool × ℕ → Type 0

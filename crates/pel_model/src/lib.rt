@@ -4,6 +4,9 @@
 ghost use Rattle.std.specs.Prelude.{◌≡◌};
 ghost use Rattle.pel_model.specs.Regions.{number_of};
 
+mod chair;
+
+pub use chair::{Command, Reply};
 use thiserror::Error;
 
 /// The two picture formats of H.261 (3.1): 176 by 144 and 352 by 288 luminance samples.

@@ -1,0 +1,196 @@
+//! The command of a line.
+
+ghost use Rattle.std.specs.Prelude.{◌≡◌, ◌≢◌, ◌≤◌, ℕ, ◌∷◌, length, IfOk, IfErr, MatchOption, MatchResult};
+ghost use Rattle.pel_model.specs.Regions.{number_of};
+ghost use Rattle.pel_model.specs.declared.chair.Command.{Command as TheCommand};
+ghost use Rattle.chair_words.specs.declared.reader.LineWhy.{LineWhy as TheWhy};
+ghost use Rattle.chair_words.specs.Words.{word_of, words_from};
+ghost use Rattle.chair_words.specs.Line.{Says, Fails, FailsAt, name_of, a_place, a_lane, from_to};
+ghost use Rattle.chair_words.specs.Reading.{Answers, TakesNumber, LacksNumber, TakesNumbers, text_of};
+
+use crate::numbers::number_of;
+use crate::words::{Word, Words};
+use pel_model::{Command, Quad};
+use thiserror::Error;
+
+/// Why a line is refused.
+#[derive(Clone, Copy, Debug, PartialEq, Eq)]
+pub enum LineWhy {
+    /// The first word is no command's name.
+    Unknown,
+    /// A word is missing at the line's end.
+    Missing,
+    /// A word is not one to three digits that spell a place from 1 to 4 or a lane from 0 to 15, as the command asks.
+    BadNumber,
+    /// A word stands behind the command's last number.
+    Extra,
+}
+
+/// The first fault of a line: its reason, and the first byte of the word at fault, or the line's length where a
+/// word is missing.
+#[derive(Clone, Copy, Debug, PartialEq, Eq, Error)]
+#[error("{why:?} at byte {place}")]
+pub struct LineFault {
+    pub place: u16,
+    pub why: LineWhy,
+}
+
+/// The commands' names.
+#[derive(Clone, Copy)]
+enum Name {
+    Place,
+    Clear,
+    Swap,
+    Speaker,
+    Pin,
+    Unpin,
+}
+
+/// The name that the word is, if it is one.
+fn name_in(word: &[u8]) -> Option<Name>
+    ensures { MatchOption result ((c : TheCommand) → word.now ≢ name_of c) (λ n. word.now ≡ text_of n) }
+{
+    if word == "place".as_bytes() {
+        Some(Name::Place)
+    } else if word == "clear".as_bytes() {
+        Some(Name::Clear)
+    } else if word == "swap".as_bytes() {
+        Some(Name::Swap)
+    } else if word == "speaker".as_bytes() {
+        Some(Name::Speaker)
+    } else if word == "pin".as_bytes() {
+        Some(Name::Pin)
+    } else if word == "unpin".as_bytes() {
+        Some(Name::Unpin)
+    } else {
+        None
+    }
+}
+
+impl<'a> Word<'a> {
+    /// The word at fault.
+    fn fault(self, why: LineWhy) -> LineFault
+        requires { self.place ≤ 255 }
+        ensures { result ≡ record { place = self.entry.place; why = why } }
+    {
+        LineFault {
+            place: self.place as u16,
+            why,
+        }
+    }
+}
+
+impl<'a> Words<'a> {
+    /// The fault of a line that ends where a word has to stand.
+    fn missing(&self) -> LineFault
+        ensures { result ≡ record { place = length self.now.line.now; why = LineWhy.Missing } }
+    {
+        LineFault {
+            place: self.line.len() as u16,
+            why: LineWhy::Missing,
+        }
+    }
+
+    /// The next word, as a number from low to high.
+    fn number(&mut self, low: u16, high: u16) -> Result<u8, LineFault>
+        requires { high ≤ 255 }
+        ensures line { self.new.line.now ≡ self.old.line.now }
+        ensures read { let old = words_from self.old.line.now self.old.at in
+            let new = words_from self.new.line.now self.new.at in
+            let range = from_to low high in
+            MatchResult result
+            (λ n. TakesNumber range old new n)
+            (λ e. LacksNumber range old (length self.old.line.now) e.place e.why) }
+    {
+        let Some(word) = self.next() else {
+            return Err(self.missing());
+        };
+        match number_of(word.text) {
+            Some(number) if low <= number && number <= high => Ok(number as u8),
+            _ => Err(word.fault(LineWhy::BadNumber)),
+        }
+    }
+
+    /// The next word, as a place.
+    fn place(&mut self) -> Result<Quad, LineFault>
+        ensures line { self.new.line.now ≡ self.old.line.now }
+        ensures read { let old = words_from self.old.line.now self.old.at in
+            let new = words_from self.new.line.now self.new.at in
+            MatchResult result
+            (λ q. TakesNumber a_place old new (number_of q))
+            (λ e. LacksNumber a_place old (length self.old.line.now) e.place e.why) }
+    {
+        let quad = match self.number(1, 4)? {
+            1 => Quad::One,
+            2 => Quad::Two,
+            3 => Quad::Three,
+            _ => Quad::Four,
+        };
+        Ok(quad)
+    }
+
+    /// The next word, as a lane.
+    fn lane(&mut self) -> Result<u8, LineFault>
+        ensures line { self.new.line.now ≡ self.old.line.now }
+        ensures read { let old = words_from self.old.line.now self.old.at in
+            let new = words_from self.new.line.now self.new.at in
+            MatchResult result
+            (λ c. TakesNumber a_lane old new c)
+            (λ e. LacksNumber a_lane old (length self.old.line.now) e.place e.why) }
+    {
+        self.number(0, 15)
+    }
+
+    /// The command of this name, with the next words as its numbers.
+    fn command(&mut self, name: Word<'a>) -> Result<Command, LineFault>
+        requires { name.place ≤ 255 }
+        ensures line { self.new.line.now ≡ self.old.line.now }
+        ensures read { let old = words_from self.old.line.now self.old.at in
+            let new = words_from self.new.line.now self.new.at in
+            let first = word_of name.entry.place name.entry.text.now in
+            MatchResult result
+            (λ c. TakesNumbers name.entry.text.now old new c)
+            (λ e. Fails (first ∷ old) (length self.old.line.now) e.place e.why) }
+    {
+        let Some(known) = name_in(name.text) else {
+            return Err(name.fault(LineWhy::Unknown));
+        };
+        let command = match known {
+            Name::Place => Command::Place(self.place()?, self.lane()?),
+            Name::Clear => Command::Clear(self.place()?),
+            Name::Swap => Command::Swap(self.place()?, self.place()?),
+            Name::Speaker => Command::Speaker(self.lane()?),
+            Name::Pin => Command::Pin(self.place()?),
+            Name::Unpin => Command::Unpin(self.place()?),
+        };
+        Ok(command)
+    }
+}
+
+/// The command that the line says, or its first fault.
+fn answer(line: &[u8]) -> Result<Command, LineFault>
+    requires { length line.now ≤ 255 }
+    ensures { Answers line.now result }
+{
+    let mut words = Words::new(line);
+    let Some(name) = words.next() else {
+        return Err(words.missing());
+    };
+    let command = words.command(name)?;
+    match words.next() {
+        None => Ok(command),
+        Some(extra) => Err(extra.fault(LineWhy::Extra)),
+    }
+}
+
+/// The command that a line of at most 255 bytes says. Words are parted by spaces, tabs and carriage returns. The first
+/// word is the command's name, byte for byte; then come its numbers, each of one to three digits.
+pub fn read_line(line: &[u8]) -> Result<Command, LineFault>
+    requires { length line.now ≤ 255 }
+    ensures command { IfOk result (λ c. Says line.now c) }
+    ensures fault { IfErr result (λ e. FailsAt line.now e.place e.why) }
+    ensures accepts { (c : TheCommand) → Says line.now c → result ≡ Ok c }
+    ensures refuses { (place : ℕ) (why : TheWhy) → FailsAt line.now place why → result ≡ Err (record { place = place; why = why }) }
+{
+    answer(line)
+}

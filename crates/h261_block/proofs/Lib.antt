@@ -1,0 +1,3 @@
+pub mod BlockSteps
+pub mod LevelLaws
+pub mod SoFar

@@ -1,0 +1,131 @@
+-- A valid picture stays valid when it gets its next group, and a group stays valid where it may stand.
+use Rattle.std.proofs.Common.{◌≡◌, ℕ, zero, suc, ◌+◌, ◌-◌, ◌*◌, ◌/◌, ◌%◌, ◌<◌, ◌≤◌, Bool, true, false, List, [], ◌∷◌, ◌++◌, length, take, map, slice_index, slice_index_or, refl, sym, ◌∙◌, ap, ap₂, subst, ℤ, pos, negsuc, All, MatchBool, IsSomeAnd, arith, length-append}
+use Rattle.std.proofs.lemmas.List.{take_more, get_or-map, get_or-take, map-append, length-map}
+use Rattle.std.proofs.lemmas.List.Elements.{All-push, All-cons, All-nil, All-map}
+use Rattle.h261_pic.specs.Coded.{Belongs, with_group}
+use Rattle.pel_model.specs.declared.Format.{Format}
+use Rattle.pel_model.specs.declared.Format.TheVariants.{Qcif, Cif}
+use Rattle.pel_model.specs.declared.Quad.{Quad}
+use Rattle.pel_model.specs.declared.Quad.TheVariants.{One, Two, Three, Four}
+use Rattle.pel_model.specs.Codes.{has_vector}
+use Rattle.pel_model.specs.Records.{Axis, Across, Down, Macroblock, Group, Picture, component}
+use Rattle.pel_model.specs.Regions.{number_in, renumbered, right, below}
+use Rattle.pel_model.specs.Plain.{PlainGroup, IsPlainGroup, plain_block, plain_macroblock, plain_macroblocks, plain_group}
+use Rattle.pel_model.specs.Valid.{side, corner, StaysWithin, ComponentFits, IsValidDc, IsValidCoefficient, IsIntraBlock, AddressesRise, IsValidMacroblock, IsValidGroup, IsValidSoFar, group_numbers, group_count}
+
+-- a vector that stays in the QCIF picture stays in the CIF picture
+within_place : (axis : Axis) (place : Quad) (number address : ℕ) (c : ℤ) → number % 2 ≡ 1
+    → StaysWithin (side Qcif axis) (corner axis number address) c
+    → StaysWithin (side Cif axis) (corner axis (number_in place number) address) c
+within_place Across One number address (pos n) odd stays = omega arith
+within_place Across Two number address (pos n) odd stays = omega arith
+within_place Across Three number address (pos n) odd stays = omega arith
+within_place Across Four number address (pos n) odd stays = omega arith
+within_place Across One number address (negsuc n) odd stays = omega arith
+within_place Across Two number address (negsuc n) odd stays = omega arith
+within_place Across Three number address (negsuc n) odd stays = omega arith
+within_place Across Four number address (negsuc n) odd stays = omega arith
+within_place Down One number address (pos n) odd stays = omega arith
+within_place Down Two number address (pos n) odd stays = omega arith
+within_place Down Three number address (pos n) odd stays = omega arith
+within_place Down Four number address (pos n) odd stays = omega arith
+within_place Down One number address (negsuc n) odd stays = omega arith
+within_place Down Two number address (negsuc n) odd stays = omega arith
+within_place Down Three number address (negsuc n) odd stays = omega arith
+within_place Down Four number address (negsuc n) odd stays = omega arith
+
+fits_by : (b : Bool) (P P' Q : Type 0) → (P → P') → MatchBool b P Q → MatchBool b P' Q
+fits_by true P P' Q more fits = more fits
+fits_by false P P' Q more fits = fits
+
+component_in_place : (axis : Axis) (place : Quad) (number : ℕ) (m : Macroblock) → number % 2 ≡ 1
+    → ComponentFits Qcif number axis m → ComponentFits Cif (number_in place number) axis m
+component_in_place axis place number m odd fits =
+    fits_by (has_vector m.kind) _ _ _
+    (λ stays. (stays.0, within_place axis place number m.address (component axis m) odd stays.1)) fits
+
+macroblock_in_place : (place : Quad) (number : ℕ) (m : Macroblock) → number % 2 ≡ 1
+    → IsValidMacroblock Qcif number m → IsValidMacroblock Cif (number_in place number) m
+macroblock_in_place place number m odd valid = record {
+  mquant = valid.mquant;
+  across = component_in_place Across place number m odd valid.across;
+  down = component_in_place Down place number m odd valid.down;
+  six = valid.six;
+  blocks = valid.blocks;
+}
+
+group_in_place : (place : Quad) (g : Group) → g.number % 2 ≡ 1 → IsValidGroup Qcif g
+    → IsValidGroup Cif (renumbered (number_in place g.number) g)
+group_in_place place g odd valid = record {
+  quant = valid.quant;
+  addresses = valid.addresses;
+  macroblocks = λ k d l. macroblock_in_place place g.number (slice_index_or g.macroblocks k d) odd (valid.macroblocks k d l);
+}
+
+-- a group of a valid picture, under the number where it may stand
+pub group_that_belongs : (from to : Format) (g : Group) (number : ℕ) → (from ≡ Qcif → g.number % 2 ≡ 1)
+    → Belongs from g.number to number → IsValidGroup from g → IsValidGroup to (renumbered number g)
+group_that_belongs Qcif Qcif g number odd belongs valid = subst (λ n. IsValidGroup Qcif (renumbered n g)) (sym belongs) valid
+group_that_belongs Cif Cif g number odd belongs valid = subst (λ n. IsValidGroup Cif (renumbered n g)) (sym belongs) valid
+group_that_belongs Qcif Cif g number odd belongs valid =
+    subst (λ n. IsValidGroup Cif (renumbered n g)) (sym belongs.1) (group_in_place belongs.0 g (odd refl) valid)
+group_that_belongs Cif Qcif g number odd belongs valid = absurd belongs
+
+-- the number of a group of a valid picture
+pub number-at : (format : Format) (p : Picture) (i : ℕ) (d : Group) → IsValidSoFar format p → i < length p.groups
+    → (slice_index_or p.groups i d).number ≡ slice_index (group_numbers format) i
+number-at format p i d valid below =
+    sym (get_or-map (λ (g : Group). g.number) p.groups i d 0 below)
+    ∙ ap (λ (ns : List ℕ). slice_index ns i) valid.numbers
+    ∙ get_or-take (length p.groups) (group_numbers format) i 0 below
+
+-- the next group
+pub valid-with_group : (format : Format) (p : Picture) (g : Group) → IsValidSoFar format p → IsValidGroup format g
+    → length p.groups < group_count format → g.number ≡ slice_index (group_numbers format) (length p.groups)
+    → IsValidSoFar format (with_group p g)
+valid-with_group format p g valid group below number_is = record {
+  tr = valid.tr;
+  numbers =
+      map-append (λ (h : Group). h.number) p.groups (g ∷ [])
+      ∙ ap₂ (λ (ns : List ℕ) (n : ℕ). ns ++ n ∷ []) valid.numbers number_is
+      ∙ sym (take_more (group_numbers format) (length p.groups) 0 below)
+      ∙ ap (λ n. take n (group_numbers format)) (sym (length-append p.groups (g ∷ [])));
+  groups = All-push (IsValidGroup format) p.groups g valid.groups group;
+}
+
+-- ---- plain pictures are valid
+
+valid_plain_block : (dc : ℕ) → IsValidDc dc → IsSomeAnd (plain_block dc) IsIntraBlock
+valid_plain_block dc valid = (valid, (All-nil IsValidCoefficient, omega arith))
+
+valid_plain_macroblock : (number address : ℕ) (dcs : List ℕ) → length dcs ≡ 6 → All IsValidDc dcs
+    → IsValidMacroblock Qcif number (plain_macroblock address dcs)
+valid_plain_macroblock number address dcs six valid = record {
+  mquant = refl;
+  across = refl;
+  down = refl;
+  six = length-map dcs plain_block ∙ six;
+  blocks = All-map (λ b. IsSomeAnd b IsIntraBlock) plain_block dcs (λ k d l. valid_plain_block (slice_index_or dcs k d) (valid k d l));
+}
+
+abbrev AreSix : List ℕ → Type 0
+AreSix dcs = (length dcs ≡ 6) × All IsValidDc dcs
+
+valid_plain_macroblocks : (number last : ℕ) (levels : List (List ℕ)) → All AreSix levels
+    → All (IsValidMacroblock Qcif number) (plain_macroblocks last levels)
+valid_plain_macroblocks number last [] six = All-nil (IsValidMacroblock Qcif number)
+valid_plain_macroblocks number last (dcs ∷ levels) six =
+    All-cons (IsValidMacroblock Qcif number) (plain_macroblock (last + 1) dcs) (plain_macroblocks (last + 1) levels)
+    (valid_plain_macroblock number (last + 1) dcs ((six 0 dcs (omega arith)).0) ((six 0 dcs (omega arith)).1))
+    (valid_plain_macroblocks number (last + 1) levels (λ k d l. six (suc k) d (omega arith)))
+
+plain_addresses_rise : (last : ℕ) (levels : List (List ℕ)) → last + length levels ≤ 33 → AddressesRise last (plain_macroblocks last levels)
+plain_addresses_rise last [] fits = tt
+plain_addresses_rise last (dcs ∷ levels) fits = (omega arith, omega arith, plain_addresses_rise (last + 1) levels (omega arith))
+
+pub valid_plain_group : (number : ℕ) (g : PlainGroup) → IsPlainGroup g → IsValidGroup Qcif (plain_group number g)
+valid_plain_group number g plain = record {
+  quant = plain.quant;
+  addresses = plain_addresses_rise 0 g.levels (omega (arith, plain.whole));
+  macroblocks = valid_plain_macroblocks number 0 g.levels plain.levels;
+}

@@ -1,0 +1,7 @@
+use Rattle.std.proofs.Common.{◌<◌, length, subst}
+use Rattle.h261_pic.specs.Coded.{Coding, HasPicture}
+use Rattle.h261_pic.proofs.coded.Coded.bits.Goals as goal
+
+pub returns-clause-picture : goal.returns-clause-picture
+returns-clause-picture c =
+    subst (λ (k : Coding). 0 < length k.bits → HasPicture k) c.self.view_is c.self.invariant.picture

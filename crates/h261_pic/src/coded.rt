@@ -1,0 +1,226 @@
+//! A picture's strict text, as far as it was written, and where the macroblock bits of its groups stand.
+#![tactic(auto)]
+
+ghost use Rattle.std.specs.Prelude.{◌≡◌, ℕ, ◌+◌, ◌-◌, ◌*◌, ◌<◌, ◌≤◌, ◌↔◌, [], ◌++◌, length, IsTrue, IfOk, slice_get, slice_index};
+ghost use Rattle.pel_bits.specs.Bits.{bits};
+ghost use Rattle.pel_bits.specs.Buffer.{filled_up};
+ghost use Rattle.pel_model.specs.Text.{picture_header, group_header};
+ghost use Rattle.pel_model.specs.Valid.{group_numbers, group_count, limit};
+ghost use Rattle.h261_pic.specs.Coded.{Coding, nothing, coding, grown, next_number, group_of, macroblock_bits, Belongs, IsFinished, HasPicture, IsGroupText};
+
+use arrayvec::ArrayVec;
+use pel_bits::{BitBuf, Bits, NoMemory};
+use pel_model::Format;
+use std::alloc::Global;
+use std::marker::Model;
+
+/// Where the macroblock bits of a group of blocks stand in a picture's strict text.
+#[derive(Clone, Copy, Debug, Default, PartialEq, Eq)]
+pub struct GroupView {
+    /// The group's number (GN).
+    pub number: u8,
+    /// The group's quantiser (GQUANT).
+    pub quant: u8,
+    /// The first bit behind the group's header.
+    pub from: u32,
+    /// The number of the macroblock bits.
+    pub len: u32,
+}
+
+/// A coded picture of one format. Contracts see its format, its TR, its bits and its groups.
+#[derive(Drop)]
+pub struct Coded {
+    format: Format,
+    tr: u8,
+    text: BitBuf,
+    groups: ArrayVec<GroupView, 12>,
+}
+
+impl Model for Coded {
+    ghost use Rattle.h261_pic.specs.Coded.{Coding};
+
+    ghost Value = { Coding };
+
+    ghost use Rattle.h261_pic.specs.Sound.{written, IsSound};
+
+    ghost view = { written };
+
+    ghost invariant = { IsSound };
+}
+
+impl Coded {
+    /// An empty picture with room for the longest strict text of its format. It takes all its memory here.
+    pub fn reserve(alloc: Global, format: Format) -> Result<Coded, NoMemory>
+        ensures { IfOk result (λ coded. coded ≡ nothing format) }
+    {
+        Ok(Coded {
+            format,
+            tr: 0,
+            text: BitBuf::with_capacity(alloc, longest(format))?,
+            groups: ArrayVec::new(),
+        })
+    }
+
+    /// The picture's format.
+    pub fn format(&self) -> Format
+        ensures { result ≡ self.now.format }
+    {
+        self.format
+    }
+
+    /// Whether nothing was written.
+    pub fn is_empty(&self) -> bool
+        ensures { IsTrue result ↔ (self.now.bits ≡ []) }
+    {
+        self.text.len() == 0
+    }
+
+    /// The temporal reference (TR), 0 where nothing was written.
+    pub fn tr(&self) -> u8
+        ensures { result ≡ self.now.tr }
+    {
+        self.tr
+    }
+
+    /// The strict text, as far as it was written. What is written is a valid picture as far as it goes, within the
+    /// greatest number of bits that its format allows.
+    pub fn bits(&self) -> Bits<'_>
+        ensures bits { result ≡ self.now.bits }
+        ensures picture { 0 < length self.now.bits → HasPicture self.now }
+        ensures within { length self.now.bits ≤ limit self.now.format }
+    {
+        self.text.bits()
+    }
+
+    /// The octets of the strict text, with zeros from its last bit to the end of the octet.
+    pub fn octets(&self) -> &[u8]
+        ensures { bits result.now ≡ filled_up self.now.bits }
+    {
+        self.text.octets()
+    }
+
+    /// The place of a group, from 0 on.
+    pub fn group(&self, i: usize) -> GroupView
+        requires { i < length self.now.groups }
+        ensures { slice_get self.now.groups i ≡ Some result }
+    {
+        self.groups[i]
+    }
+
+    /// Takes everything away.
+    pub fn clear(&mut self)
+        ensures { self.new ≡ nothing self.old.format }
+    {
+        self.tr = 0;
+        self.text.clear();
+        self.groups.clear();
+    }
+
+    /// Begins a picture of no groups.
+    pub fn start(&mut self, tr: u8)
+        requires { tr < 32 }
+        ensures { self.new ≡ coding self.old.format (record { tr = tr; groups = [] }) }
+    {
+        self.tr = tr;
+        self.text.clear();
+        self.groups.clear();
+        push_picture_header(&mut self.text, self.format, tr);
+    }
+
+    /// Adds the next group with GQUANT 1 and no macroblocks.
+    pub fn empty_group(&mut self)
+        requires begun { 0 < length self.old.bits }
+        requires next { length self.old.groups < group_count self.old.format }
+        ensures { self.new ≡ grown self.old 1 [] }
+    {
+        // what was written leaves room for the headers to come
+        let _text = &self.text;
+        self.add_group(1, Bits::new(&[], 0, 0));
+    }
+
+    /// Adds the next group with the quantiser and the macroblock bits of group `i` of another picture. It has to be
+    /// one where that group belongs, and to leave room for the headers of the groups behind it.
+    pub fn copy_group(&mut self, from: &Coded, i: usize)
+        requires begun { 0 < length self.old.bits }
+        requires next { length self.old.groups < group_count self.old.format }
+        requires finished { IsFinished from.now }
+        requires there { i < length from.now.groups }
+        requires belongs { Belongs from.now.format (group_of from.now i).number self.old.format (next_number self.old) }
+        requires room { length self.old.bits + (group_of from.now i).len + 26 * (group_count self.old.format - length self.old.groups) ≤ limit self.old.format }
+        ensures { self.new ≡ grown self.old (group_of from.now i).quant (macroblock_bits from.now i) }
+    {
+        let view = from.groups[i];
+        self.add_group(view.quant, from.text.bits().slice(view.from, view.len));
+    }
+
+    // Adds the next group.
+    pub(crate) fn add_group(&mut self, quant: u8, bits: Bits<'_>)
+        requires begun { 0 < length self.old.bits }
+        requires next { length self.old.groups < group_count self.old.format }
+        requires room { length self.old.bits + length bits + 26 * (group_count self.old.format - length self.old.groups) ≤ limit self.old.format }
+        requires text { IsGroupText self.old.format (next_number self.old) quant bits }
+        ensures { self.new ≡ grown self.old quant bits.entry }
+    {
+        let number = group_number(self.format, self.groups.len());
+        push_group_header(&mut self.text, number, quant);
+        let from = self.text.len();
+        let len = bits.len();
+        self.text.append(bits);
+        self.groups.push(GroupView {
+            number,
+            quant,
+            from,
+            len,
+        });
+    }
+}
+
+// The greatest number of bits of a picture.
+fn longest(format: Format) -> u32
+    ensures { result ≡ limit format }
+{
+    match format {
+        Format::Qcif => 65_536,
+        Format::Cif => 262_144,
+    }
+}
+
+// The number of a group, by its place from 0 on.
+fn group_number(format: Format, place: usize) -> u8
+    requires { place < group_count format }
+    ensures { result ≡ slice_index (group_numbers format) place }
+{
+    match format {
+        Format::Qcif => [1, 3, 5][place],
+        Format::Cif => [1, 2, 3, 4, 5, 6, 7, 8, 9, 10, 11, 12][place],
+    }
+}
+
+// Appends PSC, TR, PTYPE and a PEI of 0.
+fn push_picture_header(text: &mut BitBuf, format: Format, tr: u8)
+    requires room { length text.old.list + 32 ≤ text.old.capacity }
+    requires fits { tr < 32 }
+    ensures { text.new ≡ record text.old { list = text.old.list ++ picture_header format tr } }
+{
+    text.push(0b0000_0000_0000_0001_0000, 20);
+    text.push(u32::from(tr), 5);
+    let picture_type = match format {
+        Format::Qcif => 0b000011,
+        Format::Cif => 0b000111,
+    };
+    text.push(picture_type, 6);
+    text.push(0, 1);
+}
+
+// Appends GBSC, GN, GQUANT and a GEI of 0.
+fn push_group_header(text: &mut BitBuf, number: u8, quant: u8)
+    requires room { length text.old.list + 26 ≤ text.old.capacity }
+    requires number_fits { number < 16 }
+    requires quant_fits { quant < 32 }
+    ensures { text.new ≡ record text.old { list = text.old.list ++ group_header number quant } }
+{
+    text.push(0b0000_0000_0000_0001, 16);
+    text.push(u32::from(number), 4);
+    text.push(u32::from(quant), 5);
+    text.push(0, 1);
+}

@@ -1,0 +1,52 @@
+-- Steps of the grammar: a slot's words, fields of a width, and what is judged of an element.
+use Rattle.std.proofs.Common.{◌≡◌, ℕ, ◌+◌, ◌<◌, ◌≤◌, Bool, true, false, cond, List, [], ◌∷◌, length, take, Option, Some, None, nat_lt, if◌then◌else◌, refl, sym, ◌∙◌, ap, zero-add, arith}
+use Rattle.std.proofs.lemmas.Bool.{ltb-true, lt-ltb}
+use Rattle.pel_model.specs.declared.Format.{Format}
+use Rattle.pel_model.specs.declared.Why.{Why}
+use Rattle.pel_model.specs.declared.Why.TheVariants.{Cut}
+use Rattle.pel_model.specs.Bits.{number}
+use Rattle.pel_model.specs.Walk.{Step, Good, Bad, Row, read, whole_word, judged, verdict}
+use Rattle.pel_model.specs.Grammar.{Element, Slot, slot, at_slot, faults, first_why, field_rows, next}
+
+-- what is judged of an element behind others
+abbrev pub judge : Format → List Element → Element → ℕ → Option Why
+judge format before e n = first_why (faults format before e)
+
+-- what stands behind elements, by the slot that they leave
+pub next-at : (format : Format) (before : List Element) (r : List Bool × ℕ) (s : Slot) → slot before ≡ s → next format before r ≡ judged (judge format before) (at_slot s r.0)
+unfolding next
+next-at format before r s is = ap (λ (s : Slot). judged (judge format before) (at_slot s r.0)) is
+
+-- an element was read, and it is good, or it is at fault
+pub judged-good : {E : Type 0} (judge : E → ℕ → Option Why) (e : E) (n : ℕ) (here : Step E) → here ≡ Good e n → judge e n ≡ None → judged judge here ≡ Good e n
+judged-good judge e n here is fine = ap (judged judge) is ∙ ap (verdict e n) fine
+
+pub judged-bad : {E : Type 0} (judge : E → ℕ → Option Why) (e : E) (n : ℕ) (why : Why) (here : Step E) → here ≡ Good e n → judge e n ≡ Some why → judged judge here ≡ Bad why
+judged-bad judge e n why here is fault = ap (judged judge) is ∙ ap (verdict e n) fault
+
+-- no element was read
+pub judged-none : {E : Type 0} (judge : E → ℕ → Option Why) (why : Why) (here : Step E) → here ≡ Bad why → judged judge here ≡ Bad why
+judged-none judge why here is = ap (judged judge) is
+
+choose : {A : Type 0} (b : Bool) (x y : A) → b ≡ true → (if b then x else y) ≡ x
+choose true x y h = refl
+choose false x y h = absurd cc
+
+choose_other : {A : Type 0} (b : Bool) (x y : A) → b ≡ false → (if b then x else y) ≡ y
+choose_other true x y h = absurd cc
+choose_other false x y h = refl
+
+not_less : (a b : ℕ) (less : Bool) → nat_lt a b ≡ less → b ≤ a → less ≡ false
+not_less a b true is h = absurd (omega (arith, ltb-true a b is))
+not_less a b false is h = refl
+
+-- any bits of a width
+pub field-good : (width : ℕ) (make : ℕ → Element) (bits : List Bool) → width ≤ length bits → read (field_rows width make) bits ≡ Good (make (number (take width bits))) width
+field-good width make bits fits =
+    ap (λ (n : ℕ). if nat_lt (length bits) n then Bad Cut else Good (make (number (take width bits))) n) (zero-add width)
+    ∙ choose_other (nat_lt (length bits) width) (Bad Cut) (Good (make (number (take width bits))) width) (not_less (length bits) width (nat_lt (length bits) width) refl fits)
+
+pub field-cut : (width : ℕ) (make : ℕ → Element) (bits : List Bool) → length bits < width → read (field_rows width make) bits ≡ Bad Cut
+field-cut width make bits short =
+    ap (λ (n : ℕ). if nat_lt (length bits) n then Bad Cut else Good (make (number (take width bits))) n) (zero-add width)
+    ∙ choose (nat_lt (length bits) width) (Bad Cut) (Good (make (number (take width bits))) width) (lt-ltb (length bits) width short)

@@ -1,0 +1,4 @@
+pub mod Four
+pub mod Places
+pub mod Ranks
+pub mod Laws
