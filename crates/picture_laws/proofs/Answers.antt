@@ -1,18 +1,10 @@
 -- Bits have one answer: they are read to the lawful end, or have a first fault.
-use Rattle.std.proofs.Common.{◌≡◌, ℕ, zero, suc, ◌+◌, ◌-◌, ◌*◌, ◌<◌, ◌≤◌, Bool, true, false, List, [], ◌∷◌, ◌++◌, length, drop, Option, Some, None, nat_lt, refl, sym, ◌∙◌, ap, subst, inl, inr, ◌⊎◌, ℤ, pos, arith}
-use Rattle.std.specs.List.{list_all}
-use Rattle.std.proofs.lemmas.Bool.{ltb-true, leb-true}
-use Rattle.std.proofs.lemmas.List.{length-append, length-drop}
+use Rattle.std.proofs.Common.{◌≡◌, ℕ, zero, suc, ◌+◌, ◌<◌, Bool, List, [], ◌∷◌, length, drop, refl, sym, ◌∙◌, ap, subst, inl, inr, ◌⊎◌, arith}
+use Rattle.std.proofs.lemmas.List.{length-append}
 use Rattle.pel_model.specs.declared.Format.{Format}
-use Rattle.pel_model.specs.declared.MbKind.{MbKind}
 use Rattle.pel_model.specs.declared.Why.{Why}
-use Rattle.pel_model.specs.Codes.{mba_table, mtype_table, mvd_table, cbp_table, escape_word}
-use Rattle.pel_model.specs.Bits.{field}
-use Rattle.pel_model.specs.Records.{Coefficient, Picture}
-use Rattle.pel_model.specs.Text.{coefficient_word, mtype_word, pair_word, is_negative, twos_complement}
-use Rattle.pel_model.specs.Accepts.{Accepts}
-use Rattle.pel_model.specs.Walk.{Step, Good, Stop, Bad, skipped, start, after, Goes, Reads, FirstFault}
-use Rattle.pel_model.specs.Grammar.{Element, Slot, slot, next, picture}
+use Rattle.pel_model.specs.Walk.{Step, Good, Stop, Bad, skipped, start, after, Goes}
+use Rattle.pel_model.specs.Grammar.{Element, slot, picture}
 use Rattle.pel_model.proofs.Walks.{same_walk, one_answer, one_reading}
 use Rattle.picture_laws.specs.Laws.{HasRecordOrFault, NeverBoth, OneRecord, OneFault}
 use Rattle.picture_laws.specs.Elements.{Tells}

@@ -1,7 +1,7 @@
 -- The block layer: the elements of a valid block may stand at its place, and their words are its text.
-use Rattle.std.proofs.Common.{◌≡◌, ◌≢◌, ℕ, zero, suc, ◌+◌, ◌-◌, ◌*◌, ◌<◌, ◌≤◌, ◌==◌, ◌&&◌, ◌||◌, not, Bool, true, false, cond, List, [], ◌∷◌, ◌++◌, length, map, Option, Some, None, nat_lt, nat_le, refl, sym, ◌∙◌, ap, subst, inl, inr, ◌⊎◌, append_assoc, append-nil, ℤ, pos, negsuc, nat_abs, MatchBool, IsTrue, IsSomeAnd, IsNone, IsSome, All, sum_by, is_some, slice_index_or, arith}
-use Rattle.std.specs.List.{list_any, list_all, flat_map}
-use Rattle.std.proofs.lemmas.Bool.{false≢true, ltb-true, ltb-false, leb-true, eqb-true, eq-eqb, lt-ltb}
+use Rattle.std.proofs.Common.{◌≡◌, ℕ, zero, suc, ◌+◌, ◌-◌, ◌≤◌, ◌==◌, ◌&&◌, ◌||◌, Bool, true, false, cond, List, [], ◌∷◌, ◌++◌, map, Option, Some, None, nat_lt, refl, sym, ◌∙◌, ap, subst, inl, inr, ◌⊎◌, append_assoc, ℤ, pos, negsuc, MatchBool, All, sum_by, arith}
+use Rattle.std.specs.List.{flat_map}
+use Rattle.std.proofs.lemmas.Bool.{false≢true}
 use Rattle.std.proofs.lemmas.List.Sums.{sum_by-cons}
 use Rattle.pel_model.specs.declared.Format.{Format}
 use Rattle.pel_model.specs.declared.MbKind.{MbKind}
@@ -9,16 +9,17 @@ use Rattle.pel_model.specs.declared.Why.{Why}
 use Rattle.pel_model.specs.declared.Why.TheVariants.{BadDc, BadLevel, TooMany}
 use Rattle.pel_model.specs.Codes.{first_one_word, later_one_word, end_of_block_word, is_intra}
 use Rattle.pel_model.specs.Bits.{field}
-use Rattle.pel_model.specs.Records.{Axis, Across, Down, Coefficient, Block}
-use Rattle.pel_model.specs.Text.{coefficient_word, coefficients_text, dc_text, one_word, block_text, sent_block_text}
-use Rattle.pel_model.specs.Valid.{has_code, IsLongLevel, IsValidCoefficient, AreValidCoefficients, IsValidDc, IsIntraBlock, IsCodedBlock}
+use Rattle.pel_model.specs.Records.{Across, Down, Coefficient, Block}
+use Rattle.pel_model.specs.Text.{coefficient_word, coefficients_text, block_text, sent_block_text}
+use Rattle.pel_model.specs.Valid.{IsLongLevel, IsValidCoefficient, IsIntraBlock, IsCodedBlock}
 use Rattle.pel_model.specs.Walk.{after}
-use Rattle.pel_model.specs.Grammar.{Element, Dc, Tcoeff, Eob, Slot, AtDc, AtFirst, AtCoefficient, AtMacroblock, slot, kind, blocks, filled, group, address, vector, faults, first_why, is_forbidden_level, block_slot}
+use Rattle.pel_model.specs.Grammar.{Element, Dc, Tcoeff, Eob, Slot, AtDc, AtFirst, AtCoefficient, AtMacroblock, slot, kind, blocks, filled, group, address, vector, first_why, is_forbidden_level, block_slot}
 use Rattle.pel_model.proofs.Walks.{after-append}
-use Rattle.picture_laws.specs.Elements.{dc_elements, block_elements, blocks_elements}
-use Rattle.picture_laws.proofs.Slots.{word_at, one_at, Takes, IsSent, IsByteLevel}
+use Rattle.pel_model.specs.Elements.{dc_elements, block_elements}
+use Rattle.picture_laws.specs.Elements.{blocks_elements}
+use Rattle.picture_laws.proofs.Basics.{not_less, not_same, not_equal}
+use Rattle.picture_laws.proofs.Slots.{one_at, Takes, IsSent, IsByteLevel}
 use Rattle.picture_laws.proofs.Chains.{Stands, Chain, word_in, words, chain-append, words-append}
-use Rattle.vlc_codes.proofs.WordLaws.{either_way, if-true, if-false, and_left, and_right}
 
 -- ---- elements that may stand here, and their words
 
@@ -75,15 +76,6 @@ pub two_passed : (a b : Bool) (x y : Why) → first_why ((a, x) ∷ (b, y) ∷ [
 two_passed true b x y h = absurd cc
 two_passed false true x y h = absurd cc
 two_passed false false x y h = (refl, refl)
-
-pub not_less : (n m : ℕ) → m ≤ n → nat_lt n m ≡ false
-not_less n m h = elim (either_way (nat_lt n m)) [ inl less ↦ absurd (omega (arith, ltb-true n m less)) | inr no_ ↦ no_ ]
-
-pub not_same : (n m : ℕ) → n ≢ m → (n == m) ≡ false
-not_same n m h = elim (either_way (n == m)) [ inl same ↦ absurd (h (eqb-true n m same)) | inr no_ ↦ no_ ]
-
-pub not_equal : (n m : ℕ) → (n == m) ≡ false → n ≢ m
-not_equal n m h same = false≢true (sym h ∙ eq-eqb n m same)
 
 -- ---- coefficients
 
@@ -162,8 +154,8 @@ inner before b = after (after before (dc_elements b.dc)) (map Tcoeff b.coefficie
 
 pub after-block : (before : List Element) (b : Block) → after before (block_elements b) ≡ Eob ∷ inner before b
 after-block before b =
-    after-append before (dc_elements b.dc) (map Tcoeff b.coefficients ++ (Eob ∷ []))
-    ∙ after-append (after before (dc_elements b.dc)) (map Tcoeff b.coefficients) (Eob ∷ [])
+    after-append before (dc_elements b.dc ++ map Tcoeff b.coefficients) (Eob ∷ [])
+    ∙ ap (λ t. Eob ∷ t) (after-append before (dc_elements b.dc) (map Tcoeff b.coefficients))
 
 dc-state : (before : List Element) (dc : Option ℕ) → state (after before (dc_elements dc)) ≡ state before
 dc-state before None = refl
@@ -243,9 +235,9 @@ says-blocks format before (Some b ∷ bs) at count valid =
     let same : kind (after before (block_elements b)) ≡ kind before = ap (λ (s : MbKind × ℕ × ℕ × ℤ × ℤ). s.0) (block-state before b) in
     let left : blocks before - 1 ≡ sent bs = omega (arith, count) in
     let rest = says-blocks format (after before (block_elements b)) bs
-        (block-slot before b ∙ (ap (block_slot (kind before)) left ∙ ap (λ k. block_slot k (sent bs)) (sym same)))
-        (block-blocks before b ∙ left)
-        (subst (λ k. AreBlocksOf (is_intra k) bs) (sym same) valid.1) in
+    (block-slot before b ∙ (ap (block_slot (kind before)) left ∙ ap (λ k. block_slot k (sent bs)) (sym same)))
+    (block-blocks before b ∙ left)
+    (subst (λ k. AreBlocksOf (is_intra k) bs) (sym same) valid.1) in
     says-append format before (block_elements b) (blocks_elements bs) (block_text b) (flat_map sent_block_text bs) one rest
 
 pub blocks-state : (before : List Element) (bs : List (Option Block)) → state (after before (blocks_elements bs)) ≡ state before
@@ -263,5 +255,5 @@ blocks-slot before (Some b ∷ bs) at count =
     let left : blocks before - 1 ≡ sent bs = omega (arith, count) in
     ap slot (after-append before (block_elements b) (blocks_elements bs))
     ∙ blocks-slot (after before (block_elements b)) bs
-      (block-slot before b ∙ (ap (block_slot (kind before)) left ∙ ap (λ k. block_slot k (sent bs)) (sym same)))
-      (block-blocks before b ∙ left)
+    (block-slot before b ∙ (ap (block_slot (kind before)) left ∙ ap (λ k. block_slot k (sent bs)) (sym same)))
+    (block-blocks before b ∙ left)

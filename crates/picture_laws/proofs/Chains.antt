@@ -1,22 +1,19 @@
 -- Elements that may stand one behind another, and their words: walks without their bits.
-use Rattle.std.proofs.Common.{◌≡◌, ◌≢◌, ℕ, zero, suc, ◌+◌, ◌-◌, ◌*◌, ◌<◌, ◌≤◌, ◌==◌, ◌&&◌, ◌||◌, not, Bool, true, false, cond, List, [], ◌∷◌, ◌++◌, length, map, take, drop, Option, Some, None, nat_lt, refl, sym, ◌∙◌, ap, subst, inl, inr, ◌⊎◌, append_assoc, append-nil, arith}
+use Rattle.std.proofs.Common.{◌≡◌, ℕ, ◌+◌, ◌==◌, ◌&&◌, not, Bool, true, false, List, [], ◌∷◌, ◌++◌, length, drop, Option, Some, None, nat_lt, refl, sym, ◌∙◌, ap, inl, inr, append_assoc, arith}
 use Rattle.std.specs.List.{list_any, list_all}
-use Rattle.std.proofs.lemmas.Bool.{false≢true, ltb-true, ltb-false}
 use Rattle.std.proofs.lemmas.List.{length-append}
 use Rattle.pel_model.specs.declared.Format.{Format}
 use Rattle.pel_model.specs.declared.Why.{Why}
-use Rattle.pel_model.specs.declared.Why.TheVariants.{NoCode, TooLong}
+use Rattle.pel_model.specs.declared.Why.TheVariants.{NoCode}
 use Rattle.pel_model.specs.Codes.{mba_table}
 use Rattle.pel_model.specs.Text.{word_of}
-use Rattle.pel_model.specs.Valid.{limit, group_count}
 use Rattle.pel_model.specs.Walk.{Step, Good, Stop, Bad, skipped, after, Goes, read, judged, verdict}
-use Rattle.pel_model.specs.Grammar.{Element, Gbsc, Stuffing, Mba, Slot, AtPsc, AtGroup, AtMacroblock, slot, rows, faults, first_why, may_end, is_end, or_no_start, at_slot, next, picture, counted, begun}
-use Rattle.pel_model.proofs.Walks.{after-append}
-use Rattle.picture_laws.proofs.Rows.{Among, among-all, drop-front}
+use Rattle.pel_model.specs.Grammar.{Element, Slot, AtPsc, AtGroup, AtMacroblock, slot, rows, faults, first_why, may_end, is_end, or_no_start, at_slot, next}
+use Rattle.picture_laws.proofs.Rows.{among-all, drop-front}
 use Rattle.picture_laws.proofs.Slots.{word_at, Takes, IsStep}
 use Rattle.picture_laws.proofs.Words.{IsWord, read-slot}
 use Rattle.picture_laws.proofs.Written.{write-slot, found_step}
-use Rattle.vlc_codes.proofs.WordLaws.{and_left, and_right, either_way, if-true, if-false}
+use Rattle.vlc_codes.proofs.WordLaws.{either_way, if-true, if-false}
 
 -- an element may stand behind these, and is good there
 pub record Stands (format : Format) (before : List Element) (e : Element) : Type 0 where
@@ -129,9 +126,9 @@ has_one AtGroup e t h = ap (λ x. list_any (λ b. b) (word_at AtGroup x)) t
 has_one AtMacroblock e t h = elim t [
   | inl a ↦ ap (λ x. list_any (λ b. b) (word_at AtMacroblock x)) a.2 ∙ step_ones a.0 a.1
   | inr a ↦ elim a [
-      | inl b ↦ ap (λ x. list_any (λ b. b) (word_at AtMacroblock x)) b
-      | inr b ↦ ap (λ x. list_any (λ b. b) (word_at AtMacroblock x)) b
-    ]
+    | inl b ↦ ap (λ x. list_any (λ b. b) (word_at AtMacroblock x)) b
+    | inr b ↦ ap (λ x. list_any (λ b. b) (word_at AtMacroblock x)) b
+  ]
 ]
 has_one _ e t h = absurd cc
 
@@ -146,8 +143,8 @@ unfolding next
 next-good format before e rest place s =
     let w = write-slot (slot before) e rest s.takes in
     let at : at_slot (slot before) (word_in before e ++ rest) ≡ Good e (length (word_in before e)) =
-        if-false (may_end (slot before) && is_end (word_in before e ++ rest)) Stop (or_no_start (slot before) (read (rows (slot before)) (word_in before e ++ rest))) (no-end (slot before) e rest s.takes)
-        ∙ or_here (slot before) (read (rows (slot before)) (word_in before e ++ rest)) e (length (word_in before e)) w in
+    if-false (may_end (slot before) && is_end (word_in before e ++ rest)) Stop (or_no_start (slot before) (read (rows (slot before)) (word_in before e ++ rest))) (no-end (slot before) e rest s.takes)
+    ∙ or_here (slot before) (read (rows (slot before)) (word_in before e ++ rest)) e (length (word_in before e)) w in
     judged_here (λ e n. first_why (faults format before e)) (at_slot (slot before) (word_in before e ++ rest)) e (length (word_in before e)) at s.good
 
 -- ---- walks
@@ -176,11 +173,12 @@ walk-goes format before r [] end w = pair_same end r (sym w.bits) (w.place ∙ o
 walk-goes format before r (e ∷ es) end w =
     let word : List Bool = word_in before e in
     let more : List Bool = words (e ∷ before) es ++ end.0 in
-    let bits : r.0 ≡ word_in before e ++ (words (e ∷ before) es ++ end.0) = w.bits ∙ append_assoc (word_in before e) (words (e ∷ before) es) end.0 in
-    (length (word_in before e),
-     ap (λ (t : List Bool). next format before (t, r.1)) bits ∙ next-good format before e (words (e ∷ before) es ++ end.0) r.1 w.chain.0,
-     walk-goes format (e ∷ before) (skipped (length (word_in before e)) r) es end (record {
-       chain = w.chain.1;
-       bits = ap (drop (length (word_in before e))) bits ∙ drop-front (word_in before e) (words (e ∷ before) es ++ end.0) (length (word_in before e)) refl;
-       place = w.place ∙ omega (arith, length-append (word_in before e) (words (e ∷ before) es));
-     }))
+    let bits : r.0 ≡ word_in before e ++ (words (e ∷ before) es ++ end.0) = w.bits ∙ append_assoc (word_in before e) (words (e ∷ before) es) end.0 in (
+      length (word_in before e),
+      ap (λ (t : List Bool). next format before (t, r.1)) bits ∙ next-good format before e (words (e ∷ before) es ++ end.0) r.1 w.chain.0,
+      walk-goes format (e ∷ before) (skipped (length (word_in before e)) r) es end (record {
+        chain = w.chain.1;
+        bits = ap (drop (length (word_in before e))) bits ∙ drop-front (word_in before e) (words (e ∷ before) es ++ end.0) (length (word_in before e)) refl;
+        place = w.place ∙ omega (arith, length-append (word_in before e) (words (e ∷ before) es));
+      }),
+    )

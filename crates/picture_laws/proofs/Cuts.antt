@@ -1,23 +1,22 @@
 -- Reading bits that are cut: an element that ends within them is read as before, and one that does not is cut.
-use Rattle.std.proofs.Common.{◌≡◌, ◌≢◌, ℕ, zero, suc, ◌+◌, ◌-◌, ◌*◌, ◌<◌, ◌≤◌, ◌&&◌, ◌||◌, not, Bool, true, false, cond, List, [], ◌∷◌, ◌++◌, length, map, take, drop, Option, Some, None, nat_lt, if◌then◌else◌, refl, sym, ◌∙◌, ap, subst, inl, inr, ◌⊎◌, append_assoc, append-nil, arith}
-use Rattle.std.specs.List.{list_any, list_all, find}
+use Rattle.std.proofs.Common.{◌≡◌, ℕ, zero, suc, ◌+◌, ◌-◌, ◌*◌, ◌<◌, ◌≤◌, ◌&&◌, ◌||◌, Bool, true, false, List, [], ◌∷◌, ◌++◌, length, take, drop, Some, None, nat_lt, refl, sym, ◌∙◌, ap, subst, inl, inr, append_assoc, arith}
+use Rattle.std.specs.List.{list_any, find}
 use Rattle.std.proofs.lemmas.Bool.{false≢true, ltb-true, ltb-false}
-use Rattle.std.proofs.lemmas.List.{length-append, length-take-le}
+use Rattle.std.proofs.lemmas.List.{length-append}
 use Rattle.pel_model.specs.declared.Format.{Format}
 use Rattle.pel_model.specs.declared.Why.{Why}
-use Rattle.pel_model.specs.declared.Why.TheVariants.{Cut, NoCode, TooLong}
-use Rattle.pel_model.specs.Bits.{number}
+use Rattle.pel_model.specs.declared.Why.TheVariants.{Cut, NoCode}
 use Rattle.pel_model.specs.Codes.{begins, is_prefix_free}
-use Rattle.pel_model.specs.Valid.{limit, group_count}
-use Rattle.pel_model.specs.Walk.{Step, Good, Stop, Bad, Row, skipped, after, Goes, read, word_at, whole_word, cause, judged}
-use Rattle.pel_model.specs.Grammar.{Element, Gbsc, Slot, AtPsc, AtTr, AtPtype, AtPei, AtPspare, AtGroup, AtGn, AtGquant, AtGei, AtGspare, AtMacroblock, AtMtype, AtMquant, AtMvd, AtCbp, AtDc, AtFirst, AtCoefficient, slot, begun, rows, faults, first_why, may_end, is_end, or_no_start, at_slot, next, picture, counted}
-use Rattle.picture_laws.specs.Laws.{StandInside, Leaves, GoodOverFirst, GoodOverAll, WithinTheLimit, PastTheLimit, TooLongAt, JudgedByTheLimit}
-use Rattle.picture_laws.proofs.Rows.{Among, IsRead, read-is, codes_of, find-row, drop-front, take-front, take-drop-append, among-mapped}
+use Rattle.pel_model.specs.Valid.{group_count}
+use Rattle.pel_model.specs.Walk.{Step, Good, Stop, Bad, Row, skipped, after, Goes, read, word_at, judged}
+use Rattle.pel_model.specs.Grammar.{Element, Slot, AtPsc, AtTr, AtPtype, AtPei, AtPspare, AtGroup, AtGn, AtGquant, AtGei, AtGspare, AtMacroblock, AtMtype, AtMquant, AtMvd, AtCbp, AtDc, AtFirst, AtCoefficient, slot, begun, rows, faults, first_why, may_end, is_end, or_no_start, at_slot, next, picture}
+use Rattle.picture_laws.specs.Laws.{Leaves, GoodOverFirst, GoodOverAll, WithinTheLimit, PastTheLimit, TooLongAt, JudgedByTheLimit}
+use Rattle.picture_laws.proofs.Basics.{not_true}
+use Rattle.picture_laws.proofs.Rows.{Among, apart, begins_self, read-is, codes_of, find-row, take-drop-append, among-mapped}
 use Rattle.picture_laws.proofs.Slots.{Takes, rows_free}
-use Rattle.picture_laws.proofs.Words.{IsWord}
-use Rattle.picture_laws.proofs.Chains.{Stands, word_in, words, next-is, next-good, IsWalk, goes-walk, walk-goes, judged_good, slot_good}
+use Rattle.picture_laws.proofs.Chains.{word_in, words, next-is, next-good, goes-walk, walk-goes, judged_good, slot_good}
 use Rattle.picture_laws.proofs.Limits.{picture-good, picture-long, picture-stops, picture-bad}
-use Rattle.vlc_codes.proofs.WordLaws.{begins_length, begins_both, either_way, if-true, if-false, and_left, and_right, whole-cut}
+use Rattle.vlc_codes.proofs.WordLaws.{begins_length, either_way, if-true, if-false, and_left, and_right, whole-cut}
 
 -- ---- lists
 
@@ -60,35 +59,18 @@ cut-good format before r e n k h fits =
 
 -- ---- past the cut
 
-or_false : (a b : Bool) → (a || b) ≡ false → (a ≡ false) × (b ≡ false)
-or_false true b h = absurd cc
-or_false false b h = (refl, h)
-
-not_true : (a : Bool) → not a ≡ true → a ≡ false
-not_true true h = absurd cc
-not_true false h = refl
-
-apart : (w : List Bool) (ws : List (List Bool)) (v : List Bool) → list_any (λ v. begins w v || begins v w) ws ≡ false → Among v ws → (begins w v ≡ false) × (begins v w ≡ false)
-apart w [] v none h = absurd h
-apart w (u ∷ ws) v none h =
-    let both = or_false (begins w u || begins u w) (list_any (λ v. begins w v || begins v w) ws) none in
-    elim h [
-      | inl e ↦ or_false (begins w v) (begins v w) (ap (λ v. begins w v || begins v w) e ∙ both.0)
-      | inr t ↦ apart w ws v both.1 t
-    ]
-
 -- of a list of which no word is a front of another, one that is a front of another is that one
 free_same : (ws : List (List Bool)) (v w : List Bool) → is_prefix_free ws ≡ true → Among v ws → Among w ws → begins v w ≡ true → v ≡ w
 free_same [] v w free p q h = absurd p
 free_same (u ∷ ws) v w free p q h = elim p [
   | inl v_is ↦ elim q [
-      | inl w_is ↦ v_is ∙ sym w_is
-      | inr w_in ↦ absurd (false≢true (sym (apart u ws w (not_true _ (and_left _ _ free)) w_in).0 ∙ (ap (λ x. begins x w) (sym v_is) ∙ h)))
-    ]
+    | inl w_is ↦ v_is ∙ sym w_is
+    | inr w_in ↦ absurd (false≢true (sym (apart u ws w (not_true _ (and_left _ _ free)) w_in).0 ∙ (ap (λ x. begins x w) (sym v_is) ∙ h)))
+  ]
   | inr v_in ↦ elim q [
-      | inl w_is ↦ absurd (false≢true (sym (apart u ws v (not_true _ (and_left _ _ free)) v_in).1 ∙ (ap (λ x. begins v x) (sym w_is) ∙ h)))
-      | inr w_in ↦ free_same ws v w (and_right _ _ free) v_in w_in h
-    ]
+    | inl w_is ↦ absurd (false≢true (sym (apart u ws v (not_true _ (and_left _ _ free)) v_in).1 ∙ (ap (λ x. begins v x) (sym w_is) ∙ h)))
+    | inr w_in ↦ free_same ws v w (and_right _ _ free) v_in w_in h
+  ]
 ]
 
 begins_more : (w v more : List Bool) → begins w v ≡ true → begins w (v ++ more) ≡ true
@@ -108,15 +90,10 @@ any_among test [] x p h = absurd p
 any_among test (y ∷ xs) x p h = elim p [
   | inl e ↦ ap (λ b. b || list_any test xs) (ap test (sym e) ∙ h)
   | inr t ↦ elim (either_way (test y)) [
-      | inl yes_ ↦ ap (λ b. b || list_any test xs) yes_
-      | inr no_ ↦ ap (λ b. b || list_any test xs) no_ ∙ any_among test xs x t h
-    ]
+    | inl yes_ ↦ ap (λ b. b || list_any test xs) yes_
+    | inr no_ ↦ ap (λ b. b || list_any test xs) no_ ∙ any_among test xs x t h
+  ]
 ]
-
-begins_own : (w more : List Bool) → begins w (w ++ more) ≡ true
-begins_own [] more = refl
-begins_own (true ∷ w) more = begins_own w more
-begins_own (false ∷ w) more = begins_own w more
 
 -- bits that end inside a word of a row are cut
 cut_code : {E : Type 0} (rows : List (Row E)) (row : Row E) (k : ℕ) → is_prefix_free (codes_of rows) ≡ true → Among row rows → k < length row.code → read rows (take k row.code) ≡ Bad Cut
@@ -129,7 +106,7 @@ cut_code rows row k free among short =
           absurd (omega (arith, ap length same, begins_length other.code (take k row.code) here, length-take k row.code, short))
       | inr no_ ↦ no_
     ]) in
-    let begun_ : begins (take k row.code) row.code ≡ true = ap (begins (take k row.code)) (sym (take-drop-append k row.code)) ∙ begins_own (take k row.code) (drop k row.code) in
+    let begun_ : begins (take k row.code) row.code ≡ true = ap (begins (take k row.code)) (sym (take-drop-append k row.code)) ∙ begins_self (take k row.code) (drop k row.code) in
     let some : list_any (λ code. begins (take k row.code) code) (codes_of rows) ≡ true = any_among (λ code. begins (take k row.code) code) (codes_of rows) row.code (among-mapped (λ r. r.code) row rows among) begun_ in
     ap (word_at rows (take k row.code)) none ∙ ap Bad (if-true (list_any (λ code. begins (take k row.code) code) (codes_of rows)) Cut NoCode some)
 

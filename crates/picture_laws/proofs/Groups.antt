@@ -1,31 +1,31 @@
 -- The layers of groups and pictures: the elements of a valid picture in an input form may stand one behind another, and
 -- their words are the form's text.
-use Rattle.std.proofs.Common.{◌≡◌, ◌≢◌, ℕ, zero, suc, ◌+◌, ◌-◌, ◌*◌, ◌/◌, ◌%◌, ◌<◌, ◌≤◌, ◌^◌, ◌==◌, ◌&&◌, ◌||◌, not, Bool, true, false, cond, List, [], ◌∷◌, ◌++◌, length, map, take, drop, get_or, replicate, Option, Some, None, nat_lt, nat_le, refl, sym, ◌∙◌, ap, subst, inl, inr, ◌⊎◌, append_assoc, append-nil, ℤ, pos, All, codes, arith}
-use Rattle.std.specs.List.{list_any, list_all, flat_map}
-use Rattle.std.proofs.lemmas.Bool.{false≢true, ltb-true, ltb-false, leb-true, eqb-true, eq-eqb, lt-ltb}
+use Rattle.std.proofs.Common.{◌≡◌, ℕ, zero, suc, ◌%◌, ◌<◌, ◌≤◌, ◌==◌, ◌&&◌, ◌||◌, not, Bool, true, false, List, [], ◌∷◌, ◌++◌, drop, get_or, replicate, Option, Some, None, nat_lt, refl, sym, ◌∙◌, ap, subst, inl, inr, ◌⊎◌, append_assoc, ℤ, pos, All, arith}
+use Rattle.std.specs.List.{list_any, list_all}
+use Rattle.std.proofs.lemmas.Bool.{ltb-true, eqb-true, lt-ltb}
 use Rattle.pel_model.specs.declared.Format.{Format}
 use Rattle.pel_model.specs.declared.Format.TheVariants.{Qcif, Cif}
 use Rattle.pel_model.specs.declared.MbKind.{MbKind}
-use Rattle.pel_model.specs.declared.Why.{Why}
 use Rattle.pel_model.specs.declared.Why.TheVariants.{BadGroup, BadQuant}
 use Rattle.pel_model.specs.Bits.{field, number}
-use Rattle.pel_model.specs.Codes.{word, stuffing_word}
-use Rattle.pel_model.specs.Records.{Axis, Across, Down, Macroblock, Group, Picture}
+use Rattle.pel_model.specs.Codes.{stuffing_word}
+use Rattle.pel_model.specs.Records.{Across, Down, Macroblock, Group}
 use Rattle.pel_model.specs.Text.{address_of, macroblock_text}
-use Rattle.pel_model.specs.Valid.{IsQuantiser, IsValidMacroblock, AddressesRise, IsValidGroup, group_numbers, group_count, IsValid, IsValidSoFar}
-use Rattle.pel_model.specs.Spelling.{FreeBits, GroupForm, LeftOut, Sent, Form, GroupFits, GroupsFit, spare_text, stuffing_text, type_text, header_text, stuffed_text, group_header_text, sent_group_text, sent_groups_text, sent_text}
+use Rattle.pel_model.specs.Valid.{IsValidMacroblock, AddressesRise, IsValidGroup, group_numbers}
+use Rattle.pel_model.specs.Spelling.{GroupForm, LeftOut, Sent, GroupsFit, spare_text, stuffing_text, stuffed_text, group_header_text, sent_group_text, sent_groups_text}
 use Rattle.pel_model.specs.Walk.{after}
-use Rattle.pel_model.specs.Grammar.{Element, Psc, Tr, Ptype, Pei, Pspare, Gbsc, Gn, Gquant, Gei, Gspare, Stuffing, Slot, AtPei, AtGroup, AtGei, AtMacroblock, slot, group, address, vector, faults, first_why, is_group, may_end}
+use Rattle.pel_model.specs.Grammar.{Element, Pei, Pspare, Gbsc, Gn, Gquant, Gei, Gspare, Stuffing, Slot, AtPei, AtGroup, AtGei, AtMacroblock, slot, group, vector, is_group}
 use Rattle.pel_model.proofs.Walks.{after-append}
-use Rattle.picture_laws.specs.Elements.{macroblock_elements, macroblocks_elements, spare_elements, group_elements, groups_elements, header_elements, elements}
+use Rattle.picture_laws.specs.Elements.{macroblock_elements, macroblocks_elements, spare_elements, group_elements, groups_elements}
 use Rattle.picture_laws.proofs.Rows.{Among, among-all}
-use Rattle.picture_laws.proofs.Slots.{word_at, Takes, psc, gbsc}
-use Rattle.picture_laws.proofs.Words.{field-number, number_below, field-mod}
-use Rattle.picture_laws.proofs.Chains.{Stands, Chain, word_in, words}
+use Rattle.picture_laws.proofs.Slots.{Takes, gbsc}
+use Rattle.picture_laws.proofs.Words.{field-mod}
+use Rattle.picture_laws.proofs.Chains.{Stands}
 use Rattle.picture_laws.proofs.Vectors.{last_component}
-use Rattle.picture_laws.proofs.Blocks.{Says, says-none, says-cons, says-append, says-text, all-head, all-tail, one_pass, not_less, not_same, state}
-use Rattle.picture_laws.proofs.Macroblocks.{IsBehind, says-macroblock, says-same, both_axes}
-use Rattle.vlc_codes.proofs.WordLaws.{either_way, if-true, if-false, and_left, and_right}
+use Rattle.picture_laws.proofs.Basics.{not_same}
+use Rattle.picture_laws.proofs.Blocks.{Says, says-none, says-cons, says-append, says-text, all-head, all-tail, one_pass, state}
+use Rattle.picture_laws.proofs.Macroblocks.{IsBehind, says-macroblock, both_axes}
+use Rattle.vlc_codes.proofs.WordLaws.{either_way}
 
 -- ---- stuffing
 
@@ -61,10 +61,11 @@ says-macroblocks format number last before behind (m ∷ ms) place rise valid =
     let two = says-stuffing format number (Some m) (after before (macroblock_elements last m)) (get_or behind 0 0) one.1 in
     let rest = says-macroblocks format number (Some m) (after (after before (macroblock_elements last m)) (replicate (get_or behind 0 0) Stuffing)) (drop 1 behind) ms two.1 rise.2 (all-tail (IsValidMacroblock format number) m ms valid) in
     let e : after before (macroblocks_elements last behind (m ∷ ms)) ≡ after (after (after before (macroblock_elements last m)) (replicate (get_or behind 0 0) Stuffing)) (macroblocks_elements (Some m) (drop 1 behind) ms) =
-        after-append before (macroblock_elements last m) (replicate (get_or behind 0 0) Stuffing ++ macroblocks_elements (Some m) (drop 1 behind) ms)
-        ∙ after-append (after before (macroblock_elements last m)) (replicate (get_or behind 0 0) Stuffing) (macroblocks_elements (Some m) (drop 1 behind) ms) in
-    (says-append format before (macroblock_elements last m) _ (macroblock_text last m) _ one.0 (says-append format (after before (macroblock_elements last m)) (replicate (get_or behind 0 0) Stuffing) _ (stuffing_text (get_or behind 0 0)) _ two.0 rest.0),
-     subst (λ b. IsBehindGroup number b) (sym e) rest.1)
+    after-append before (macroblock_elements last m) (replicate (get_or behind 0 0) Stuffing ++ macroblocks_elements (Some m) (drop 1 behind) ms)
+    ∙ after-append (after before (macroblock_elements last m)) (replicate (get_or behind 0 0) Stuffing) (macroblocks_elements (Some m) (drop 1 behind) ms) in (
+      says-append format before (macroblock_elements last m) _ (macroblock_text last m) _ one.0 (says-append format (after before (macroblock_elements last m)) (replicate (get_or behind 0 0) Stuffing) _ (stuffing_text (get_or behind 0 0)) _ two.0 rest.0),
+      subst (λ b. IsBehindGroup number b) (sym e) rest.1,
+    )
 
 -- ---- spare octets
 
@@ -117,9 +118,6 @@ numbers_small Cif = refl
 group_small : (format : Format) (n : ℕ) → is_group format n ≡ true → n < 16
 group_small format n h = ltb-true n 16 (among-all (λ n. nat_lt n 16) n (group_numbers format) (numbers_small format) (among_numbers (group_numbers format) n h))
 
-less_than : (n m : ℕ) → n < m → nat_lt n m ≡ true
-less_than n m h = lt-ltb n m h
-
 four_parts : (a b c d e : List Bool) → a ++ (b ++ (c ++ (d ++ e))) ≡ (a ++ (b ++ (c ++ d))) ++ e
 four_parts a b c d e = sym (append_assoc a (b ++ (c ++ d)) e ∙ ap (λ t. a ++ t) (append_assoc b (c ++ d) e ∙ ap (λ t. b ++ t) (append_assoc c d e)))
 
@@ -127,7 +125,7 @@ pub says-sent : (format : Format) (before : List Element) (low : ℕ) (g : Group
 unfolding group_header_text
 says-sent format before low g spares stuffings behind place is rise valid =
     let b3 : List Element = Gquant g.quant ∷ Gn g.number ∷ Gbsc ∷ before in
-    let gn_good : (is_group format g.number && nat_lt (group before) g.number) ≡ true = ap (λ b. b && nat_lt (group before) g.number) is ∙ less_than (group before) g.number (omega (arith, place.group_is, rise)) in
+    let gn_good : (is_group format g.number && nat_lt (group before) g.number) ≡ true = ap (λ b. b && nat_lt (group before) g.number) is ∙ lt-ltb (group before) g.number (omega (arith, place.group_is, rise)) in
     let gbsc_ : Stands format before Gbsc = record { takes = takes_gbsc (slot before) place.at; good = refl } in
     let gn_ : Stands format (Gbsc ∷ before) (Gn g.number) = record { takes = (g.number, group_small format g.number is, refl); good = one_pass (not (is_group format g.number && nat_lt (group before) g.number)) BadGroup (ap not gn_good) } in
     let gquant_ : Stands format (Gn g.number ∷ Gbsc ∷ before) (Gquant g.quant) = record { takes = (g.quant, omega (arith, valid.quant), refl); good = one_pass (g.quant == 0) BadQuant (not_same g.quant 0 (λ same. absurd (omega (arith, same, valid.quant.0)))) } in
@@ -143,20 +141,21 @@ says-sent format before low g spares stuffings behind place is rise valid =
     let t = says-stuffing format g.number None (after (Gquant g.quant ∷ Gn g.number ∷ Gbsc ∷ before) (spare_elements Gei Gspare spares)) stuffings behind_spares in
     let ms = says-macroblocks format g.number None (after (after (Gquant g.quant ∷ Gn g.number ∷ Gbsc ∷ before) (spare_elements Gei Gspare spares)) (replicate stuffings Stuffing)) behind g.macroblocks t.1 valid.addresses valid.macroblocks in
     let e : after before (group_elements (Sent spares stuffings behind) g) ≡ after (after (after (Gquant g.quant ∷ Gn g.number ∷ Gbsc ∷ before) (spare_elements Gei Gspare spares)) (replicate stuffings Stuffing)) (macroblocks_elements None behind g.macroblocks) =
-        after-append (Gquant g.quant ∷ Gn g.number ∷ Gbsc ∷ before) (spare_elements Gei Gspare spares) (replicate stuffings Stuffing ++ macroblocks_elements None behind g.macroblocks)
-        ∙ after-append (after (Gquant g.quant ∷ Gn g.number ∷ Gbsc ∷ before) (spare_elements Gei Gspare spares)) (replicate stuffings Stuffing) (macroblocks_elements None behind g.macroblocks) in
+    after-append (Gquant g.quant ∷ Gn g.number ∷ Gbsc ∷ before) (spare_elements Gei Gspare spares) (replicate stuffings Stuffing ++ macroblocks_elements None behind g.macroblocks)
+    ∙ after-append (after (Gquant g.quant ∷ Gn g.number ∷ Gbsc ∷ before) (spare_elements Gei Gspare spares)) (replicate stuffings Stuffing) (macroblocks_elements None behind g.macroblocks) in
     let tail : List Bool = stuffing_text stuffings ++ stuffed_text None behind g.macroblocks in
     let parts = says-append format (Gquant g.quant ∷ Gn g.number ∷ Gbsc ∷ before) (spare_elements Gei Gspare spares) _ (spare_text spares) _ s.0 (says-append format _ (replicate stuffings Stuffing) _ (stuffing_text stuffings) _ t.0 ms.0) in
-    let header = says-cons format before Gbsc _ gbsc _ gbsc_ refl (says-cons format (Gbsc ∷ before) (Gn g.number) _ (field g.number 4) _ gn_ refl (says-cons format (Gn g.number ∷ Gbsc ∷ before) (Gquant g.quant) _ (field g.quant 5) _ gquant_ refl parts)) in
-    (says-text format before (group_elements (Sent spares stuffings behind) g) _ _ (four_parts gbsc (field g.number 4) (field g.quant 5) (spare_text spares) (stuffing_text stuffings ++ stuffed_text None behind g.macroblocks)) header,
-     subst (λ b. IsBehindGroup g.number b) (sym e) ms.1)
+    let header = says-cons format before Gbsc _ gbsc _ gbsc_ refl (says-cons format (Gbsc ∷ before) (Gn g.number) _ (field g.number 4) _ gn_ refl (says-cons format (Gn g.number ∷ Gbsc ∷ before) (Gquant g.quant) _ (field g.quant 5) _ gquant_ refl parts)) in (
+      says-text format before (group_elements (Sent spares stuffings behind) g) _ _ (four_parts gbsc (field g.number 4) (field g.quant 5) (spare_text spares) (stuffing_text stuffings ++ stuffed_text None behind g.macroblocks)) header,
+      subst (λ b. IsBehindGroup g.number b) (sym e) ms.1,
+    )
 
 -- the groups' numbers are the format's, and rise
 abbrev pub RiseFrom : Format → ℕ → List Group → Type 0
 RiseFrom format low [] = Unit {0}
 RiseFrom format low (g ∷ gs) = (is_group format g.number ≡ true) × (low < g.number) × RiseFrom format g.number gs
 
-higher : (low high : ℕ) (before : List Element) → low ≤ high → IsAtGroup low before → IsAtGroup high before
+pub higher : (low high : ℕ) (before : List Element) → low ≤ high → IsAtGroup low before → IsAtGroup high before
 higher low high before h place = record { at = place.at; group_is = omega (arith, h, place.group_is) }
 
 pub says-groups : (format : Format) (before : List Element) (low : ℕ) (forms : List GroupForm) (gs : List Group) → IsAtGroup low before → GroupsFit forms gs → RiseFrom format low gs → All (IsValidGroup format) gs → Says format before (groups_elements forms gs) (sent_groups_text forms gs) × ((high : ℕ) × IsAtGroup high (after before (groups_elements forms gs)))
@@ -169,6 +168,7 @@ says-groups format before low (Sent spares stuffings behind ∷ forms) (g ∷ gs
     let one = says-sent format before low g spares stuffings behind place rise.0 rise.1 (all-head (IsValidGroup format) g gs valid) in
     let es : List Element = group_elements (Sent spares stuffings behind) g in
     let next : IsAtGroup g.number (after before (group_elements (Sent spares stuffings behind) g)) = record { at = inr one.1.at; group_is = omega (arith, one.1.group_is) } in
-    let rest = says-groups format (after before (group_elements (Sent spares stuffings behind) g)) g.number forms gs next fit.1 rise.2 (all-tail (IsValidGroup format) g gs valid) in
-    (says-append format before (group_elements (Sent spares stuffings behind) g) (groups_elements forms gs) (sent_group_text (Sent spares stuffings behind) g) (sent_groups_text forms gs) one.0 rest.0,
-     (rest.1.0, subst (λ b. IsAtGroup rest.1.0 b) (sym (after-append before (group_elements (Sent spares stuffings behind) g) (groups_elements forms gs))) rest.1.1))
+    let rest = says-groups format (after before (group_elements (Sent spares stuffings behind) g)) g.number forms gs next fit.1 rise.2 (all-tail (IsValidGroup format) g gs valid) in (
+      says-append format before (group_elements (Sent spares stuffings behind) g) (groups_elements forms gs) (sent_group_text (Sent spares stuffings behind) g) (sent_groups_text forms gs) one.0 rest.0,
+      (rest.1.0, subst (λ b. IsAtGroup rest.1.0 b) (sym (after-append before (group_elements (Sent spares stuffings behind) g) (groups_elements forms gs))) rest.1.1),
+    )

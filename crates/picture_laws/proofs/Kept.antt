@@ -1,8 +1,8 @@
 -- Bits behind the first 65,600 or 262,208 change no answer.
-use Rattle.std.proofs.Common.{◌≡◌, ◌≢◌, ℕ, zero, suc, ◌+◌, ◌-◌, ◌*◌, ◌<◌, ◌≤◌, ◌&&◌, ◌||◌, not, Bool, true, false, cond, List, [], ◌∷◌, ◌++◌, length, map, take, drop, Option, Some, None, nat_lt, nat_le, if◌then◌else◌, refl, sym, ◌∙◌, ap, subst, inl, inr, ◌⊎◌, arith}
+use Rattle.std.proofs.Common.{◌≡◌, ℕ, zero, suc, ◌+◌, ◌-◌, ◌<◌, ◌≤◌, ◌&&◌, ◌||◌, not, Bool, true, false, cond, List, [], ◌∷◌, length, take, drop, Option, Some, None, nat_lt, refl, sym, ◌∙◌, ap, subst, inl, inr, arith}
 use Rattle.std.specs.List.{list_any, list_all, find}
-use Rattle.std.proofs.lemmas.Bool.{false≢true, ltb-true, ltb-false, leb-true}
-use Rattle.std.proofs.lemmas.List.{length-take-le, length-drop}
+use Rattle.std.proofs.lemmas.Bool.{ltb-true, ltb-false}
+use Rattle.std.proofs.lemmas.List.{length-take-le}
 use Rattle.pel_model.specs.declared.Format.{Format}
 use Rattle.pel_model.specs.declared.Why.{Why}
 use Rattle.pel_model.specs.declared.Why.TheVariants.{Cut, NoCode, TooLong}
@@ -11,10 +11,10 @@ use Rattle.pel_model.specs.Codes.{begins, mba_table, mtype_table, mvd_table, cbp
 use Rattle.pel_model.specs.Records.{Picture}
 use Rattle.pel_model.specs.Valid.{limit}
 use Rattle.pel_model.specs.Accepts.{Accepts}
-use Rattle.pel_model.specs.Walk.{Step, Good, Stop, Bad, Row, skipped, start, after, Goes, Reads, FirstFault, read, word_at, whole_word, cause, judged}
+use Rattle.pel_model.specs.Walk.{Step, Good, Stop, Bad, Row, skipped, start, after, Goes, Reads, FirstFault, read, word_at, whole_word, judged}
 use Rattle.pel_model.specs.Grammar.{Element, Slot, AtPsc, AtTr, AtPtype, AtPei, AtPspare, AtGroup, AtGn, AtGquant, AtGei, AtGspare, AtMacroblock, AtMtype, AtMquant, AtMvd, AtCbp, AtDc, AtFirst, AtCoefficient, slot, rows, faults, first_why, may_end, is_end, or_no_start, at_slot, next, picture, counted}
-use Rattle.picture_laws.specs.Elements.{Tells}
-use Rattle.picture_laws.specs.Laws.{KeptLength, kept_length}
+use Rattle.picture_laws.specs.Laws.{KeptLength}
+use Rattle.picture_laws.proofs.Basics.{not_less, some_same}
 use Rattle.picture_laws.proofs.Rows.{codes_of}
 use Rattle.picture_laws.proofs.Cuts.{drop-take}
 use Rattle.picture_laws.proofs.Limits.{picture-next}
@@ -45,9 +45,6 @@ take_take zero k xs h = refl
 take_take (suc j) zero xs h = absurd (omega (arith, h))
 take_take (suc j) (suc k) [] h = refl
 take_take (suc j) (suc k) (x ∷ xs) h = ap (λ t. x ∷ t) (take_take j k xs (omega (arith, h)))
-
-not_less : (n m : ℕ) → m ≤ n → nat_lt n m ≡ false
-not_less n m h = elim (either_way (nat_lt n m)) [ inl less ↦ absurd (omega (arith, h, ltb-true n m less)) | inr no_ ↦ no_ ]
 
 -- rows whose words have fewer than 32 bits
 abbrev IsShort : {E : Type 0} → List (Row E) → Type 0
@@ -80,7 +77,7 @@ same_whole row bits k short most long =
     let few : nat_lt (length (take k bits)) (length row.code + row.tail) ≡ false = not_less (length (take k bits)) (length row.code + row.tail) (omega (arith, length-take-le k bits (omega (arith, long)), short, most)) in
     let few2 : nat_lt (length bits) (length row.code + row.tail) ≡ false = not_less (length bits) (length row.code + row.tail) (omega (arith, short, most, long)) in
     let tail : take row.tail (drop (length row.code) (take k bits)) ≡ take row.tail (drop (length row.code) bits) =
-        ap (take row.tail) (drop-take (length row.code) k bits (omega (arith, short, most))) ∙ take_take row.tail (k - length row.code) (drop (length row.code) bits) (omega (arith, short, most)) in
+    ap (take row.tail) (drop-take (length row.code) k bits (omega (arith, short, most))) ∙ take_take row.tail (k - length row.code) (drop (length row.code) bits) (omega (arith, short, most)) in
     if-false (nat_lt (length (take k bits)) (length row.code + row.tail)) (Bad Cut) (Good (row.make (number (take row.tail (drop (length row.code) (take k bits))))) (length row.code + row.tail)) few
     ∙ (ap (λ t. Good (row.make (number t)) (length row.code + row.tail)) tail
     ∙ sym (if-false (nat_lt (length bits) (length row.code + row.tail)) (Bad Cut) (Good (row.make (number (take row.tail (drop (length row.code) bits)))) (length row.code + row.tail)) few2))
@@ -99,9 +96,6 @@ same_find (row ∷ rows) bits k short most =
     let here : length row.code + row.tail < 32 = ltb-true (length row.code + row.tail) 32 (and_left _ _ short) in
     ap (λ b. cond b (Some row) (find (λ row. begins row.code (take k bits)) rows)) (begins_take row.code bits k (omega (arith, here, most)))
     ∙ ap (λ o. cond (begins row.code bits) (Some row) o) (same_find rows bits k (and_right _ _ short) most)
-
-some_same : {A : Type 0} (x y : A) → Some x ≡ Some y → x ≡ y
-some_same x y h = cc
 
 find_short : {E : Type 0} (test : Row E → Bool) (rows : List (Row E)) (row : Row E) → IsShort rows → find test rows ≡ Some row → length row.code + row.tail < 32
 find_short test [] row short h = absurd cc
@@ -219,8 +213,9 @@ same_record format bits others pic moves accepted =
     subst (λ p. Accepts format others p) (told-one format read_.0 w.0 pic w.1 w.2.1.valid read_.2 accepted.1.valid) w.2
 
 pub kept-length : KeptLength
-kept-length format bits =
-    (λ pic accepted. same_record format bits (take (limit format + 64) bits) pic (keep_reads format bits) accepted,
-     λ pic accepted. same_record format (take (limit format + 64) bits) bits pic (unkeep_reads format bits) accepted,
-     keep_fault format bits,
-     unkeep_fault format bits)
+kept-length format bits = (
+  λ pic accepted. same_record format bits (take (limit format + 64) bits) pic (keep_reads format bits) accepted,
+  λ pic accepted. same_record format (take (limit format + 64) bits) bits pic (unkeep_reads format bits) accepted,
+  keep_fault format bits,
+  unkeep_fault format bits,
+)

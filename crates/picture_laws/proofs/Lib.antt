@@ -1,4 +1,5 @@
 pub mod Answers
+pub mod Basics
 pub mod Blocks
 pub mod Chains
 pub mod Cuts

@@ -1,16 +1,16 @@
 -- The limit of a picture, for walks: where the last element ends within it, all do.
-use Rattle.std.proofs.Common.{◌≡◌, ℕ, zero, suc, ◌+◌, ◌-◌, ◌*◌, ◌<◌, ◌≤◌, Bool, true, false, cond, List, [], ◌∷◌, ◌++◌, length, Option, Some, None, nat_lt, refl, sym, ◌∙◌, ap, subst, inl, inr, ◌⊎◌, arith}
-use Rattle.std.proofs.lemmas.Bool.{false≢true, ltb-true, ltb-false}
+use Rattle.std.proofs.Common.{◌≡◌, ℕ, ◌+◌, ◌-◌, ◌*◌, ◌<◌, ◌≤◌, Bool, cond, List, [], ◌∷◌, length, Option, Some, None, nat_lt, refl, sym, ◌∙◌, ap, subst, inl, inr, arith}
+use Rattle.std.proofs.lemmas.Bool.{ltb-false, lt-ltb}
 use Rattle.pel_model.specs.declared.Format.{Format}
 use Rattle.pel_model.specs.declared.Why.{Why}
 use Rattle.pel_model.specs.declared.Why.TheVariants.{TooLong}
-use Rattle.pel_model.specs.Bits.{field}
 use Rattle.pel_model.specs.Valid.{limit, group_count}
 use Rattle.pel_model.specs.Walk.{Step, Good, Stop, Bad, skipped, after, Goes, judged, verdict}
-use Rattle.pel_model.specs.Grammar.{Element, Gbsc, Stuffing, Mba, Gn, Gquant, Gei, Slot, AtPsc, AtTr, AtPtype, AtPei, AtPspare, AtGroup, AtGn, AtGquant, AtGei, AtGspare, AtMacroblock, AtMtype, AtMquant, AtMvd, AtCbp, AtDc, AtFirst, AtCoefficient, slot, next, picture, counted, begun}
+use Rattle.pel_model.specs.Grammar.{Element, Gbsc, Slot, AtPsc, AtTr, AtPtype, AtPei, AtPspare, AtGroup, AtGn, AtGquant, AtGei, AtGspare, AtMacroblock, AtMtype, AtMquant, AtMvd, AtCbp, AtDc, AtFirst, AtCoefficient, slot, next, picture, counted, begun}
+use Rattle.picture_laws.proofs.Basics.{not_less}
 use Rattle.picture_laws.proofs.Slots.{word_at, Takes}
-use Rattle.picture_laws.proofs.Words.{IsWord, length-field}
-use Rattle.picture_laws.proofs.Chains.{Stands, Chain, word_in, words, next-is, judged_good, judged_here}
+use Rattle.picture_laws.proofs.Words.{length-field}
+use Rattle.picture_laws.proofs.Chains.{next-is, judged_good, judged_here}
 use Rattle.vlc_codes.proofs.WordLaws.{either_way, if-true, if-false}
 
 -- the bits of a group header that are still due
@@ -51,9 +51,9 @@ grow AtGspare before e t = grown AtGspare before e _ t.2 (quiet AtGspare before 
 grow AtMacroblock before e t = elim t [
   | inl a ↦ grown AtMacroblock before e _ a.2 (quiet AtMacroblock before _ refl refl)
   | inr a ↦ elim a [
-      | inl b ↦ grown AtMacroblock before e _ b (quiet AtMacroblock before _ refl refl)
-      | inr b ↦ grown AtMacroblock before e _ b (gbsc_grows AtMacroblock before refl)
-    ]
+    | inl b ↦ grown AtMacroblock before e _ b (quiet AtMacroblock before _ refl refl)
+    | inr b ↦ grown AtMacroblock before e _ b (gbsc_grows AtMacroblock before refl)
+  ]
 ]
 grow AtMtype before e t = grown AtMtype before e _ t.1 (quiet AtMtype before _ refl refl)
 grow AtMquant before e t = grown AtMquant before e _ t.2 (quiet AtMquant before _ refl refl)
@@ -79,18 +79,12 @@ claimed_walk format before r (e ∷ es) end h =
     let later = claimed_walk format (e ∷ before) (skipped h.0 r) es end h.2 in
     omega (arith, here, later)
 
-no_less : (n m : ℕ) → m ≤ n → nat_lt n m ≡ false
-no_less n m h = elim (either_way (nat_lt n m)) [ inl less ↦ absurd (omega (arith, ltb-true n m less)) | inr not_less ↦ not_less ]
-
 -- an element that ends within the limit
 pub picture-good : (format : Format) (before : List Element) (r : List Bool × ℕ) (e : Element) (n : ℕ) → next format before r ≡ Good e n → counted format (e ∷ before) (r.1 + n) ≤ limit format → picture format before r ≡ Good e n
 unfolding picture
 picture-good format before r e n h fits =
     judged_here (λ e n. cond (nat_lt (limit format) (counted format (e ∷ before) (r.1 + n))) (Some TooLong) None) (next format before r) e n h
-    (if-false (nat_lt (limit format) (counted format (e ∷ before) (r.1 + n))) (Some TooLong) None (no_less (limit format) (counted format (e ∷ before) (r.1 + n)) fits))
-
-less : (n m : ℕ) → n < m → nat_lt n m ≡ true
-less n m h = elim (either_way (nat_lt n m)) [ inl less_ ↦ less_ | inr no_ ↦ absurd (omega (arith, ltb-false n m no_)) ]
+    (if-false (nat_lt (limit format) (counted format (e ∷ before) (r.1 + n))) (Some TooLong) None (not_less (limit format) (counted format (e ∷ before) (r.1 + n)) fits))
 
 some_none : {A : Type 0} (x : A) → Some x ≡ None → ⊥
 some_none x h = cc
@@ -99,17 +93,19 @@ pub picture-next : (format : Format) (before : List Element) (r : List Bool × �
 unfolding picture
 picture-next format before r e n h =
     let j = judged_good (λ e n. cond (nat_lt (limit format) (counted format (e ∷ before) (r.1 + n))) (Some TooLong) None) (next format before r) e n h in
-    let past = nat_lt (limit format) (counted format (e ∷ before) (r.1 + n)) in
-    (j.0, elim (either_way (nat_lt (limit format) (counted format (e ∷ before) (r.1 + n)))) [
-      | inl long ↦ absurd (some_none TooLong (sym (if-true (nat_lt (limit format) (counted format (e ∷ before) (r.1 + n))) (Some TooLong) None long) ∙ j.1))
-      | inr fits ↦ ltb-false (limit format) (counted format (e ∷ before) (r.1 + n)) fits
-    ])
+    let past = nat_lt (limit format) (counted format (e ∷ before) (r.1 + n)) in (
+      j.0,
+      elim (either_way (nat_lt (limit format) (counted format (e ∷ before) (r.1 + n)))) [
+        | inl long ↦ absurd (some_none TooLong (sym (if-true (nat_lt (limit format) (counted format (e ∷ before) (r.1 + n))) (Some TooLong) None long) ∙ j.1))
+        | inr fits ↦ ltb-false (limit format) (counted format (e ∷ before) (r.1 + n)) fits
+      ],
+    )
 
 pub picture-long : (format : Format) (before : List Element) (r : List Bool × ℕ) (e : Element) (n : ℕ) → next format before r ≡ Good e n → limit format < counted format (e ∷ before) (r.1 + n) → picture format before r ≡ Bad TooLong
 unfolding picture
 picture-long format before r e n h long =
     ap (judged (λ e n. cond (nat_lt (limit format) (counted format (e ∷ before) (r.1 + n))) (Some TooLong) None)) h
-    ∙ ap (verdict e n) (if-true (nat_lt (limit format) (counted format (e ∷ before) (r.1 + n))) (Some TooLong) None (less (limit format) (counted format (e ∷ before) (r.1 + n)) long))
+    ∙ ap (verdict e n) (if-true (nat_lt (limit format) (counted format (e ∷ before) (r.1 + n))) (Some TooLong) None (lt-ltb (limit format) (counted format (e ∷ before) (r.1 + n)) long))
 
 verdict_stop : {E : Type 0} (e : E) (n : ℕ) (o : Option Why) → verdict e n o ≡ Stop → Good e n ≡ Stop
 verdict_stop e n None h = h

@@ -1,21 +1,18 @@
 -- How long the words of elements are: 1 to 20 bits.
-use Rattle.std.proofs.Common.{◌≡◌, ℕ, zero, suc, ◌+◌, ◌<◌, ◌≤◌, ◌==◌, ◌&&◌, ◌||◌, Bool, true, false, List, [], ◌∷◌, ◌++◌, length, nat_lt, nat_le, if◌then◌else◌, refl, sym, ◌∙◌, ap, subst, inl, inr, ◌⊎◌, ℤ, nat_abs, IsTrue, MatchBool, arith}
-use Rattle.std.specs.List.{list_any, list_all}
-use Rattle.std.proofs.lemmas.Bool.{ltb-true, leb-true}
+use Rattle.std.proofs.Common.{◌≡◌, ℕ, ◌<◌, Bool, true, false, List, [], ◌∷◌, ◌++◌, length, nat_lt, refl, sym, ap, subst, inl, inr, ℤ, nat_abs, arith}
+use Rattle.std.specs.List.{list_all}
+use Rattle.std.proofs.lemmas.Bool.{ltb-true}
 use Rattle.std.proofs.lemmas.List.{length-append}
 use Rattle.pel_model.specs.declared.MbKind.{MbKind}
 use Rattle.pel_model.specs.declared.MbKind.TheVariants.{Intra, IntraQuant, Inter, InterQuant, Mc, McCoded, McQuant, McFil, McFilCoded, McFilQuant}
-use Rattle.pel_model.specs.Codes.{mba_table, mtype_table, mvd_table, cbp_table, tcoeff_table, escape_word, first_one_word, later_one_word}
+use Rattle.pel_model.specs.Codes.{mba_table, mtype_table, mvd_table, cbp_table, escape_word, first_one_word, later_one_word}
 use Rattle.pel_model.specs.Bits.{field}
-use Rattle.pel_model.specs.Records.{Coefficient}
 use Rattle.pel_model.specs.Text.{word_of, coefficient_word, mtype_word, pair_word, is_negative, twos_complement}
-use Rattle.pel_model.specs.Walk.{Row}
-use Rattle.pel_model.specs.Grammar.{Element, Mba, Mtype, Mvd, Cbp, Slot, AtPsc, AtTr, AtPtype, AtPei, AtPspare, AtGroup, AtGn, AtGquant, AtGei, AtGspare, AtMacroblock, AtMtype, AtMquant, AtMvd, AtCbp, AtDc, AtFirst, AtCoefficient}
-use Rattle.picture_laws.proofs.Rows.{Among, among-all}
-use Rattle.picture_laws.proofs.Slots.{word_at, one_at, Takes, IsPattern, same_pair, same_bits-true, mvd_words}
+use Rattle.pel_model.specs.Grammar.{Element, Slot, AtPsc, AtTr, AtPtype, AtPei, AtPspare, AtGroup, AtGn, AtGquant, AtGei, AtGspare, AtMacroblock, AtMtype, AtMquant, AtMvd, AtCbp, AtDc, AtFirst, AtCoefficient}
+use Rattle.picture_laws.proofs.Rows.{among-all}
+use Rattle.picture_laws.proofs.Slots.{word_at, Takes, same_pair, same_bits-true, mvd_words}
 use Rattle.picture_laws.proofs.Words.{length-field}
 use Rattle.picture_laws.proofs.Written.{found_step, found_pattern}
-use Rattle.vlc_codes.proofs.WordLaws.{and_left, and_right}
 
 some_at : (s : Slot) (e x : Element) → e ≡ x → 0 < length (word_at s x) → 0 < length (word_at s e)
 some_at s e x is h = subst (λ y. 0 < length (word_at s y)) (sym is) h

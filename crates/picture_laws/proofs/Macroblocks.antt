@@ -1,34 +1,30 @@
 -- The macroblock layer: the elements of a valid macroblock may stand behind those before it, and their words are its
 -- text.
-use Rattle.std.proofs.Common.{◌≡◌, ◌≢◌, ℕ, zero, suc, ◌+◌, ◌-◌, ◌*◌, ◌<◌, ◌≤◌, ◌^◌, ◌==◌, ◌&&◌, ◌||◌, not, Bool, true, false, cond, List, [], ◌∷◌, ◌++◌, length, map, Option, Some, None, nat_lt, nat_le, if◌then◌else◌, refl, sym, ◌∙◌, ap, subst, inl, inr, ◌⊎◌, append_assoc, append-nil, ℤ, pos, negsuc, ◌-ℤ◌, nat_abs, MatchBool, IsTrue, IsSomeAnd, IfSome, IsNone, IsSome, All, Any, is_some, slice_index_or, arith}
-use Rattle.std.specs.List.{list_any, list_all, flat_map}
-use Rattle.std.proofs.lemmas.Bool.{false≢true, ltb-true, ltb-false, leb-true, eqb-true, eq-eqb, lt-ltb}
-use Rattle.std.proofs.lemmas.Nat.{pow_pos}
+use Rattle.std.proofs.Common.{◌≡◌, ℕ, ◌+◌, ◌-◌, ◌<◌, ◌≤◌, ◌^◌, ◌==◌, not, Bool, true, false, cond, List, [], ◌∷◌, ◌++◌, length, map, Option, Some, None, nat_lt, refl, sym, ◌∙◌, ap, subst, inl, inr, append_assoc, append-nil, ℤ, pos, ◌-ℤ◌, nat_abs, MatchBool, IsSomeAnd, IfSome, IsNone, IsSome, All, Any, is_some, arith}
+use Rattle.std.specs.List.{flat_map}
+use Rattle.std.proofs.lemmas.Bool.{false≢true}
 use Rattle.pel_model.specs.declared.Format.{Format}
 use Rattle.pel_model.specs.declared.MbKind.{MbKind}
-use Rattle.pel_model.specs.declared.MbKind.TheVariants.{Intra, IntraQuant, Inter, InterQuant, Mc, McCoded, McQuant, McFil, McFilCoded, McFilQuant}
-use Rattle.pel_model.specs.declared.Why.{Why}
 use Rattle.pel_model.specs.declared.Why.TheVariants.{BadQuant, BadAddress, BadVector, VectorOutside}
 use Rattle.pel_model.specs.Codes.{is_intra, has_mquant, has_vector, has_cbp, mvd_table}
 use Rattle.pel_model.specs.Bits.{field, number}
 use Rattle.pel_model.specs.Records.{Axis, Across, Down, Block, Macroblock, component}
 use Rattle.pel_model.specs.Text.{address_of, predictor, mba_word, mtype_word, mquant_text, mvd_word, mvd_text, cbp_text, coded_block_pattern, sent_block_text, macroblock_text}
-use Rattle.pel_model.specs.Valid.{IsQuantiser, MquantFits, side, corner, StaysWithin, ComponentFits, IsIntraBlock, IsCodedBlock, BlocksFit, IsValidMacroblock}
+use Rattle.pel_model.specs.Valid.{IsQuantiser, side, corner, StaysWithin, ComponentFits, IsIntraBlock, IsCodedBlock, BlocksFit, IsValidMacroblock}
 use Rattle.pel_model.specs.Walk.{after}
 use Rattle.pel_model.specs.Grammar as grammar
 use Rattle.pel_model.specs.Grammar.{Element, Mba, Mtype, Mquant, Mvd, Cbp, Slot, AtMacroblock, AtMtype, AtMquant, AtMvd, AtCbp, slot, kind, blocks, group, address, vector, faults, first_why, block_slot, cbp_slot, vector_slot, ones, moved, in_range, stays_within}
 use Rattle.pel_model.proofs.Walks.{after-append}
 use Rattle.picture_laws.specs.Elements.{mquant_elements, pair_in, mvd_element, vector_elements, cbp_elements, blocks_elements, macroblock_elements}
-use Rattle.picture_laws.proofs.Rows.{Among}
-use Rattle.picture_laws.proofs.Slots.{word_at, Takes, IsStep, IsPattern}
-use Rattle.picture_laws.proofs.Words.{field-number, number_below}
+use Rattle.picture_laws.proofs.Slots.{word_at, Takes}
+use Rattle.picture_laws.proofs.Words.{number_below}
 use Rattle.std.proofs.lemmas.List.{length-map}
 use Rattle.picture_laws.proofs.Patterns.{ones-trues, number-some, sent-trues, blocks-intra, blocks-coded, blocks-none, any-sent, not-both}
-use Rattle.picture_laws.proofs.Written.{below_all, below}
-use Rattle.picture_laws.proofs.Chains.{Stands, Chain, word_in, words}
-use Rattle.picture_laws.proofs.Vectors.{IsPairOf, pair-of, last_component, IsLast, predicted, predictor-small, in-range, stays}
-use Rattle.picture_laws.proofs.Blocks.{Says, says-none, says-cons, says-append, says-text, all-head, all-tail, one_pass, two_pass, not_less, not_same, state, sent, AreBlocksOf, says-blocks, blocks-state, blocks-slot}
-use Rattle.vlc_codes.proofs.WordLaws.{either_way, if-true, if-false, and_left, and_right}
+use Rattle.picture_laws.proofs.Chains.{Stands, word_in}
+use Rattle.picture_laws.proofs.Vectors.{pair-of, last_component, IsLast, predicted, predictor-small, in-range, stays}
+use Rattle.picture_laws.proofs.Basics.{not_less, not_same}
+use Rattle.picture_laws.proofs.Blocks.{Says, says-none, says-cons, says-append, says-text, one_pass, two_pass, state, sent, AreBlocksOf, says-blocks, blocks-state, blocks-slot}
+use Rattle.vlc_codes.proofs.WordLaws.{either_way, if-true, if-false}
 
 pub says-same : (format : Format) (before es es' : List Element) (a b : List Bool) → es ≡ es' → a ≡ b → Says format before es a → Says format before es' b
 says-same format before es es' a b is same s = subst (λ t. Says format before t b) is (says-text format before es a b same s)
@@ -88,28 +84,32 @@ stands_mvd format before number axis last m is at group_is address_is vector_is 
     let gives : moved (vector axis before) (pair_in (component axis m -ℤ predictor axis last m) mvd_table) ≡ component axis m = ap (λ p. moved p (pair_in (component axis m -ℤ predictor axis last m) mvd_table)) vector_is ∙ pair.gives in
     let inside : in_range (moved (vector axis before) (pair_in (component axis m -ℤ predictor axis last m) mvd_table)) ≡ true = ap in_range gives ∙ in-range (component axis m) fit.0 in
     let within : stays_within (side format axis) (corner axis (group before) (address before)) (moved (vector axis before) (pair_in (component axis m -ℤ predictor axis last m) mvd_table)) ≡ true =
-        ap (λ g. stays_within (side format axis) (corner axis g (address before)) (moved (vector axis before) (pair_in (component axis m -ℤ predictor axis last m) mvd_table))) group_is
-        ∙ (ap (λ a. stays_within (side format axis) (corner axis number a) (moved (vector axis before) (pair_in (component axis m -ℤ predictor axis last m) mvd_table))) address_is
-        ∙ (ap (stays_within (side format axis) (corner axis number m.address)) gives ∙ stays (side format axis) (corner axis number m.address) (component axis m) fit.1)) in
-    (record {
-      takes = subst (λ s. Takes s (mvd_element axis last m)) (sym at) (pair.row, pair.among, ap (Mvd axis) (sym pair.is));
-      good = two_pass _ _ BadVector VectorOutside (ap not inside) (ap not within);
-    }, ap (λ s. word_at s (mvd_element axis last m)) at ∙ pair.word, gives)
+    ap (λ g. stays_within (side format axis) (corner axis g (address before)) (moved (vector axis before) (pair_in (component axis m -ℤ predictor axis last m) mvd_table))) group_is
+    ∙ (ap (λ a. stays_within (side format axis) (corner axis number a) (moved (vector axis before) (pair_in (component axis m -ℤ predictor axis last m) mvd_table))) address_is
+    ∙ (ap (stays_within (side format axis) (corner axis number m.address)) gives ∙ stays (side format axis) (corner axis number m.address) (component axis m) fit.1)) in (
+      record {
+        takes = subst (λ s. Takes s (mvd_element axis last m)) (sym at) (pair.row, pair.among, ap (Mvd axis) (sym pair.is));
+        good = two_pass _ _ BadVector VectorOutside (ap not inside) (ap not within);
+      },
+      ap (λ s. word_at s (mvd_element axis last m)) at ∙ pair.word,
+      gives,
+    )
 
 -- with a vector
 has_vector_says : (format : Format) (before : List Element) (number : ℕ) (last : Option Macroblock) (m : Macroblock) → IsLast last → slot before ≡ AtMvd Across → kind before ≡ m.kind → group before ≡ number → address before ≡ m.address → ((axis : Axis) → vector axis before ≡ predictor axis last m) → IsFit format number Across m → IsFit format number Down m → Says format before (mvd_element Across last m ∷ mvd_element Down last m ∷ []) (mvd_word Across last m ++ mvd_word Down last m) × IsBehindVector number m (mvd_element Down last m ∷ mvd_element Across last m ∷ before)
 has_vector_says format before number last m is at kind_is group_is address_is vector_is across down =
     let a = stands_mvd format before number Across last m is at group_is address_is (vector_is Across) across in
     let d = stands_mvd format (mvd_element Across last m ∷ before) number Down last m is refl group_is address_is (vector_is Down) down in
-    let one = says-cons format (mvd_element Across last m ∷ before) (mvd_element Down last m) [] (mvd_word Down last m) [] d.0 d.1 (says-none format _) in
-    (says-same format before _ (mvd_element Across last m ∷ mvd_element Down last m ∷ []) (mvd_word Across last m ++ (mvd_word Down last m ++ [])) (mvd_word Across last m ++ mvd_word Down last m) refl (ap (λ t. mvd_word Across last m ++ t) (append-nil (mvd_word Down last m))) (says-cons format before (mvd_element Across last m) (mvd_element Down last m ∷ []) (mvd_word Across last m) (mvd_word Down last m ++ []) a.0 a.1 one),
-     record {
-       at = ap cbp_slot kind_is;
-       kind_is = kind_is;
-       group_is = group_is;
-       address_is = address_is;
-       vector_is = both_axes (λ axis. vector axis (mvd_element Down last m ∷ mvd_element Across last m ∷ before) ≡ component axis m) a.2 d.2;
-     })
+    let one = says-cons format (mvd_element Across last m ∷ before) (mvd_element Down last m) [] (mvd_word Down last m) [] d.0 d.1 (says-none format _) in (
+      says-same format before _ (mvd_element Across last m ∷ mvd_element Down last m ∷ []) (mvd_word Across last m ++ (mvd_word Down last m ++ [])) (mvd_word Across last m ++ mvd_word Down last m) refl (ap (λ t. mvd_word Across last m ++ t) (append-nil (mvd_word Down last m))) (says-cons format before (mvd_element Across last m) (mvd_element Down last m ∷ []) (mvd_word Across last m) (mvd_word Down last m ++ []) a.0 a.1 one),
+      record {
+        at = ap cbp_slot kind_is;
+        kind_is = kind_is;
+        group_is = group_is;
+        address_is = address_is;
+        vector_is = both_axes (λ axis. vector axis (mvd_element Down last m ∷ mvd_element Across last m ∷ before) ≡ component axis m) a.2 d.2;
+      },
+    )
 
 pub says-vector : (format : Format) (before : List Element) (number : ℕ) (last : Option Macroblock) (m : Macroblock) → IsLast last → IsAtVector number last m before → ComponentFits format number Across m → ComponentFits format number Down m → Says format before (vector_elements last m) (mvd_text last m) × IsBehindVector number m (after before (vector_elements last m))
 says-vector format before number last m is place across down = elim (either_way (has_vector m.kind)) [
@@ -118,24 +118,25 @@ says-vector format before number last m is place across down = elim (either_way 
       let e : mvd_element Across last m ∷ mvd_element Down last m ∷ [] ≡ vector_elements last m = sym (if-true (has_vector m.kind) (mvd_element Across last m ∷ mvd_element Down last m ∷ []) [] has) in
       let t : mvd_word Across last m ++ mvd_word Down last m ≡ mvd_text last m = sym (if-true (has_vector m.kind) (mvd_word Across last m ++ mvd_word Down last m) [] has) in
       let r = has_vector_says format before number last m is
-          (place.at ∙ ap (λ b. cond b (AtMvd Across) (cbp_slot m.kind)) has) place.kind_is place.group_is place.address_is
-          (λ axis. place.vector_is axis ∙ ap (λ b. cond b (predictor axis last m) (pos 0)) has)
-          (subst (λ b. MatchBool b (IsFit format number Across m) (component Across m ≡ pos 0)) has across)
-          (subst (λ b. MatchBool b (IsFit format number Down m) (component Down m ≡ pos 0)) has down) in
+      (place.at ∙ ap (λ b. cond b (AtMvd Across) (cbp_slot m.kind)) has) place.kind_is place.group_is place.address_is
+      (λ axis. place.vector_is axis ∙ ap (λ b. cond b (predictor axis last m) (pos 0)) has)
+      (subst (λ b. MatchBool b (IsFit format number Across m) (component Across m ≡ pos 0)) has across)
+      (subst (λ b. MatchBool b (IsFit format number Down m) (component Down m ≡ pos 0)) has down) in
       (says-same format before _ (vector_elements last m) _ (mvd_text last m) e t r.0, subst (λ es. IsBehindVector number m (after before es)) e r.1)
   | inr none ↦
       let e : [] ≡ vector_elements last m = sym (if-false (has_vector m.kind) (mvd_element Across last m ∷ mvd_element Down last m ∷ []) [] none) in
       let t : [] ≡ mvd_text last m = sym (if-false (has_vector m.kind) (mvd_word Across last m ++ mvd_word Down last m) [] none) in
       let a : component Across m ≡ pos 0 = subst (λ b. MatchBool b (IsFit format number Across m) (component Across m ≡ pos 0)) none across in
-      let d : component Down m ≡ pos 0 = subst (λ b. MatchBool b (IsFit format number Down m) (component Down m ≡ pos 0)) none down in
-      (says-same format before [] (vector_elements last m) [] (mvd_text last m) e t (says-none format before),
-       subst (λ es. IsBehindVector number m (after before es)) e (record {
-         at = place.at ∙ ap (λ b. cond b (AtMvd Across) (cbp_slot m.kind)) none;
-         kind_is = place.kind_is;
-         group_is = place.group_is;
-         address_is = place.address_is;
-         vector_is = λ axis. place.vector_is axis ∙ (ap (λ b. cond b (predictor axis last m) (pos 0)) none ∙ sym (both_axes (λ axis. component axis m ≡ pos 0) a d axis));
-       }))
+      let d : component Down m ≡ pos 0 = subst (λ b. MatchBool b (IsFit format number Down m) (component Down m ≡ pos 0)) none down in (
+        says-same format before [] (vector_elements last m) [] (mvd_text last m) e t (says-none format before),
+        subst (λ es. IsBehindVector number m (after before es)) e (record {
+          at = place.at ∙ ap (λ b. cond b (AtMvd Across) (cbp_slot m.kind)) none;
+          kind_is = place.kind_is;
+          group_is = place.group_is;
+          address_is = place.address_is;
+          vector_is = λ axis. place.vector_is axis ∙ (ap (λ b. cond b (predictor axis last m) (pos 0)) none ∙ sym (both_axes (λ axis. component axis m ≡ pos 0) a d axis));
+        }),
+      )
 ]
 
 -- ---- CBP and the blocks
@@ -188,19 +189,21 @@ says-rest format before number m place count six fit = elim (either_way (has_cbp
       let valid : AreBlocksOf (is_intra (kind before)) m.blocks = subst (λ b. AreBlocksOf b m.blocks) (sym (ap is_intra place.kind_is ∙ inter)) (blocks-coded m.blocks coded.1) in
       let e : Cbp (coded_block_pattern m.blocks) ∷ [] ≡ cbp_elements m = sym (if-true (has_cbp m.kind) (Cbp (coded_block_pattern m.blocks) ∷ []) [] has) in
       let t : word_in before (Cbp (coded_block_pattern m.blocks)) ≡ cbp_text m = sym (if-true (has_cbp m.kind) (word_in before (Cbp (coded_block_pattern m.blocks))) [] has) in
-      let blocks_say = says-blocks format (Cbp (coded_block_pattern m.blocks) ∷ before) m.blocks next_at ones_are valid in
-      (says-same format before (Cbp (coded_block_pattern m.blocks) ∷ blocks_elements m.blocks) (cbp_elements m ++ blocks_elements m.blocks) (cbp_text m ++ flat_map sent_block_text m.blocks) (cbp_text m ++ flat_map sent_block_text m.blocks) (ap (λ es. es ++ blocks_elements m.blocks) e) refl (says-cons format before (Cbp (coded_block_pattern m.blocks)) (blocks_elements m.blocks) (cbp_text m) (flat_map sent_block_text m.blocks) stands t blocks_say),
-       subst (λ es. IsDone number m (after before (es ++ blocks_elements m.blocks))) e (done_blocks number m (Cbp (coded_block_pattern m.blocks) ∷ before) m.blocks place.group_is place.address_is (both_axes (λ axis. vector axis (Cbp (coded_block_pattern m.blocks) ∷ before) ≡ component axis m) (place.vector_is Across) (place.vector_is Down)) next_at ones_are))
+      let blocks_say = says-blocks format (Cbp (coded_block_pattern m.blocks) ∷ before) m.blocks next_at ones_are valid in (
+        says-same format before (Cbp (coded_block_pattern m.blocks) ∷ blocks_elements m.blocks) (cbp_elements m ++ blocks_elements m.blocks) (cbp_text m ++ flat_map sent_block_text m.blocks) (cbp_text m ++ flat_map sent_block_text m.blocks) (ap (λ es. es ++ blocks_elements m.blocks) e) refl (says-cons format before (Cbp (coded_block_pattern m.blocks)) (blocks_elements m.blocks) (cbp_text m) (flat_map sent_block_text m.blocks) stands t blocks_say),
+        subst (λ es. IsDone number m (after before (es ++ blocks_elements m.blocks))) e (done_blocks number m (Cbp (coded_block_pattern m.blocks) ∷ before) m.blocks place.group_is place.address_is (both_axes (λ axis. vector axis (Cbp (coded_block_pattern m.blocks) ∷ before) ≡ component axis m) (place.vector_is Across) (place.vector_is Down)) next_at ones_are),
+      )
   | inr none ↦
       let r = says_blocks_alone format before number m place none count six fit in
       let at : slot before ≡ block_slot (kind before) (sent m.blocks) =
-          place.at ∙ (ap (λ b. cond b AtCbp (block_slot m.kind (cond (is_intra m.kind) 6 0))) none ∙ (ap (block_slot m.kind) (sym r.0) ∙ ap (λ k. block_slot k (sent m.blocks)) (sym place.kind_is))) in
+      place.at ∙ (ap (λ b. cond b AtCbp (block_slot m.kind (cond (is_intra m.kind) 6 0))) none ∙ (ap (block_slot m.kind) (sym r.0) ∙ ap (λ k. block_slot k (sent m.blocks)) (sym place.kind_is))) in
       let count_is : blocks before ≡ sent m.blocks = count ∙ sym r.0 in
       let valid : AreBlocksOf (is_intra (kind before)) m.blocks = subst (λ b. AreBlocksOf b m.blocks) (sym (ap is_intra place.kind_is)) r.1 in
       let e : [] ≡ cbp_elements m = sym (if-false (has_cbp m.kind) (Cbp (coded_block_pattern m.blocks) ∷ []) [] none) in
-      let t : [] ≡ cbp_text m = sym (if-false (has_cbp m.kind) (word_in before (Cbp (coded_block_pattern m.blocks))) [] none) in
-      (says-same format before (blocks_elements m.blocks) (cbp_elements m ++ blocks_elements m.blocks) (flat_map sent_block_text m.blocks) (cbp_text m ++ flat_map sent_block_text m.blocks) (ap (λ es. es ++ blocks_elements m.blocks) e) (ap (λ t. t ++ flat_map sent_block_text m.blocks) t) (says-blocks format before m.blocks at count_is valid),
-       subst (λ es. IsDone number m (after before (es ++ blocks_elements m.blocks))) e (done_blocks number m before m.blocks place.group_is place.address_is place.vector_is at count_is))
+      let t : [] ≡ cbp_text m = sym (if-false (has_cbp m.kind) (word_in before (Cbp (coded_block_pattern m.blocks))) [] none) in (
+        says-same format before (blocks_elements m.blocks) (cbp_elements m ++ blocks_elements m.blocks) (flat_map sent_block_text m.blocks) (cbp_text m ++ flat_map sent_block_text m.blocks) (ap (λ es. es ++ blocks_elements m.blocks) e) (ap (λ t. t ++ flat_map sent_block_text m.blocks) t) (says-blocks format before m.blocks at count_is valid),
+        subst (λ es. IsDone number m (after before (es ++ blocks_elements m.blocks))) e (done_blocks number m before m.blocks place.group_is place.address_is place.vector_is at count_is),
+      )
 ]
 
 -- ---- the macroblock
@@ -222,10 +225,10 @@ at-vector number last m before place rise at =
     let same = mquant-state (headed before last m) m.mquant in
     let sum : address before + (m.address - address_of last) ≡ m.address = omega (arith, place.address_is, rise) in
     let predicts = λ (axis : Axis).
-        ap (λ b. cond (has_vector m.kind) b (pos 0))
-        (ap (λ a. cond (grammar.starts_anew (m.address - address_of last) a) (pos 0) (vector axis before)) sum
-        ∙ (ap (λ z. cond (grammar.starts_anew (m.address - address_of last) m.address) (pos 0) z) (place.vector_is axis)
-        ∙ sym (predicted axis last m place.last_is rise))) in
+    ap (λ b. cond (has_vector m.kind) b (pos 0))
+    (ap (λ a. cond (grammar.starts_anew (m.address - address_of last) a) (pos 0) (vector axis before)) sum
+    ∙ (ap (λ z. cond (grammar.starts_anew (m.address - address_of last) m.address) (pos 0) z) (place.vector_is axis)
+    ∙ sym (predicted axis last m place.last_is rise))) in
     record {
       at = at;
       kind_is = ap (λ (s : MbKind × ℕ × ℕ × ℤ × ℤ). s.0) same;
@@ -295,6 +298,7 @@ says-macroblock format number last m before place rise most valid =
     let r = says-rest format (after (after (headed before last m) (mquant_elements m.mquant)) (vector_elements last m)) number m v.1 count valid.six valid.blocks in
     let parts = says-append format (headed before last m) (mquant_elements m.mquant) _ (mquant_text m.mquant) _ q.0 (says-append format (after (headed before last m) (mquant_elements m.mquant)) (vector_elements last m) _ (mvd_text last m) _ v.0 r.0) in
     let mtype : Stands format (Mba (m.address - address_of last) ∷ before) (Mtype m.kind) = record { takes = (m.kind, refl); good = refl } in
-    let whole = says-cons format before (Mba (m.address - address_of last)) (Mtype m.kind ∷ body last m) (mba_word last m) _ (stands-mba format number last m before place rise most) refl (says-cons format (Mba (m.address - address_of last) ∷ before) (Mtype m.kind) (body last m) (mtype_word m.kind) _ mtype refl parts) in
-    (says-text format before (macroblock_elements last m) _ _ (five (mba_word last m) (mtype_word m.kind) (mquant_text m.mquant) (mvd_text last m) (cbp_text m) (flat_map sent_block_text m.blocks)) whole,
-     done-behind format number m (after before (macroblock_elements last m)) (omega (arith, rise)) valid (subst (λ b. IsDone number m b) (sym (after-body (headed before last m) last m)) r.1))
+    let whole = says-cons format before (Mba (m.address - address_of last)) (Mtype m.kind ∷ body last m) (mba_word last m) _ (stands-mba format number last m before place rise most) refl (says-cons format (Mba (m.address - address_of last) ∷ before) (Mtype m.kind) (body last m) (mtype_word m.kind) _ mtype refl parts) in (
+      says-text format before (macroblock_elements last m) _ _ (five (mba_word last m) (mtype_word m.kind) (mquant_text m.mquant) (mvd_text last m) (cbp_text m) (flat_map sent_block_text m.blocks)) whole,
+      done-behind format number m (after before (macroblock_elements last m)) (omega (arith, rise)) valid (subst (λ b. IsDone number m b) (sym (after-body (headed before last m) last m)) r.1),
+    )

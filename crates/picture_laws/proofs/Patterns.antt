@@ -1,20 +1,18 @@
 -- The blocks of a macroblock: which are sent, and the number that says so.
-use Rattle.std.proofs.Common.{◌≡◌, ◌≢◌, ℕ, zero, suc, ◌+◌, ◌-◌, ◌*◌, ◌/◌, ◌%◌, ◌<◌, ◌≤◌, ◌^◌, ◌==◌, ◌&&◌, ◌||◌, not, Bool, true, false, cond, List, [], ◌∷◌, ◌++◌, length, map, Option, Some, None, nat_lt, nat_le, refl, sym, ◌∙◌, ap, subst, inl, inr, ◌⊎◌, MatchBool, IsTrue, IsSomeAnd, IfSome, IsNone, IsSome, All, Any, is_some, slice_index_or, arith}
-use Rattle.std.specs.List.{list_any, list_all}
-use Rattle.std.proofs.lemmas.Bool.{false≢true, ltb-true, ltb-false, leb-true, eqb-true, eq-eqb, lt-ltb}
+use Rattle.std.proofs.Common.{◌≡◌, ℕ, zero, suc, ◌<◌, ◌≤◌, ◌^◌, ◌==◌, Bool, true, false, List, [], ◌∷◌, length, map, Option, Some, None, refl, sym, ◌∙◌, ap, subst, IsSomeAnd, IfSome, IsNone, IsSome, All, Any, is_some, slice_index_or, arith}
+use Rattle.std.specs.List.{list_all}
+use Rattle.std.proofs.lemmas.Bool.{false≢true, eqb-true}
 use Rattle.std.proofs.lemmas.Nat.{pow_pos}
-use Rattle.std.proofs.lemmas.List.{length-map}
 use Rattle.pel_model.specs.declared.MbKind.{MbKind}
-use Rattle.pel_model.specs.declared.MbKind.TheVariants.{Intra, IntraQuant, Inter, InterQuant, Mc, McCoded, McQuant, McFil, McFilCoded, McFilQuant}
+use Rattle.pel_model.specs.declared.MbKind.TheVariants.{Intra, IntraQuant}
 use Rattle.pel_model.specs.Codes.{is_intra, has_cbp}
 use Rattle.pel_model.specs.Bits.{field, number}
 use Rattle.pel_model.specs.Records.{Block}
-use Rattle.pel_model.specs.Valid.{IsIntraBlock, IsCodedBlock, BlocksFit}
+use Rattle.pel_model.specs.Valid.{IsIntraBlock, IsCodedBlock}
 use Rattle.pel_model.specs.Grammar.{ones}
 use Rattle.picture_laws.proofs.Words.{field-number, number_below}
 use Rattle.picture_laws.proofs.Written.{below_all, below}
 use Rattle.picture_laws.proofs.Blocks.{all-head, all-tail, all-cons, all-nil, sent, AreBlocksOf}
-use Rattle.vlc_codes.proofs.WordLaws.{either_way}
 
 -- ---- numbers of flags
 

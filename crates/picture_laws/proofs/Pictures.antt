@@ -1,30 +1,29 @@
 -- A valid picture in an input form, read from its first bit to the end.
-use Rattle.std.proofs.Common.{◌≡◌, ◌≢◌, ℕ, zero, suc, ◌+◌, ◌-◌, ◌*◌, ◌/◌, ◌%◌, ◌<◌, ◌≤◌, ◌^◌, ◌==◌, ◌&&◌, ◌||◌, not, Bool, true, false, cond, List, [], ◌∷◌, ◌++◌, length, map, take, drop, get_or, replicate, Option, Some, None, nat_lt, nat_le, refl, sym, ◌∙◌, ap, subst, inl, inr, ◌⊎◌, append_assoc, append-nil, All, codes, arith}
-use Rattle.std.specs.List.{list_any, list_all, flat_map}
-use Rattle.std.proofs.lemmas.Bool.{false≢true, ltb-true, ltb-false, lt-ltb}
-use Rattle.std.proofs.lemmas.List.{length-replicate, length-map}
+use Rattle.std.proofs.Common.{◌≡◌, ℕ, zero, suc, ◌+◌, ◌<◌, ◌≤◌, ◌^◌, ◌&&◌, not, Bool, true, false, List, [], ◌∷◌, ◌++◌, length, map, take, drop, get_or, replicate, Option, Some, None, refl, sym, ◌∙◌, ap, subst, inl, inr, ◌⊎◌, arith}
+use Rattle.std.specs.List.{list_any}
+use Rattle.std.proofs.lemmas.Bool.{lt-ltb}
+use Rattle.std.proofs.lemmas.List.{length-replicate}
 use Rattle.pel_model.specs.declared.Format.{Format}
 use Rattle.pel_model.specs.declared.Format.TheVariants.{Qcif, Cif}
-use Rattle.pel_model.specs.declared.Why.{Why}
 use Rattle.pel_model.specs.Bits.{field, number}
-use Rattle.pel_model.specs.Codes.{word, has_vector, has_cbp}
+use Rattle.pel_model.specs.Codes.{has_vector, has_cbp}
 use Rattle.pel_model.specs.Records.{Across, Down, Block, Coefficient, Macroblock, Group, Picture}
 use Rattle.pel_model.specs.Text.{coded_block_pattern}
-use Rattle.pel_model.specs.Valid.{group_numbers, group_count, limit, IsValid, IsValidSoFar, IsValidGroup}
-use Rattle.pel_model.specs.Spelling.{FreeBits, GroupForm, LeftOut, Sent, Form, GroupFits, GroupsFit, spare_text, type_text, header_text, sent_groups_text, sent_text, input_text, IsSpelling}
-use Rattle.pel_model.specs.Accepts.{left_out, counted_length, IsAccepted, Accepts}
-use Rattle.pel_model.specs.Walk.{Step, Stop, start, after, Goes, Reads, judged}
-use Rattle.pel_model.specs.Grammar as grammar
-use Rattle.pel_model.specs.Grammar.{Element, Psc, Tr, Ptype, Pei, Pspare, Gbsc, Gn, Gquant, Gei, Gspare, Stuffing, Mba, Mtype, Mquant, Mvd, Cbp, Dc, Tcoeff, Eob, Slot, AtGroup, AtMacroblock, slot, group, begun, faults, first_why, is_group, may_end, is_end, or_no_start, rows, next}
+use Rattle.pel_model.specs.Valid.{group_numbers, limit, IsValid}
+use Rattle.pel_model.specs.Spelling.{FreeBits, GroupForm, LeftOut, Sent, Form, GroupsFit, type_text, header_text, sent_groups_text, sent_text}
+use Rattle.pel_model.specs.Accepts.{left_out}
+use Rattle.pel_model.specs.Walk.{Stop, start, after, judged}
+use Rattle.pel_model.specs.Grammar.{Element, Psc, Tr, Ptype, Pei, Pspare, Gbsc, Gei, Gspare, Stuffing, Cbp, Tcoeff, Eob, Slot, AtGroup, AtMacroblock, slot, begun, faults, first_why, is_group, may_end, is_end, or_no_start, rows, next}
 use Rattle.pel_model.specs.Walk.{read}
 use Rattle.pel_model.proofs.Walks.{after-append}
-use Rattle.picture_laws.specs.Elements.{dc_elements, block_elements, blocks_elements, mquant_elements, mvd_element, vector_elements, cbp_elements, macroblock_elements, macroblocks_elements, spare_elements, group_elements, groups_elements, header_elements, elements, Tells}
+use Rattle.pel_model.specs.Elements.{dc_elements, block_elements}
+use Rattle.picture_laws.specs.Elements.{blocks_elements, mquant_elements, mvd_element, vector_elements, cbp_elements, macroblock_elements, macroblocks_elements, spare_elements, group_elements, groups_elements, header_elements, elements}
 use Rattle.picture_laws.specs.Laws.{AcceptedIsRead}
-use Rattle.picture_laws.proofs.Slots.{word_at, Takes, psc}
+use Rattle.picture_laws.proofs.Slots.{psc}
 use Rattle.picture_laws.proofs.Words.{field-number, number_below}
-use Rattle.picture_laws.proofs.Chains.{Stands, Chain, word_in, words, IsWalk, walk-goes}
+use Rattle.picture_laws.proofs.Chains.{walk-goes}
 use Rattle.picture_laws.proofs.Limits.{due, claimed, goes-picture, picture-stops}
-use Rattle.picture_laws.proofs.Blocks.{Says, says-none, says-cons, says-append, says-text, state}
+use Rattle.picture_laws.proofs.Blocks.{Says, says-cons, says-append}
 use Rattle.picture_laws.proofs.Groups.{says-pspares, pspares-group, IsAtGroup, RiseFrom, says-groups}
 use Rattle.vlc_codes.proofs.WordLaws.{either_way, if-true, if-false}
 
@@ -100,17 +99,19 @@ says-header format free spares tr fits =
     let small : number (type_text format free) < 64 = subst (λ k. number (type_text format free) < 2 ^ k) long (number_below (type_text format free)) in
     let again : field (number (type_text format free)) 6 ≡ type_text format free = ap (field (number (type_text format free))) (sym long) ∙ field-number (type_text format free) in
     let s = says-pspares format (Ptype (number (type_text format free)) ∷ Tr tr ∷ Psc ∷ []) spares refl in
-    let t = says-cons format (Tr tr ∷ Psc ∷ []) (Ptype (number (type_text format free))) _ (type_text format free) _ (record { takes = (number (type_text format free), small, refl); good = type_good format free.split free.document free.release free.spare }) again s.0 in
-    (says-cons format [] Psc _ psc _ (record { takes = refl; good = refl }) refl (says-cons format (Psc ∷ []) (Tr tr) _ (field tr 5) _ (record { takes = (tr, fits, refl); good = refl }) refl t),
-     record { at = inl s.1; group_is = (let e = pspares-group (Ptype (number (type_text format free)) ∷ Tr tr ∷ Psc ∷ []) spares in omega (arith, e)) })
+    let t = says-cons format (Tr tr ∷ Psc ∷ []) (Ptype (number (type_text format free))) _ (type_text format free) _ (record { takes = (number (type_text format free), small, refl); good = type_good format free.split free.document free.release free.spare }) again s.0 in (
+      says-cons format [] Psc _ psc _ (record { takes = refl; good = refl }) refl (says-cons format (Psc ∷ []) (Tr tr) _ (field tr 5) _ (record { takes = (tr, fits, refl); good = refl }) refl t),
+      record { at = inl s.1; group_is = (let e = pspares-group (Ptype (number (type_text format free)) ∷ Tr tr ∷ Psc ∷ []) spares in omega (arith, e)) },
+    )
 
 pub says-picture : (format : Format) (form : Form) (p : Picture) → GroupsFit form.groups p.groups → IsValid format p → Says format [] (elements format form p) (sent_text format form p) × ((high : ℕ) × IsAtGroup high (after [] (elements format form p)))
 says-picture format form p fit valid =
     let h = says-header format form.free form.spares p.tr valid.so_far.tr in
     let head : List Element = header_elements format form.free form.spares p.tr in
-    let g = says-groups format (after [] (header_elements format form.free form.spares p.tr)) 0 form.groups p.groups h.1 fit (valid-rise format p valid) valid.so_far.groups in
-    (says-append format [] (header_elements format form.free form.spares p.tr) (groups_elements form.groups p.groups) (header_text format form.free form.spares p.tr) (sent_groups_text form.groups p.groups) h.0 g.0,
-     (g.1.0, subst (λ b. IsAtGroup g.1.0 b) (sym (after-append [] (header_elements format form.free form.spares p.tr) (groups_elements form.groups p.groups))) g.1.1))
+    let g = says-groups format (after [] (header_elements format form.free form.spares p.tr)) 0 form.groups p.groups h.1 fit (valid-rise format p valid) valid.so_far.groups in (
+      says-append format [] (header_elements format form.free form.spares p.tr) (groups_elements form.groups p.groups) (header_text format form.free form.spares p.tr) (sent_groups_text form.groups p.groups) h.0 g.0,
+      (g.1.0, subst (λ b. IsAtGroup g.1.0 b) (sym (after-append [] (header_elements format form.free form.spares p.tr) (groups_elements form.groups p.groups))) g.1.1),
+    )
 
 -- ---- how many groups are begun
 
@@ -138,7 +139,7 @@ none_dc None = refl
 none_dc (Some n) = refl
 
 none_block : (b : Block) → gbscs (block_elements b) ≡ 0
-none_block b = omega (arith, gbscs-append (dc_elements b.dc) (map Tcoeff b.coefficients ++ (Eob ∷ [])), none_dc b.dc, gbscs-append (map Tcoeff b.coefficients) (Eob ∷ []), none_coefficients b.coefficients)
+none_block b = omega (arith, gbscs-append (dc_elements b.dc ++ map Tcoeff b.coefficients) (Eob ∷ []), gbscs-append (dc_elements b.dc) (map Tcoeff b.coefficients), none_dc b.dc, none_coefficients b.coefficients)
 
 none_blocks : (bs : List (Option Block)) → gbscs (blocks_elements bs) ≡ 0
 none_blocks [] = refl
@@ -237,7 +238,8 @@ accepted-read format bits p accepted =
       place = ap (λ t. 0 + length t) (sym says.0.text);
     }) in
     let begun_is = begun-picture format accepted.0 p spelling.fits in
-    let fits : claimed format (after [] (elements format accepted.0 p)) (0 + length (sent_text format accepted.0 p)) ≤ limit format = omega (arith, ending.1, begun_is, valid.whole, accepted.1.short) in
-    (elements format accepted.0 p,
-     (end, goes-picture format [] (start bits) (elements format accepted.0 p) end walk fits, picture-stops format (after [] (elements format accepted.0 p)) end (stops format (after [] (elements format accepted.0 p)) end ending.0 (end-of-zeros accepted.0.zeros spelling.zeros))),
-     (accepted.0, spelling.fits, refl))
+    let fits : claimed format (after [] (elements format accepted.0 p)) (0 + length (sent_text format accepted.0 p)) ≤ limit format = omega (arith, ending.1, begun_is, valid.whole, accepted.1.short) in (
+      elements format accepted.0 p,
+      (end, goes-picture format [] (start bits) (elements format accepted.0 p) end walk fits, picture-stops format (after [] (elements format accepted.0 p)) end (stops format (after [] (elements format accepted.0 p)) end ending.0 (end-of-zeros accepted.0.zeros spelling.zeros))),
+      (accepted.0, spelling.fits, refl),
+    )

@@ -1,24 +1,23 @@
 -- Elements that may stand one behind another up to an end: those of a block are the elements of a valid block.
-use Rattle.std.proofs.Common.{◌≡◌, ◌≢◌, ℕ, zero, suc, ◌+◌, ◌-◌, ◌*◌, ◌<◌, ◌≤◌, ◌==◌, ◌&&◌, ◌||◌, not, Bool, true, false, cond, List, [], ◌∷◌, ◌++◌, length, map, Option, Some, None, nat_lt, nat_le, refl, sym, ◌∙◌, ap, subst, inl, inr, ◌⊎◌, append_assoc, append-nil, ℤ, pos, negsuc, nat_abs, MatchBool, IsSomeAnd, IsNone, All, sum_by, is_some, arith}
-use Rattle.std.specs.List.{list_any, list_all}
-use Rattle.std.proofs.lemmas.Bool.{false≢true, ltb-true, ltb-false, eqb-true, eq-eqb}
+use Rattle.std.proofs.Common.{◌≡◌, ℕ, ◌+◌, ◌-◌, ◌<◌, ◌≤◌, ◌==◌, ◌&&◌, ◌||◌, Bool, true, false, cond, List, [], ◌∷◌, ◌++◌, map, Option, Some, None, nat_lt, refl, sym, ◌∙◌, ap, subst, inl, inr, append_assoc, ℤ, All, sum_by, is_some, arith}
+use Rattle.std.proofs.lemmas.Bool.{false≢true, ltb-false}
 use Rattle.std.proofs.lemmas.List.Sums.{sum_by-cons}
 use Rattle.pel_model.specs.declared.Format.{Format}
 use Rattle.pel_model.specs.declared.MbKind.{MbKind}
-use Rattle.pel_model.specs.declared.Why.{Why}
 use Rattle.pel_model.specs.declared.Why.TheVariants.{BadDc, BadLevel, TooMany}
 use Rattle.pel_model.specs.Codes.{is_intra}
 use Rattle.pel_model.specs.Records.{Coefficient, Block}
-use Rattle.pel_model.specs.Valid.{IsValidCoefficient, AreValidCoefficients, IsValidDc}
+use Rattle.pel_model.specs.Valid.{IsValidCoefficient, IsValidDc}
 use Rattle.pel_model.specs.Walk.{after}
-use Rattle.pel_model.specs.Grammar.{Element, Dc, Tcoeff, Eob, Slot, AtDc, AtFirst, AtCoefficient, slot, kind, blocks, filled, faults, first_why, is_forbidden_level, block_slot, may_end}
+use Rattle.pel_model.specs.Grammar.{Element, Dc, Tcoeff, Eob, Slot, AtDc, AtFirst, AtCoefficient, slot, kind, blocks, filled, is_forbidden_level, block_slot, may_end}
 use Rattle.pel_model.proofs.Walks.{after-append}
-use Rattle.picture_laws.specs.Elements.{dc_elements, block_elements, blocks_elements}
+use Rattle.pel_model.specs.Elements.{block_elements}
+use Rattle.picture_laws.specs.Elements.{blocks_elements}
 use Rattle.picture_laws.proofs.Slots.{Takes, IsSent}
 use Rattle.picture_laws.proofs.Chains.{Stands, Chain, chain-right}
 use Rattle.picture_laws.proofs.Patterns.{trues}
-use Rattle.picture_laws.proofs.Blocks.{all-cons, all-nil, one_passed, two_passed, not_equal, sent_valid, first-filled, IsBlockOf, AreBlocksOf, state, block-state, block-blocks, block-slot}
-use Rattle.vlc_codes.proofs.WordLaws.{either_way}
+use Rattle.picture_laws.proofs.Basics.{not_equal, or_false}
+use Rattle.picture_laws.proofs.Blocks.{all-cons, all-nil, one_passed, two_passed, sent_valid, first-filled, IsBlockOf, AreBlocksOf, block-state, block-blocks, block-slot}
 
 -- elements that may stand behind these, up to where an end may be
 pub record IsRest (format : Format) (before es : List Element) : Type 0 where
@@ -96,13 +95,9 @@ pub record ReadsBlock (intra : Bool) (es : List Element) : Type 0 where
 end_joined : (cs : List Coefficient) (rest : List Element) → map Tcoeff cs ++ (Eob ∷ rest) ≡ (map Tcoeff cs ++ (Eob ∷ [])) ++ rest
 end_joined cs rest = sym (append_assoc (map Tcoeff cs) (Eob ∷ []) rest)
 
-or_not : (a b : Bool) → (a || b) ≡ false → (a ≡ false) × (b ≡ false)
-or_not true b h = absurd cc
-or_not false b h = (refl, h)
-
 good_dc : (n : ℕ) → n < 256 → (n == 0 || n == 128) ≡ false → IsValidDc n
 good_dc n small ok =
-    let both = or_not (n == 0) (n == 128) ok in
+    let both = or_false (n == 0) (n == 128) ok in
     let some = not_equal n 0 both.0 in
     (omega (arith, some), omega (arith, small), not_equal n 128 both.1)
 
@@ -154,8 +149,8 @@ read-blocks format before es (true ∷ flags) at count r =
     let same : kind (after before (block_elements one.block)) ≡ kind before = ap (λ (s : MbKind × ℕ × ℕ × ℤ × ℤ). s.0) (block-state before one.block) in
     let fewer : blocks before - 1 ≡ trues flags = omega (arith, count) in
     let more = read-blocks format (after before (block_elements one.block)) one.rest flags
-        (block-slot before one.block ∙ (ap (block_slot (kind before)) fewer ∙ ap (λ k. block_slot k (trues flags)) (sym same)))
-        (block-blocks before one.block ∙ fewer) left in
+    (block-slot before one.block ∙ (ap (block_slot (kind before)) fewer ∙ ap (λ k. block_slot k (trues flags)) (sym same)))
+    (block-blocks before one.block ∙ fewer) left in
     record {
       bs = Some one.block ∷ more.bs;
       rest = more.rest;

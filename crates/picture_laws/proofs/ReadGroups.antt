@@ -1,29 +1,27 @@
 -- Elements that may stand one behind another up to an end: behind a picture header they are the elements of valid groups.
-use Rattle.std.proofs.Common.{◌≡◌, ◌≢◌, ℕ, zero, suc, ◌+◌, ◌-◌, ◌*◌, ◌%◌, ◌<◌, ◌≤◌, ◌==◌, ◌&&◌, ◌||◌, not, Bool, true, false, cond, List, [], ◌∷◌, ◌++◌, length, map, drop, get_or, replicate, Option, Some, None, nat_lt, refl, sym, ◌∙◌, ap, subst, inl, inr, ◌⊎◌, append_assoc, append-nil, ℤ, pos, All, arith}
-use Rattle.std.specs.List.{list_any, list_all}
-use Rattle.std.proofs.lemmas.Bool.{false≢true, ltb-true, ltb-false, eqb-true, eq-eqb}
+use Rattle.std.proofs.Common.{◌≡◌, ◌≢◌, ℕ, zero, suc, ◌%◌, ◌<◌, ◌≤◌, ◌==◌, ◌&&◌, not, Bool, true, false, List, [], ◌∷◌, ◌++◌, length, map, replicate, Option, Some, None, nat_lt, refl, sym, ◌∙◌, ap, subst, inl, inr, ◌⊎◌, ℤ, pos, All, arith}
+use Rattle.std.proofs.lemmas.Bool.{false≢true, ltb-true}
 use Rattle.std.proofs.lemmas.List.{length-append}
 use Rattle.pel_model.specs.declared.Format.{Format}
 use Rattle.pel_model.specs.declared.MbKind.{MbKind}
-use Rattle.pel_model.specs.declared.Why.{Why}
 use Rattle.pel_model.specs.declared.Why.TheVariants.{BadGroup, BadQuant}
-use Rattle.pel_model.specs.Records.{Axis, Across, Down, Macroblock, Group}
+use Rattle.pel_model.specs.Records.{Macroblock, Group}
 use Rattle.pel_model.specs.Text.{address_of}
-use Rattle.pel_model.specs.Valid.{IsQuantiser, IsValidMacroblock, AddressesRise, IsValidGroup, group_numbers}
-use Rattle.pel_model.specs.Spelling.{GroupForm, LeftOut, Sent, GroupFits, GroupsFit}
+use Rattle.pel_model.specs.Valid.{IsQuantiser, IsValidMacroblock, AddressesRise, IsValidGroup}
+use Rattle.pel_model.specs.Spelling.{GroupForm, LeftOut, Sent, GroupsFit}
 use Rattle.pel_model.specs.Walk.{after}
-use Rattle.pel_model.specs.Grammar.{Element, Pei, Pspare, Gbsc, Gn, Gquant, Gei, Gspare, Stuffing, Mba, Slot, AtPei, AtPspare, AtGroup, AtGn, AtGquant, AtGei, AtGspare, AtMacroblock, slot, group, vector, faults, first_why, is_group, may_end}
+use Rattle.pel_model.specs.Grammar.{Element, Pei, Pspare, Gbsc, Gn, Gquant, Gei, Gspare, Stuffing, Mba, AtPei, AtPspare, AtGn, AtGquant, AtGei, AtGspare, AtMacroblock, slot, group, vector, is_group, may_end}
 use Rattle.picture_laws.specs.Elements.{macroblock_elements, macroblocks_elements, spare_elements, group_elements, groups_elements}
 use Rattle.picture_laws.proofs.Rows.{Among}
-use Rattle.picture_laws.proofs.Slots.{Takes, IsStep}
-use Rattle.picture_laws.proofs.Chains.{Stands, Chain}
-use Rattle.picture_laws.proofs.Blocks.{all-cons, all-nil, one_passed, not_equal, state}
+use Rattle.picture_laws.proofs.Slots.{Takes}
+use Rattle.picture_laws.proofs.Basics.{not_equal, and_true, not_false}
+use Rattle.picture_laws.proofs.Blocks.{all-cons, all-nil, one_passed}
 use Rattle.picture_laws.proofs.Macroblocks.{IsBehind, says-macroblock, both_axes}
-use Rattle.picture_laws.proofs.Groups.{says-gspares, gspares-state, says-sent, IsAtGroup, IsBehindGroup, stuffed_behind, among_numbers}
+use Rattle.picture_laws.proofs.Groups.{higher, says-gspares, gspares-state, says-sent, IsAtGroup, stuffed_behind}
 use Rattle.picture_laws.proofs.Pictures.{Rising}
-use Rattle.picture_laws.proofs.ReadBlocks.{IsRest, rest-after, rest-step, IsMore, rest-more}
+use Rattle.picture_laws.proofs.ReadBlocks.{IsRest, rest-after, rest-step, rest-more}
 use Rattle.picture_laws.proofs.ReadMacroblocks.{ReadsMacroblock, read-macroblock, join3}
-use Rattle.vlc_codes.proofs.WordLaws.{either_way, and_left, and_right}
+use Rattle.vlc_codes.proofs.WordLaws.{either_way}
 
 -- nothing more, or a group
 abbrev pub IsOpening : List Element → Type 0
@@ -75,11 +73,11 @@ read-macroblocks (suc fuel) format before (e ∷ es) number last few place r =
           let more = read-macroblocks fuel format (after before (macroblock_elements last m.m)) m.rest number (Some m.m) (omega (arith, few, shorter last m.m (e ∷ es) m.rest all)) done left in
           one_macroblock format number last (e ∷ es) (record { m = m.m; rest = m.rest; is = all; valid = m.valid; rise = m.rise; most = m.most }) more
       | inr a ↦ elim a [
-          | inl b ↦
-              let s = rest-step format before e Stuffing es r b in
-              one_stuffing format number last es (e ∷ es) (ap (λ x. x ∷ es) b) (read-macroblocks fuel format (Stuffing ∷ before) es number last (omega (arith, few)) (stuffed_behind number last before place) s.1)
-          | inr b ↦ none_there format number last (e ∷ es) (inr (es, ap (λ x. x ∷ es) b))
-        ]
+        | inl b ↦
+            let s = rest-step format before e Stuffing es r b in
+            one_stuffing format number last es (e ∷ es) (ap (λ x. x ∷ es) b) (read-macroblocks fuel format (Stuffing ∷ before) es number last (omega (arith, few)) (stuffed_behind number last before place) s.1)
+        | inr b ↦ none_there format number last (e ∷ es) (inr (es, ap (λ x. x ∷ es) b))
+      ]
     ]
 
 -- ---- spare octets
@@ -148,11 +146,6 @@ pub record IsGroupNext (format : Format) (before es : List Element) : Type 0 whe
   pub valid : IsQuantiser quant
   pub left : IsRest format (Gquant quant ∷ Gn number ∷ Gbsc ∷ before) rest
 
-and_true : (a b : Bool) → not (a && b) ≡ false → (a ≡ true) × (b ≡ true)
-and_true true true h = (refl, refl)
-and_true true false h = absurd cc
-and_true false b h = absurd cc
-
 pub group-next : (format : Format) (before es more : List Element) → es ≡ Gbsc ∷ more → IsRest format before es → IsGroupNext format before es
 group-next format before es more is r =
     let r0 : IsRest format before (Gbsc ∷ more) = subst (λ t. IsRest format before t) is r in
@@ -161,7 +154,7 @@ group-next format before es more is r =
     let s1 = rest-step format (Gbsc ∷ before) m1.first (Gn m1.takes.0) m1.rest m1.left m1.takes.2 in
     let m2 = rest-more format (Gn m1.takes.0 ∷ Gbsc ∷ before) m1.rest AtGquant refl refl s1.1 in
     let s2 = rest-step format (Gn m1.takes.0 ∷ Gbsc ∷ before) m2.first (Gquant m2.takes.0) m2.rest m2.left m2.takes.2 in
-    let ok = and_true (is_group format m1.takes.0) (nat_lt (group before) m1.takes.0) (one_passed (not (is_group format m1.takes.0 && nat_lt (group before) m1.takes.0)) BadGroup s1.0.good) in
+    let ok = and_true (is_group format m1.takes.0) (nat_lt (group before) m1.takes.0) (not_false (is_group format m1.takes.0 && nat_lt (group before) m1.takes.0) (one_passed (not (is_group format m1.takes.0 && nat_lt (group before) m1.takes.0)) BadGroup s1.0.good)) in
     let some : m2.takes.0 ≢ 0 = not_equal m2.takes.0 0 (one_passed (m2.takes.0 == 0) BadQuant s2.0.good) in
     record {
       number = m1.takes.0;
@@ -248,7 +241,7 @@ pub record ReadsGroups (format : Format) (numbers : List ℕ) (es : List Element
   pub numbers_are : map (λ (g : Group). g.number) gs ≡ numbers
   pub valid : All (IsValidGroup format) gs
 
-abbrev empty : ℕ → Group
+abbrev pub empty : ℕ → Group
 empty n = record { number = n; quant = 1; macroblocks = [] }
 
 one_left_out : (format : Format) (n : ℕ) (ns : List ℕ) (es : List Element) → ReadsGroups format ns es → ReadsGroups format (n ∷ ns) es
@@ -285,9 +278,6 @@ after_group format before es low place r n above g =
     let left = rest-after format before es (group_elements (Sent g.spares g.stuffings g.behind) g.g) g.rest r g.is in
     (record { at = inr done.at; group_is = omega (arith, done.group_is, g.number_is) }, left, opens format (after before (group_elements (Sent g.spares g.stuffings g.behind) g.g)) g.rest n.number (omega (arith, done.group_is, g.number_is)) g.next left)
 
-higher : (low high : ℕ) (before : List Element) → low ≤ high → IsAtGroup low before → IsAtGroup high before
-higher low high before h place = record { at = place.at; group_is = omega (arith, h, place.group_is) }
-
 pub read-groups : (format : Format) (before es : List Element) (low : ℕ) (numbers : List ℕ) → IsAtGroup low before → IsRest format before es → Rising format low numbers → Covers format low numbers → OpensAbove format low before es → ReadsGroups format numbers es
 read-groups format before es low [] place r rise covers opening = elim opening [
   | inl none ↦ record { forms = []; gs = []; is = none; fits = tt; numbers_are = refl; valid = all-nil (IsValidGroup format) }
@@ -296,13 +286,13 @@ read-groups format before es low [] place r rise covers opening = elim opening [
 read-groups format before es low (m ∷ numbers) place r rise covers opening = elim opening [
   | inl none ↦ one_left_out format m numbers es (read-groups format before es m numbers (higher low m before (omega (arith, rise.1)) place) r rise.2 (covers_next format low m numbers rise.1 covers) (inl none))
   | inr n ↦ elim (covers n.0.number n.0.known n.1) [
-      | inl same ↦
-          let g = read-group format before es n.0 in
-          let a = after_group format before es low place r n.0 n.1 g in
-          let place2 = subst (λ k. IsAtGroup k (after before (group_elements (Sent g.spares g.stuffings g.behind) g.g))) same a.0 in
-          let open2 = subst (λ k. OpensAbove format k (after before (group_elements (Sent g.spares g.stuffings g.behind) g.g)) g.rest) same a.2 in
-          one_sent format m n.0.number numbers es same g (read-groups format (after before (group_elements (Sent g.spares g.stuffings g.behind) g.g)) g.rest m numbers place2 a.1 rise.2 (covers_next format low m numbers rise.1 covers) open2)
-      | inr later ↦
-          one_left_out format m numbers es (read-groups format before es m numbers (higher low m before (omega (arith, rise.1)) place) r rise.2 (covers_next format low m numbers rise.1 covers) (inr (n.0, rises_above format m numbers n.0.number rise.2 later)))
-    ]
+    | inl same ↦
+        let g = read-group format before es n.0 in
+        let a = after_group format before es low place r n.0 n.1 g in
+        let place2 = subst (λ k. IsAtGroup k (after before (group_elements (Sent g.spares g.stuffings g.behind) g.g))) same a.0 in
+        let open2 = subst (λ k. OpensAbove format k (after before (group_elements (Sent g.spares g.stuffings g.behind) g.g)) g.rest) same a.2 in
+        one_sent format m n.0.number numbers es same g (read-groups format (after before (group_elements (Sent g.spares g.stuffings g.behind) g.g)) g.rest m numbers place2 a.1 rise.2 (covers_next format low m numbers rise.1 covers) open2)
+    | inr later ↦
+        one_left_out format m numbers es (read-groups format before es m numbers (higher low m before (omega (arith, rise.1)) place) r rise.2 (covers_next format low m numbers rise.1 covers) (inr (n.0, rises_above format m numbers n.0.number rise.2 later)))
+  ]
 ]

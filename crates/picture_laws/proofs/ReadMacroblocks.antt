@@ -1,30 +1,28 @@
 -- Elements that may stand one behind another up to an end: those of a macroblock are the elements of a valid macroblock.
-use Rattle.std.proofs.Common.{◌≡◌, ◌≢◌, ℕ, zero, suc, ◌+◌, ◌-◌, ◌*◌, ◌<◌, ◌≤◌, ◌^◌, ◌==◌, ◌&&◌, ◌||◌, not, Bool, true, false, cond, List, [], ◌∷◌, ◌++◌, length, map, replicate, Option, Some, None, nat_lt, nat_le, if◌then◌else◌, refl, sym, ◌∙◌, ap, subst, inl, inr, ◌⊎◌, append_assoc, append-nil, ℤ, pos, negsuc, ◌-ℤ◌, nat_abs, MatchBool, IsSomeAnd, IfSome, IsNone, IsSome, All, Any, is_some, arith}
-use Rattle.std.specs.List.{list_any, list_all, flat_map}
-use Rattle.std.proofs.lemmas.Bool.{false≢true, ltb-true, ltb-false, leb-true, eqb-true, eq-eqb, lt-ltb}
+use Rattle.std.proofs.Common.{◌≡◌, ◌≢◌, ℕ, ◌+◌, ◌-◌, ◌<◌, ◌≤◌, ◌==◌, ◌||◌, not, Bool, true, false, cond, List, [], ◌∷◌, ◌++◌, length, map, replicate, Option, Some, None, nat_lt, if◌then◌else◌, refl, sym, ◌∙◌, ap, subst, inl, inr, append_assoc, ℤ, pos, ◌-ℤ◌, nat_abs, MatchBool, IsSomeAnd, IfSome, IsNone, IsSome, All, Any, is_some, arith}
+use Rattle.std.proofs.lemmas.Bool.{false≢true, ltb-false}
 use Rattle.std.proofs.lemmas.List.{length-map, length-replicate}
 use Rattle.pel_model.specs.declared.Format.{Format}
 use Rattle.pel_model.specs.declared.MbKind.{MbKind}
-use Rattle.pel_model.specs.declared.Why.{Why}
 use Rattle.pel_model.specs.declared.Why.TheVariants.{BadQuant, BadAddress, BadVector, VectorOutside}
 use Rattle.pel_model.specs.Codes.{is_intra, has_mquant, has_vector, has_cbp, mvd_table}
 use Rattle.pel_model.specs.Bits.{field, number}
 use Rattle.pel_model.specs.Records.{Axis, Across, Down, Block, Macroblock, component}
-use Rattle.pel_model.specs.Text.{address_of, predictor, starts_anew, coded_block_pattern, macroblock_text}
+use Rattle.pel_model.specs.Text.{address_of, predictor, coded_block_pattern}
 use Rattle.pel_model.specs.Valid.{IsQuantiser, MquantFits, side, corner, StaysWithin, ComponentFits, IsIntraBlock, IsCodedBlock, BlocksFit, IsValidMacroblock}
 use Rattle.pel_model.specs.Walk.{after}
-use Rattle.pel_model.specs.Grammar.{Element, Mba, Mtype, Mquant, Mvd, Cbp, Slot, AtMacroblock, AtMtype, AtMquant, AtMvd, AtCbp, slot, kind, blocks, group, address, vector, faults, first_why, block_slot, cbp_slot, vector_slot, ones, moved, in_range, stays_within}
-use Rattle.pel_model.proofs.Walks.{after-append}
+use Rattle.pel_model.specs.Grammar.{Element, Mba, Mtype, Mquant, Mvd, Cbp, AtMtype, AtMquant, AtMvd, AtCbp, slot, kind, blocks, group, address, vector, block_slot, cbp_slot, vector_slot, ones, moved, in_range, stays_within}
 use Rattle.picture_laws.specs.Elements.{mquant_elements, pair_in, mvd_element, vector_elements, cbp_elements, blocks_elements, macroblock_elements}
 use Rattle.picture_laws.proofs.Rows.{Among}
-use Rattle.picture_laws.proofs.Slots.{Takes, IsStep, IsPattern}
+use Rattle.picture_laws.proofs.Slots.{IsStep, IsPattern}
 use Rattle.picture_laws.proofs.Words.{number-fits, length-field}
 use Rattle.picture_laws.proofs.Chains.{Stands}
 use Rattle.picture_laws.proofs.Vectors.{IsLast, predictor-small, range-in, stays-back, pair-back}
 use Rattle.picture_laws.proofs.Patterns.{trues, ones-trues, trues-some, sent-trues, intra-blocks, coded-blocks, none-blocks, sent-any, not-both}
-use Rattle.picture_laws.proofs.Blocks.{one_passed, two_passed, not_equal, sent, AreBlocksOf, state}
-use Rattle.picture_laws.proofs.Macroblocks.{quantiser_says, says-vector, says-rest, IsAtVector, IsBehindVector, IsBehind, headed, at-vector, mquant-blocks, vector-blocks, body}
-use Rattle.picture_laws.proofs.ReadBlocks.{IsRest, rest-after, rest-step, IsMore, rest-more, ReadsBlocks, read-blocks}
+use Rattle.picture_laws.proofs.Basics.{not_equal, not_false}
+use Rattle.picture_laws.proofs.Blocks.{one_passed, two_passed, sent, AreBlocksOf}
+use Rattle.picture_laws.proofs.Macroblocks.{quantiser_says, says-vector, IsAtVector, IsBehindVector, IsBehind, headed, at-vector, mquant-blocks, vector-blocks}
+use Rattle.picture_laws.proofs.ReadBlocks.{IsRest, rest-after, rest-step, rest-more, ReadsBlocks, read-blocks}
 use Rattle.vlc_codes.proofs.WordLaws.{either_way, if-true, if-false}
 
 -- ---- MQUANT
@@ -58,20 +56,16 @@ pub record ReadsComponent (format : Format) (number : ℕ) (axis : Axis) (last :
   pub is : es ≡ Mvd axis (pair_in (c -ℤ predictor axis last m) mvd_table) ∷ rest
   pub fit : IsFit format number axis m.address c
 
-not_not : (b : Bool) → not b ≡ false → b ≡ true
-not_not true h = refl
-not_not false h = absurd cc
-
 read_component : (format : Format) (before es : List Element) (number : ℕ) (axis : Axis) (last : Option Macroblock) (m : Macroblock) → IsLast last → group before ≡ number → address before ≡ m.address → vector axis before ≡ predictor axis last m → (row : List Bool × (ℤ × ℤ)) → Among row mvd_table → Stands format before (Mvd axis row.1) → es ≡ es → (all : List Element) → all ≡ Mvd axis row.1 ∷ es → ReadsComponent format number axis last m all
 read_component format before es number axis last m is group_is address_is vector_is row among stands same all all_is =
     let p : ℤ = predictor axis last m in
     let both = two_passed (not (in_range (moved (vector axis before) row.1))) (not (stays_within (side format axis) (corner axis (group before) (address before)) (moved (vector axis before) row.1))) BadVector VectorOutside stands.good in
-    let inside : in_range (moved (predictor axis last m) row.1) ≡ true = ap (λ v. in_range (moved v row.1)) (sym vector_is) ∙ not_not (in_range (moved (vector axis before) row.1)) both.0 in
+    let inside : in_range (moved (predictor axis last m) row.1) ≡ true = ap (λ v. in_range (moved v row.1)) (sym vector_is) ∙ not_false (in_range (moved (vector axis before) row.1)) both.0 in
     let within : stays_within (side format axis) (corner axis number m.address) (moved (predictor axis last m) row.1) ≡ true =
-        ap (λ v. stays_within (side format axis) (corner axis number m.address) (moved v row.1)) (sym vector_is)
-        ∙ (ap (λ a. stays_within (side format axis) (corner axis number a) (moved (vector axis before) row.1)) (sym address_is)
-        ∙ (ap (λ g. stays_within (side format axis) (corner axis g (address before)) (moved (vector axis before) row.1)) (sym group_is)
-        ∙ not_not (stays_within (side format axis) (corner axis (group before) (address before)) (moved (vector axis before) row.1)) both.1)) in
+    ap (λ v. stays_within (side format axis) (corner axis number m.address) (moved v row.1)) (sym vector_is)
+    ∙ (ap (λ a. stays_within (side format axis) (corner axis number a) (moved (vector axis before) row.1)) (sym address_is)
+    ∙ (ap (λ g. stays_within (side format axis) (corner axis g (address before)) (moved (vector axis before) row.1)) (sym group_is)
+    ∙ not_false (stays_within (side format axis) (corner axis (group before) (address before)) (moved (vector axis before) row.1)) both.1)) in
     record {
       c = moved (predictor axis last m) row.1;
       rest = es;
@@ -124,13 +118,13 @@ read-vector format before es number last m is place r = elim (either_way (has_ve
       let d = read-component format (Mvd Across (pair_in (a.c -ℤ predictor Across last m) mvd_table) ∷ before) a.rest number Down last m is refl place.group_is place.address_is (vector_is Down) left in
       vector_read format number last m es has a d
   | inr none ↦ record {
-      a = pos 0;
-      d = pos 0;
-      rest = es;
-      is = ap (λ t. t ++ es) (sym (if-false (has_vector m.kind) (mvd_element Across last (with_vector m (pos 0) (pos 0)) ∷ mvd_element Down last (with_vector m (pos 0) (pos 0)) ∷ []) [] none));
-      across = subst (λ b. MatchBool b (IsFit format number Across m.address (pos 0)) (pos 0 ≡ pos 0)) (sym none) refl;
-      down = subst (λ b. MatchBool b (IsFit format number Down m.address (pos 0)) (pos 0 ≡ pos 0)) (sym none) refl;
-    }
+    a = pos 0;
+    d = pos 0;
+    rest = es;
+    is = ap (λ t. t ++ es) (sym (if-false (has_vector m.kind) (mvd_element Across last (with_vector m (pos 0) (pos 0)) ∷ mvd_element Down last (with_vector m (pos 0) (pos 0)) ∷ []) [] none));
+    across = subst (λ b. MatchBool b (IsFit format number Across m.address (pos 0)) (pos 0 ≡ pos 0)) (sym none) refl;
+    down = subst (λ b. MatchBool b (IsFit format number Down m.address (pos 0)) (pos 0 ≡ pos 0)) (sym none) refl;
+  }
 ]
 
 -- ---- CBP and the blocks
@@ -198,7 +192,7 @@ read-rest format before es number m place count r = elim (either_way (has_cbp m.
       let same : is_intra (kind before) ≡ is_intra m.kind = ap is_intra place.kind_is in
       let flags : trues (replicate 6 (is_intra (kind before))) ≡ cond (is_intra m.kind) 6 0 = all_flags (is_intra (kind before)) ∙ ap (λ b. cond b 6 0) same in
       let at : slot before ≡ block_slot (kind before) (trues (replicate 6 (is_intra (kind before)))) =
-          place.at ∙ (ap (λ b. cond b AtCbp (block_slot m.kind (cond (is_intra m.kind) 6 0))) none ∙ (ap (block_slot m.kind) (sym flags) ∙ ap (λ k. block_slot k (trues (replicate 6 (is_intra (kind before))))) (sym place.kind_is))) in
+      place.at ∙ (ap (λ b. cond b AtCbp (block_slot m.kind (cond (is_intra m.kind) 6 0))) none ∙ (ap (block_slot m.kind) (sym flags) ∙ ap (λ k. block_slot k (trues (replicate 6 (is_intra (kind before))))) (sym place.kind_is))) in
       rest_alone m es (is_intra (kind before)) none same (read-blocks format before es (replicate 6 (is_intra (kind before))) at (count ∙ sym flags) r)
 ]
 
@@ -234,8 +228,8 @@ built format number last es m left is mquant rise most v r =
       rest = r.rest;
       is = is ∙ ap (λ t. Mba (m.address - address_of last) ∷ (Mtype m.kind ∷ t))
           (ap (λ t. mquant_elements m.mquant ++ t) (v.is
-            ∙ (ap (λ t. vector_elements last (with_vector m v.a v.d) ++ t) r.is
-            ∙ ap (λ t. t ++ ((cbp_elements (with_blocks (with_vector m v.a v.d) r.bs) ++ blocks_elements r.bs) ++ r.rest)) (vector_same last (with_vector m v.a v.d) r.bs)))
+          ∙ (ap (λ t. vector_elements last (with_vector m v.a v.d) ++ t) r.is
+          ∙ ap (λ t. t ++ ((cbp_elements (with_blocks (with_vector m v.a v.d) r.bs) ++ blocks_elements r.bs) ++ r.rest)) (vector_same last (with_vector m v.a v.d) r.bs)))
           ∙ join3 (mquant_elements m.mquant) (vector_elements last (with_blocks (with_vector m v.a v.d) r.bs)) (cbp_elements (with_blocks (with_vector m v.a v.d) r.bs) ++ blocks_elements r.bs) r.rest);
       valid = record { mquant = mquant; across = v.across; down = v.down; six = r.six; blocks = r.fits };
       rise = rise;

@@ -1,7 +1,7 @@
 -- Good elements up to the lawful end are the elements of a valid picture, and the bits are accepted with it.
-use Rattle.std.proofs.Common.{◌≡◌, ◌≢◌, ℕ, zero, suc, ◌+◌, ◌-◌, ◌*◌, ◌/◌, ◌%◌, ◌<◌, ◌≤◌, ◌^◌, ◌==◌, ◌&&◌, ◌||◌, not, Bool, true, false, cond, List, [], ◌∷◌, ◌++◌, length, map, take, drop, replicate, Option, Some, None, nat_lt, refl, sym, ◌∙◌, ap, subst, inl, inr, ◌⊎◌, append_assoc, append-nil, All, arith}
+use Rattle.std.proofs.Common.{◌≡◌, ℕ, ◌+◌, ◌-◌, ◌*◌, ◌/◌, ◌%◌, ◌<◌, ◌≤◌, ◌==◌, ◌&&◌, ◌||◌, not, Bool, true, false, List, [], ◌∷◌, ◌++◌, length, take, drop, replicate, Option, Some, None, nat_lt, refl, sym, ◌∙◌, ap, subst, inl, inr, arith}
 use Rattle.std.specs.List.{list_any, list_all, find}
-use Rattle.std.proofs.lemmas.Bool.{false≢true, ltb-true, ltb-false, eqb-true, eq-eqb}
+use Rattle.std.proofs.lemmas.Bool.{ltb-true, eqb-true}
 use Rattle.std.proofs.lemmas.List.{length-map}
 use Rattle.pel_model.specs.declared.Format.{Format}
 use Rattle.pel_model.specs.declared.Format.TheVariants.{Qcif, Cif}
@@ -10,23 +10,23 @@ use Rattle.pel_model.specs.declared.Why.TheVariants.{NoCode, WrongFormat, StillI
 use Rattle.pel_model.specs.Bits.{number}
 use Rattle.pel_model.specs.Codes.{begins}
 use Rattle.pel_model.specs.Records.{Group, Picture}
-use Rattle.pel_model.specs.Valid.{group_numbers, group_count, limit, IsValid, IsValidSoFar, IsValidGroup}
-use Rattle.pel_model.specs.Spelling.{FreeBits, GroupForm, Form, GroupsFit, type_text, sent_text, IsSpelling}
-use Rattle.pel_model.specs.Accepts.{left_out, counted_length, IsAccepted, Accepts}
-use Rattle.pel_model.specs.Walk.{Step, Good, Stop, Bad, Row, start, after, Goes, Reads, judged, read, word_at, whole_word}
-use Rattle.pel_model.specs.Grammar.{Element, Psc, Tr, Ptype, Pei, Pspare, Gbsc, Slot, AtPsc, AtTr, AtPtype, AtPei, AtGroup, AtMacroblock, slot, group, begun, rows, faults, first_why, names_format, is_group, may_end, is_end, or_no_start, at_slot, next, picture, counted}
-use Rattle.picture_laws.specs.Elements.{spare_elements, groups_elements, header_elements, elements, Tells}
+use Rattle.pel_model.specs.Valid.{group_numbers, group_count, limit, IsValid}
+use Rattle.pel_model.specs.Spelling.{FreeBits, Form, GroupsFit, type_text, sent_text}
+use Rattle.pel_model.specs.Accepts.{Accepts}
+use Rattle.pel_model.specs.Walk.{Step, Good, Stop, Bad, Row, start, after, read, word_at, whole_word}
+use Rattle.pel_model.specs.Grammar.{Element, Psc, Tr, Ptype, Pei, Pspare, Slot, AtPsc, AtTr, AtPtype, AtGroup, slot, begun, rows, faults, first_why, names_format, may_end, is_end, or_no_start, at_slot, next, counted}
+use Rattle.picture_laws.specs.Elements.{header_elements, elements, Tells}
 use Rattle.picture_laws.specs.Laws.{WalkHasRecord}
-use Rattle.picture_laws.proofs.Rows.{Among}
+use Rattle.picture_laws.proofs.Basics.{and_true, not_true}
 use Rattle.picture_laws.proofs.Slots.{Takes}
 use Rattle.picture_laws.proofs.Written.{below, below_all}
-use Rattle.picture_laws.proofs.Chains.{Chain, words, IsWalk, goes-walk}
+use Rattle.picture_laws.proofs.Chains.{words, IsWalk, goes-walk}
 use Rattle.picture_laws.proofs.Limits.{judged_stop, picture-stop, goes-next, goes-within}
 use Rattle.picture_laws.proofs.Blocks.{two_passed}
-use Rattle.picture_laws.proofs.Groups.{IsAtGroup, among_numbers, says-pspares}
+use Rattle.picture_laws.proofs.Groups.{among_numbers, says-pspares}
 use Rattle.picture_laws.proofs.Pictures.{numbers_rise, take_all, says-header, says-picture, begun-picture}
-use Rattle.picture_laws.proofs.ReadBlocks.{IsRest, rest-after, rest-step, IsMore, rest-more}
-use Rattle.picture_laws.proofs.ReadGroups.{IsOpening, ReadsSpares, read-pspares, ReadsGroups, OpensAbove, opens, read-groups}
+use Rattle.picture_laws.proofs.ReadBlocks.{IsRest, rest-after, rest-step, rest-more}
+use Rattle.picture_laws.proofs.ReadGroups.{IsOpening, ReadsSpares, read-pspares, ReadsGroups, opens, read-groups}
 use Rattle.vlc_codes.proofs.WordLaws.{either_way, if-true, if-false}
 
 -- ---- the picture header
@@ -150,26 +150,18 @@ slot_stop s left h = elim (either_way (may_end s && is_end left)) [
   | inr on ↦ absurd (word_stop (rows s) left (find (λ row. begins row.code left) (rows s)) (or_stop s (read (rows s) left) (sym (if-false (may_end s && is_end left) Stop (or_no_start s (read (rows s) left)) on) ∙ h)))
 ]
 
-and_both : (a b : Bool) → (a && b) ≡ true → (a ≡ true) × (b ≡ true)
-and_both true b h = (refl, h)
-and_both false b h = absurd cc
-
 pub stopped : (format : Format) (before : List Element) (r : List Bool × ℕ) → next format before r ≡ Stop → (may_end (slot before) ≡ true) × (is_end r.0 ≡ true)
 unfolding next
-stopped format before r h = and_both (may_end (slot before)) (is_end r.0) (slot_stop (slot before) r.0 (judged_stop (λ e n. first_why (faults format before e)) (at_slot (slot before) r.0) h))
+stopped format before r h = and_true (may_end (slot before)) (is_end r.0) (slot_stop (slot before) r.0 (judged_stop (λ e n. first_why (faults format before e)) (at_slot (slot before) r.0) h))
 
 all_false : (bits : List Bool) → list_any (λ b. b) bits ≡ false → bits ≡ replicate (length bits) false
 all_false [] h = refl
 all_false (true ∷ bits) h = absurd cc
 all_false (false ∷ bits) h = ap (λ t. false ∷ t) (all_false bits h)
 
-not_true : (a : Bool) → not a ≡ true → a ≡ false
-not_true true h = absurd cc
-not_true false h = refl
-
 end_zeros : (bits : List Bool) → is_end bits ≡ true → (length bits < 8) × (bits ≡ replicate (length bits) false)
 end_zeros bits h =
-    let both = and_both (nat_lt (length bits) 8) (not (list_any (λ b. b) bits)) h in
+    let both = and_true (nat_lt (length bits) 8) (not (list_any (λ b. b) bits)) h in
     (ltb-true (length bits) 8 both.0, all_false bits (not_true (list_any (λ b. b) bits) both.1))
 
 headers_fit : (format : Format) → 26 * (group_count format - 0) ≤ limit format
@@ -183,16 +175,22 @@ accepted_built format bits es end walk short ends p =
     let says = (says-picture format p.form p.pic p.fits p.valid).0 in
     let text : words [] es ≡ sent_text format p.form p.pic = ap (words []) p.is ∙ says.text in
     let begun_is = begun-picture format p.form p.pic p.fits in
-    let begun_same : begun (after [] es) ≡ begun (after [] (elements format p.form p.pic)) = ap (λ es. begun (after [] es)) p.is in
-    (p.pic, (p.form, p.fits, p.is), (p.form, record {
-      spelling = record {
-        fits = p.fits;
-        zeros = omega (arith, zeros, e.0);
-        text = walk.bits ∙ (ap (λ t. t ++ end.0) text ∙ ap (λ t. sent_text format p.form p.pic ++ t) (e.1 ∙ ap (λ k. replicate k false) (sym zeros)));
-      };
-      valid = p.valid;
-      short = omega (arith, walk.place, ap length text, begun_is, begun_same, p.valid.whole, short);
-    }))
+    let begun_same : begun (after [] es) ≡ begun (after [] (elements format p.form p.pic)) = ap (λ es. begun (after [] es)) p.is in (
+      p.pic,
+      (p.form, p.fits, p.is),
+      (
+        p.form,
+        record {
+          spelling = record {
+            fits = p.fits;
+            zeros = omega (arith, zeros, e.0);
+            text = walk.bits ∙ (ap (λ t. t ++ end.0) text ∙ ap (λ t. sent_text format p.form p.pic ++ t) (e.1 ∙ ap (λ k. replicate k false) (sym zeros)));
+          };
+          valid = p.valid;
+          short = omega (arith, walk.place, ap length text, begun_is, begun_same, p.valid.whole, short);
+        },
+      ),
+    )
 
 pub walk-record : WalkHasRecord
 walk-record format bits es reads =

@@ -1,14 +1,15 @@
 -- The word of a list of rows that stands at the front of bits, for every list of which no code is a front of another.
-use Rattle.std.proofs.Common.{◌≡◌, ℕ, zero, suc, ◌+◌, ◌<◌, ◌≤◌, ◌&&◌, ◌||◌, not, Bool, true, false, cond, List, [], ◌∷◌, ◌++◌, length, map, take, drop, Option, Some, None, nat_lt, refl, sym, ◌∙◌, ap, subst, inl, inr, ◌⊎◌, append_assoc, arith}
+use Rattle.std.proofs.Common.{◌≡◌, ℕ, zero, suc, ◌+◌, ◌||◌, Bool, true, false, List, [], ◌∷◌, ◌++◌, length, map, take, drop, Option, Some, None, nat_lt, refl, sym, ◌∙◌, ap, inl, inr, ◌⊎◌, arith}
 use Rattle.std.specs.List.{list_any, list_all, find}
 use Rattle.std.proofs.lemmas.Bool.{false≢true, ltb-true, ltb-false}
 use Rattle.std.proofs.lemmas.List.{length-take-le, length-append, length-drop, drop-drop}
 use Rattle.pel_model.specs.Bits.{number}
 use Rattle.pel_model.specs.Codes.{begins, is_prefix_free}
-use Rattle.pel_model.specs.Walk.{Step, Good, Stop, Bad, Row, read, word_at, whole_word, cause}
+use Rattle.pel_model.specs.Walk.{Good, Bad, Row, read, word_at, whole_word}
 use Rattle.pel_model.specs.declared.Why.{Why}
 use Rattle.pel_model.specs.declared.Why.TheVariants.{Cut}
-use Rattle.vlc_codes.proofs.WordLaws.{begins_length, begins_both, and_left, and_right, either_way, if-true, if-false, whole-good}
+use Rattle.picture_laws.proofs.Basics.{or_false, not_true, some_same}
+use Rattle.vlc_codes.proofs.WordLaws.{begins_both, and_left, and_right, either_way, if-true, if-false, whole-good}
 
 -- an element of a list
 abbrev pub Among : {A : Type 0} → A → List A → Type 0
@@ -44,7 +45,7 @@ among-all test x (y ∷ xs) all h = elim h [
 
 -- ---- fronts
 
-begins_self : (w more : List Bool) → begins w (w ++ more) ≡ true
+pub begins_self : (w more : List Bool) → begins w (w ++ more) ≡ true
 begins_self [] more = refl
 begins_self (true ∷ w) more = begins_self w more
 begins_self (false ∷ w) more = begins_self w more
@@ -82,13 +83,10 @@ pub record IsRead {E : Type 0} (rows : List (Row E)) (bits : List Bool) (e : E) 
   pub is : e ≡ row.make (number tail)
   pub size : n ≡ length row.code + row.tail
 
-some_same : {A : Type 0} {x y : A} → Some x ≡ Some y → x ≡ y
-some_same h = cc
-
 find_among : {A : Type 0} (test : A → Bool) (xs : List A) (x : A) → find test xs ≡ Some x → Among x xs × (test x ≡ true)
 find_among test [] x h = absurd cc
 find_among test (y ∷ xs) x h = elim (either_way (test y)) [
-  | inl yes_ ↦ let e : y ≡ x = some_same (sym (if-true (test y) (Some y) (find test xs) yes_) ∙ h) in (inl (sym e), ap test (sym e) ∙ yes_)
+  | inl yes_ ↦ let e : y ≡ x = some_same y x (sym (if-true (test y) (Some y) (find test xs) yes_) ∙ h) in (inl (sym e), ap test (sym e) ∙ yes_)
   | inr no_ ↦ let r = find_among test xs x (sym (if-false (test y) (Some y) (find test xs) no_) ∙ h) in (inr r.0, r.1)
 ]
 
@@ -133,16 +131,8 @@ read-is rows bits e n h = read_found rows bits e n (find (λ row. begins row.cod
 abbrev pub codes_of : {E : Type 0} → List (Row E) → List (List Bool)
 codes_of rows = map (λ row. row.code) rows
 
-or_false : (a b : Bool) → (a || b) ≡ false → (a ≡ false) × (b ≡ false)
-or_false true b h = absurd cc
-or_false false b h = (refl, h)
-
-not_false : (a : Bool) → not a ≡ true → a ≡ false
-not_false true h = absurd cc
-not_false false h = refl
-
 -- neither of two words of a prefix-free list is a front of the other
-apart : (w : List Bool) (ws : List (List Bool)) (v : List Bool) → list_any (λ v. begins w v || begins v w) ws ≡ false → Among v ws → (begins w v ≡ false) × (begins v w ≡ false)
+pub apart : (w : List Bool) (ws : List (List Bool)) (v : List Bool) → list_any (λ v. begins w v || begins v w) ws ≡ false → Among v ws → (begins w v ≡ false) × (begins v w ≡ false)
 apart w [] v none h = absurd h
 apart w (u ∷ ws) v none h = elim h [
   | inl e ↦ or_false (begins w v) (begins v w) (ap (λ v. begins w v || begins v w) e ∙ (or_false (begins w u || begins u w) (list_any (λ v. begins w v || begins v w) ws) none).0)
@@ -162,7 +152,7 @@ find-row (first ∷ rows) row rest free h =
     elim h [
       | inl e ↦ if-true (begins first.code (row.code ++ rest)) (Some first) (find (λ other. begins other.code (row.code ++ rest)) rows) (ap (λ r. begins r.code (row.code ++ rest)) (sym e) ∙ begins_self row.code rest) ∙ ap Some (sym e)
       | inr t ↦
-          let both = apart first.code (codes_of rows) row.code (not_false _ (and_left _ _ free)) (among-mapped (λ r. r.code) row rows t) in
+          let both = apart first.code (codes_of rows) row.code (not_true _ (and_left _ _ free)) (among-mapped (λ r. r.code) row rows t) in
           elim (either_way (begins first.code (row.code ++ rest))) [
             | inl here ↦ absurd (one_front first.code row.code rest here both.0 both.1)
             | inr other ↦ if-false (begins first.code (row.code ++ rest)) (Some first) (find (λ other. begins other.code (row.code ++ rest)) rows) other ∙ find-row rows row rest (and_right _ _ free) t

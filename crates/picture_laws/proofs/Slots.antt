@@ -1,21 +1,15 @@
 -- The elements that a slot takes, and the word of each.
-use Rattle.std.proofs.Common.{◌≡◌, ℕ, zero, suc, ◌+◌, ◌-◌, ◌*◌, ◌/◌, ◌%◌, ◌^◌, ◌<◌, ◌≤◌, ◌==◌, ◌&&◌, ◌||◌, not, Bool, true, false, cond, List, [], ◌∷◌, ◌++◌, length, map, take, drop, Option, Some, None, nat_lt, nat_le, if◌then◌else◌, refl, sym, ◌∙◌, ap, subst, inl, inr, ◌⊎◌, append_assoc, append-nil, ℤ, pos, negsuc, neg_ℤ, nat_abs, codes, MatchBool, IsTrue, arith}
-use Rattle.std.specs.List.{list_any, list_all, find}
+use Rattle.std.proofs.Common.{◌≡◌, ℕ, ◌<◌, ◌≤◌, ◌==◌, ◌&&◌, Bool, true, false, List, [], ◌∷◌, ◌++◌, nat_lt, nat_le, refl, ap, ◌⊎◌, ℤ, pos, negsuc, nat_abs, codes, MatchBool, IsTrue}
+use Rattle.std.specs.List.{list_all}
 use Rattle.std.specs.Ordering.{int_eq}
-use Rattle.std.proofs.lemmas.Bool.{false≢true, ltb-true, ltb-false, leb-true}
-use Rattle.std.proofs.lemmas.List.{length-append}
-use Rattle.pel_bits.proofs.Fields as fields
-use Rattle.pel_bits.specs.Bits as pel_bits
 use Rattle.pel_model.specs.Bits.{field, number}
 use Rattle.pel_model.specs.declared.MbKind.{MbKind}
-use Rattle.pel_model.specs.Codes.{word, begins, is_prefix_free, mba_table, stuffing_word, mtype_table, mvd_table, cbp_table, tcoeff_table, first_one_word, later_one_word, escape_word, end_of_block_word}
-use Rattle.pel_model.specs.Records.{Axis, Coefficient}
-use Rattle.pel_model.specs.Text.{word_of, coefficient_word, mtype_word, twos_complement, is_negative, pair_word}
+use Rattle.pel_model.specs.Codes.{word, is_prefix_free, mba_table, stuffing_word, mtype_table, mvd_table, cbp_table, tcoeff_table, first_one_word, later_one_word, end_of_block_word}
+use Rattle.pel_model.specs.Records.{Coefficient}
+use Rattle.pel_model.specs.Text.{word_of, coefficient_word, mtype_word}
 use Rattle.pel_model.specs.Valid.{has_code}
-use Rattle.pel_model.specs.Walk.{Step, Good, Stop, Bad, Row, read}
-use Rattle.pel_model.specs.Grammar.{Element, Psc, Tr, Ptype, Pei, Pspare, Gbsc, Gn, Gquant, Gei, Gspare, Stuffing, Mba, Mtype, Mquant, Mvd, Cbp, Dc, Tcoeff, Eob, Slot, AtPsc, AtTr, AtPtype, AtPei, AtPspare, AtGroup, AtGn, AtGquant, AtGei, AtGspare, AtMacroblock, AtMtype, AtMquant, AtMvd, AtCbp, AtDc, AtFirst, AtCoefficient, word_row, field_rows, flag_rows, table_rows, coefficient_row, coefficient_rows, escape_row, first_rows, later_rows, mba_rows, gbsc_row, rows, signed, from_twos_complement, may_end, is_end}
-use Rattle.picture_laws.proofs.Rows.{Among, IsRead, read-is, read-row, among-all, among-map, among-mapped, among-either, among-left, among-right, drop-front, codes_of}
-use Rattle.vlc_codes.proofs.WordLaws.{and_left, and_right, either_way, if-true, if-false}
+use Rattle.pel_model.specs.Grammar.{Element, Psc, Tr, Ptype, Pei, Pspare, Gbsc, Gn, Gquant, Gei, Gspare, Stuffing, Mba, Mtype, Mquant, Mvd, Cbp, Dc, Tcoeff, Eob, Slot, AtPsc, AtTr, AtPtype, AtPei, AtPspare, AtGroup, AtGn, AtGquant, AtGei, AtGspare, AtMacroblock, AtMtype, AtMquant, AtMvd, AtCbp, AtDc, AtFirst, AtCoefficient, rows, signed}
+use Rattle.picture_laws.proofs.Rows.{Among, codes_of}
 
 -- ---- words of elements
 

@@ -1,5 +1,5 @@
 -- The strict text is an input form.
-use Rattle.std.proofs.Common.{◌≡◌, ℕ, ◌+◌, ◌*◌, ◌<◌, ◌≤◌, Bool, true, false, List, [], ◌∷◌, ◌++◌, length, map, replicate, get_or, drop, Option, Some, None, refl, sym, ◌∙◌, ap, append-nil, append_assoc, codes, arith}
+use Rattle.std.proofs.Common.{◌≡◌, ℕ, Bool, true, false, List, [], ◌∷◌, ◌++◌, length, map, Option, Some, None, refl, sym, ◌∙◌, ap, append-nil, append_assoc, codes, arith}
 use Rattle.std.specs.List.{flat_map}
 use Rattle.pel_model.specs.declared.Format.{Format}
 use Rattle.pel_model.specs.declared.Format.TheVariants.{Qcif, Cif}
@@ -7,9 +7,8 @@ use Rattle.pel_model.specs.Bits.{field}
 use Rattle.pel_model.specs.Codes.{word}
 use Rattle.pel_model.specs.Records.{Macroblock, Group, Picture}
 use Rattle.pel_model.specs.Text.{text, picture_header, group_header, group_text, picture_type, macroblock_text, macroblocks_text}
-use Rattle.pel_model.specs.Valid.{IsValid, limit}
-use Rattle.pel_model.specs.Spelling.{FreeBits, GroupForm, Sent, Form, GroupFits, GroupsFit, IsSpelling, stuffed_text, header_text, group_header_text, sent_groups_text, sent_group_text, sent_text, input_text, stuffing_text}
-use Rattle.pel_model.specs.Accepts.{left_out, counted_length, IsAccepted, Accepts}
+use Rattle.pel_model.specs.Spelling.{GroupForm, Sent, Form, GroupsFit, stuffed_text, header_text, group_header_text, sent_groups_text, sent_group_text, sent_text}
+use Rattle.pel_model.specs.Accepts.{left_out}
 use Rattle.picture_laws.specs.Laws.{TextIsAccepted}
 
 abbrev strict_group : GroupForm
@@ -57,9 +56,11 @@ strict_fits [] = tt
 strict_fits (g ∷ gs) = (tt, strict_fits gs)
 
 pub text-accepted : TextIsAccepted
-text-accepted format p valid short =
-    (strict_form p, record {
-      spelling = record { fits = strict_fits p.groups; zeros = omega arith; text = sym (append-nil (sent_text format (strict_form p) p) ∙ text_strict format p) };
-      valid = valid;
-      short = omega (arith, none_left_out p.groups, ap length (text_strict format p));
-    })
+text-accepted format p valid short = (
+  strict_form p,
+  record {
+    spelling = record { fits = strict_fits p.groups; zeros = omega arith; text = sym (append-nil (sent_text format (strict_form p) p) ∙ text_strict format p) };
+    valid = valid;
+    short = omega (arith, none_left_out p.groups, ap length (text_strict format p));
+  },
+)

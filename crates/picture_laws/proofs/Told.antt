@@ -1,5 +1,5 @@
 -- The picture that elements tell, as a function of them: it gives back each picture from its elements.
-use Rattle.std.proofs.Common.{◌≡◌, ◌≢◌, ℕ, zero, suc, ◌+◌, ◌-◌, ◌*◌, ◌%◌, ◌<◌, ◌≤◌, ◌==◌, not, Bool, true, false, cond, List, [], ◌∷◌, ◌++◌, length, map, take, drop, get_or, replicate, Option, Some, None, nat_lt, if◌then◌else◌, refl, sym, ◌∙◌, ap, subst, inl, inr, ◌⊎◌, append_assoc, append-nil, ℤ, pos, ◌-ℤ◌, nat_abs, MatchBool, IsSomeAnd, IfSome, IsNone, IsSome, All, Any, is_some, arith}
+use Rattle.std.proofs.Common.{◌≡◌, ℕ, zero, suc, ◌+◌, ◌-◌, ◌<◌, ◌≤◌, ◌==◌, Bool, true, false, cond, List, [], ◌∷◌, ◌++◌, length, map, take, drop, get_or, replicate, Option, Some, None, refl, sym, ◌∙◌, ap, subst, inl, inr, append_assoc, ℤ, pos, ◌-ℤ◌, nat_abs, MatchBool, IsSomeAnd, IfSome, IsNone, IsSome, All, Any, is_some, arith}
 use Rattle.std.proofs.lemmas.Bool.{false≢true, eqb-true, eq-eqb}
 use Rattle.std.proofs.lemmas.List.{length-append, length-map}
 use Rattle.pel_model.specs.declared.Format.{Format}
@@ -7,19 +7,20 @@ use Rattle.pel_model.specs.declared.MbKind.{MbKind}
 use Rattle.pel_model.specs.declared.MbKind.TheVariants.{Intra}
 use Rattle.pel_model.specs.Codes.{is_intra, has_mquant, has_vector, has_cbp, mvd_table}
 use Rattle.pel_model.specs.Bits.{field, number}
-use Rattle.pel_model.specs.Records.{Axis, Across, Down, Coefficient, Block, Macroblock, Group, Picture, component}
+use Rattle.pel_model.specs.Records.{Across, Down, Coefficient, Block, Macroblock, Group, Picture, component}
 use Rattle.pel_model.specs.Text.{address_of, predictor, coded_block_pattern}
 use Rattle.pel_model.specs.Valid.{IsQuantiser, ComponentFits, IsIntraBlock, IsCodedBlock, BlocksFit, IsValidMacroblock, AddressesRise, IsValidGroup, IsValid, group_numbers}
 use Rattle.pel_model.specs.Spelling.{GroupForm, LeftOut, Sent, Form, GroupsFit}
 use Rattle.pel_model.specs.Grammar.{Element, Psc, Tr, Ptype, Pei, Pspare, Gbsc, Gn, Gquant, Gei, Gspare, Stuffing, Mba, Mtype, Mquant, Mvd, Cbp, Dc, Tcoeff, Eob, moved}
-use Rattle.picture_laws.specs.Elements.{block_elements, blocks_elements, mquant_elements, pair_in, mvd_element, vector_elements, cbp_elements, macroblock_elements, macroblocks_elements, spare_elements, group_elements, groups_elements, elements, Tells}
+use Rattle.pel_model.specs.Elements.{block_elements}
+use Rattle.picture_laws.specs.Elements.{blocks_elements, mquant_elements, pair_in, mvd_element, vector_elements, cbp_elements, macroblock_elements, macroblocks_elements, spare_elements, group_elements, groups_elements, elements, Tells}
 use Rattle.picture_laws.proofs.Words.{field-number}
 use Rattle.picture_laws.proofs.Vectors.{IsLast, pair-of, predictor-small}
-use Rattle.picture_laws.proofs.Patterns.{not-both, blocks-intra, blocks-none, sent-trues}
 use Rattle.picture_laws.proofs.Blocks.{all-head, all-tail}
 use Rattle.picture_laws.proofs.Macroblocks.{component_small, both_axes}
 use Rattle.picture_laws.proofs.ReadMacroblocks.{predictor_same, begun_macroblock, join3}
 use Rattle.picture_laws.proofs.Groups.{RiseFrom}
+use Rattle.picture_laws.proofs.ReadGroups.{empty}
 use Rattle.picture_laws.proofs.Pictures.{valid-rise, take_all}
 use Rattle.vlc_codes.proofs.WordLaws.{either_way, if-true, if-false}
 
@@ -182,9 +183,9 @@ unfolding told_macroblock
 macroblock_again format number last m rest is rise valid =
     let at : address_of last + (m.address - address_of last) ≡ m.address = omega (arith, rise) in
     let parts : (mquant_elements m.mquant ++ (vector_elements last m ++ (cbp_elements m ++ blocks_elements m.blocks))) ++ rest ≡ mquant_elements m.mquant ++ (vector_elements last m ++ (cbp_elements m ++ (blocks_elements m.blocks ++ rest))) =
-        append_assoc (mquant_elements m.mquant) (vector_elements last m ++ (cbp_elements m ++ blocks_elements m.blocks)) rest
-        ∙ ap (λ t. mquant_elements m.mquant ++ t) (append_assoc (vector_elements last m) (cbp_elements m ++ blocks_elements m.blocks) rest
-        ∙ ap (λ t. vector_elements last m ++ t) (append_assoc (cbp_elements m) (blocks_elements m.blocks) rest)) in
+    append_assoc (mquant_elements m.mquant) (vector_elements last m ++ (cbp_elements m ++ blocks_elements m.blocks)) rest
+    ∙ ap (λ t. mquant_elements m.mquant ++ t) (append_assoc (vector_elements last m) (cbp_elements m ++ blocks_elements m.blocks) rest
+    ∙ ap (λ t. vector_elements last m ++ t) (append_assoc (cbp_elements m) (blocks_elements m.blocks) rest)) in
     ap (λ k. told_body last k m.kind ((mquant_elements m.mquant ++ (vector_elements last m ++ (cbp_elements m ++ blocks_elements m.blocks))) ++ rest)) at
     ∙ (ap (told_body last m.address m.kind) parts ∙ body_again format number last m rest is valid)
 
@@ -227,7 +228,7 @@ macroblocks_again (suc fuel) format number last zero behind (m ∷ ms) rest few 
     let stuffing : List Element = replicate (get_or behind 0 0) Stuffing in
     let more : List Element = replicate (get_or behind 0 0) Stuffing ++ (macroblocks_elements (Some m) (drop 1 behind) ms ++ rest) in
     let parts : macroblocks_elements last behind (m ∷ ms) ++ rest ≡ macroblock_elements last m ++ (replicate (get_or behind 0 0) Stuffing ++ (macroblocks_elements (Some m) (drop 1 behind) ms ++ rest)) =
-        sym (join3 (macroblock_elements last m) (replicate (get_or behind 0 0) Stuffing) (macroblocks_elements (Some m) (drop 1 behind) ms) rest) in
+    sym (join3 (macroblock_elements last m) (replicate (get_or behind 0 0) Stuffing) (macroblocks_elements (Some m) (drop 1 behind) ms) rest) in
     let one = macroblock_again format number last m (replicate (get_or behind 0 0) Stuffing ++ (macroblocks_elements (Some m) (drop 1 behind) ms ++ rest)) is rise.0 (all-head (IsValidMacroblock format number) m ms valid) in
     let fits : length (replicate (get_or behind 0 0) Stuffing ++ (macroblocks_elements (Some m) (drop 1 behind) ms ++ rest)) ≤ fuel = omega (arith, few, ap length parts, length-append (macroblock_elements last m) (replicate (get_or behind 0 0) Stuffing ++ (macroblocks_elements (Some m) (drop 1 behind) ms ++ rest))) in
     let later = macroblocks_again fuel format number (Some m) (get_or behind 0 0) (drop 1 behind) ms rest fits (last_of format number m (omega (arith, rise.0)) (all-head (IsValidMacroblock format number) m ms valid)) rise.2 (all-tail (IsValidMacroblock format number) m ms valid) opening in
@@ -257,9 +258,6 @@ pspares_again : (spares : List ℕ) (rest : List Element) → past_pspares (spar
 unfolding past_pspares
 pspares_again [] rest = refl
 pspares_again (n ∷ ns) rest = pspares_again ns rest
-
-abbrev empty : ℕ → Group
-empty n = record { number = n; quant = 1; macroblocks = [] }
 
 abbrev told_sent : List Element → List Macroblock × List Element
 told_sent es = told_macroblocks (length es) None es
@@ -309,7 +307,7 @@ unfolding told_groups
 sent_again format g spares stuffings behind ns rest valid opening =
     let body_ : List Element = replicate stuffings Stuffing ++ (macroblocks_elements None behind g.macroblocks ++ rest) in
     let parts : (spare_elements Gei Gspare spares ++ (replicate stuffings Stuffing ++ macroblocks_elements None behind g.macroblocks)) ++ rest ≡ spare_elements Gei Gspare spares ++ (replicate stuffings Stuffing ++ (macroblocks_elements None behind g.macroblocks ++ rest)) =
-        sym (join3 (spare_elements Gei Gspare spares) (replicate stuffings Stuffing) (macroblocks_elements None behind g.macroblocks) rest) in
+    sym (join3 (spare_elements Gei Gspare spares) (replicate stuffings Stuffing) (macroblocks_elements None behind g.macroblocks) rest) in
     let past : past_gspares ((spare_elements Gei Gspare spares ++ (replicate stuffings Stuffing ++ macroblocks_elements None behind g.macroblocks)) ++ rest) ≡ replicate stuffings Stuffing ++ (macroblocks_elements None behind g.macroblocks ++ rest) = ap past_gspares parts ∙ gspares_again spares (replicate stuffings Stuffing ++ (macroblocks_elements None behind g.macroblocks ++ rest)) in
     let told = macroblocks_again (length (replicate stuffings Stuffing ++ (macroblocks_elements None behind g.macroblocks ++ rest))) format g.number None stuffings behind g.macroblocks rest (omega arith) tt valid.addresses valid.macroblocks opening in
     let es : List Element = (spare_elements Gei Gspare spares ++ (replicate stuffings Stuffing ++ macroblocks_elements None behind g.macroblocks)) ++ rest in

@@ -1,12 +1,12 @@
 -- Vectors: what MVD's table holds, computed over all components and predictors from -15 to 15.
-use Rattle.std.proofs.Common.{◌≡◌, ◌≢◌, ℕ, zero, suc, ◌+◌, ◌-◌, ◌*◌, ◌<◌, ◌≤◌, ◌==◌, ◌&&◌, ◌||◌, not, Bool, true, false, cond, List, [], ◌∷◌, ◌++◌, length, map, Option, Some, None, nat_lt, nat_le, if◌then◌else◌, refl, sym, ◌∙◌, ap, subst, inl, inr, ◌⊎◌, ℤ, pos, negsuc, ◌-ℤ◌, ◌+ℤ◌, nat_abs, arith}
+use Rattle.std.proofs.Common.{◌≡◌, ◌≢◌, ℕ, zero, suc, ◌+◌, ◌-◌, ◌<◌, ◌≤◌, ◌==◌, ◌&&◌, ◌||◌, not, Bool, true, false, cond, List, [], ◌∷◌, ◌++◌, map, Option, Some, None, refl, sym, ◌∙◌, ap, inl, inr, ℤ, pos, negsuc, ◌-ℤ◌, nat_abs, arith}
 use Rattle.std.specs.List.{list_any, list_all}
 use Rattle.std.specs.Ordering.{int_eq}
-use Rattle.std.proofs.lemmas.Bool.{false≢true, ltb-true, ltb-false, leb-true, eqb-true, eq-eqb, lt-ltb, le-leb}
+use Rattle.std.proofs.lemmas.Bool.{false≢true, ltb-true, leb-true, eqb-true, eq-eqb, lt-ltb, le-leb}
 use Rattle.std.proofs.lemmas.Bool.Decides.{Decides-int_eq}
 use Rattle.pel_model.specs.Codes.{mvd_table, has_vector}
-use Rattle.pel_model.specs.Records.{Axis, Across, Down, Macroblock, component}
-use Rattle.pel_model.specs.Text.{word_of, address_of, predictor, starts_anew, mvd_word}
+use Rattle.pel_model.specs.Records.{Axis, Macroblock, component}
+use Rattle.pel_model.specs.Text.{word_of, address_of, predictor, starts_anew}
 use Rattle.pel_model.specs.Valid.{StaysWithin}
 use Rattle.pel_model.specs.Grammar as grammar
 use Rattle.pel_model.specs.Grammar.{Mvd, AtMvd, in_range, moved, stays_within}

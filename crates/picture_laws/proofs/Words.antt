@@ -1,21 +1,18 @@
 -- The word that stands at a slot, and what is read there.
-use Rattle.std.proofs.Common.{◌≡◌, ◌≢◌, ℕ, zero, suc, ◌+◌, ◌-◌, ◌*◌, ◌/◌, ◌%◌, ◌^◌, ◌<◌, ◌≤◌, ◌==◌, ◌&&◌, ◌||◌, not, Bool, true, false, cond, List, [], ◌∷◌, ◌++◌, length, map, take, drop, Option, Some, None, nat_lt, nat_le, if◌then◌else◌, refl, sym, ◌∙◌, ap, subst, inl, inr, ◌⊎◌, append_assoc, append-nil, ℤ, pos, negsuc, neg_ℤ, nat_abs, codes, MatchBool, IsTrue, arith}
-use Rattle.std.specs.List.{list_any, list_all, find}
-use Rattle.std.specs.Ordering.{int_eq}
-use Rattle.std.proofs.lemmas.Bool.{false≢true, ltb-true, ltb-false, leb-true, eqb-true, eq-eqb}
+use Rattle.std.proofs.Common.{◌≡◌, ℕ, zero, suc, ◌+◌, ◌-◌, ◌*◌, ◌/◌, ◌%◌, ◌^◌, ◌<◌, ◌≤◌, ◌==◌, Bool, true, false, List, [], ◌∷◌, ◌++◌, length, map, drop, nat_lt, refl, sym, ◌∙◌, ap, subst, inl, inr, ◌⊎◌, append_assoc, append-nil, pos, negsuc, neg_ℤ, arith}
+use Rattle.std.specs.List.{list_all}
+use Rattle.std.proofs.lemmas.Bool.{ltb-true, ltb-false, leb-true}
 use Rattle.std.proofs.lemmas.List.{length-append}
 use Rattle.pel_bits.proofs.Fields as fields
 use Rattle.pel_bits.specs.Bits as low
 use Rattle.pel_model.specs.Bits.{field, number}
-use Rattle.pel_model.specs.declared.MbKind.{MbKind}
-use Rattle.pel_model.specs.Codes.{mba_table, mtype_table, mvd_table, cbp_table, tcoeff_table, first_one_word, later_one_word, escape_word, end_of_block_word, row_of}
-use Rattle.pel_model.specs.Records.{Axis, Coefficient}
-use Rattle.pel_model.specs.Text.{word_of, coefficient_word, mtype_word, twos_complement, is_negative, pair_word}
-use Rattle.pel_model.specs.Valid.{has_code}
-use Rattle.pel_model.specs.Walk.{Step, Good, Stop, Bad, Row, read}
-use Rattle.pel_model.specs.Grammar.{Element, Psc, Tr, Ptype, Pei, Pspare, Gbsc, Gn, Gquant, Gei, Gspare, Stuffing, Mba, Mtype, Mquant, Mvd, Cbp, Dc, Tcoeff, Eob, Slot, AtPsc, AtTr, AtPtype, AtPei, AtPspare, AtGroup, AtGn, AtGquant, AtGei, AtGspare, AtMacroblock, AtMtype, AtMquant, AtMvd, AtCbp, AtDc, AtFirst, AtCoefficient, word_row, field_rows, flag_rows, table_rows, coefficient_row, coefficient_rows, escape_row, first_rows, later_rows, mba_rows, gbsc_row, rows, signed, from_twos_complement}
-use Rattle.picture_laws.proofs.Rows.{Among, IsRead, read-is, read-row, among-all, among-map, among-mapped, among-either, among-left, among-right, codes_of}
-use Rattle.picture_laws.proofs.Slots.{word_at, one_at, Takes, IsSent, IsByteLevel, IsStep, IsPattern, same_pair, same_bits-true, mba_words, mtype_words, mvd_words, cbp_words, pair, pair_is_sent, pair_words, pair_words_later, rows_free}
+use Rattle.pel_model.specs.Codes.{mba_table, mtype_table, mvd_table, cbp_table, tcoeff_table, first_one_word, later_one_word, escape_word, end_of_block_word}
+use Rattle.pel_model.specs.Records.{Coefficient}
+use Rattle.pel_model.specs.Text.{coefficient_word, twos_complement}
+use Rattle.pel_model.specs.Walk.{Good, Row, read}
+use Rattle.pel_model.specs.Grammar.{Element, Psc, Tr, Ptype, Pei, Pspare, Gbsc, Gn, Gquant, Gei, Gspare, Stuffing, Mba, Mtype, Mquant, Mvd, Cbp, Dc, Tcoeff, Eob, Slot, AtPsc, AtTr, AtPtype, AtPei, AtPspare, AtGroup, AtGn, AtGquant, AtGei, AtGspare, AtMacroblock, AtMtype, AtMquant, AtMvd, AtCbp, AtDc, AtFirst, AtCoefficient, word_row, field_rows, table_rows, coefficient_row, escape_row, mba_rows, gbsc_row, rows, signed, from_twos_complement}
+use Rattle.picture_laws.proofs.Rows.{Among, IsRead, read-is, among-all, among-map, among-either}
+use Rattle.picture_laws.proofs.Slots.{word_at, one_at, Takes, IsSent, IsByteLevel, same_bits-true, mba_words, mtype_words, mvd_words, cbp_words, pair, pair_is_sent, pair_words, pair_words_later}
 use Rattle.vlc_codes.proofs.WordLaws.{and_left, and_right, either_way, if-true, if-false}
 
 -- ---- fields
@@ -175,12 +172,12 @@ read-slot AtGei bits e n h = let r = field_case AtGei 1 (λ k. Gei (k == 1)) fla
 read-slot AtGspare bits e n h = let r = field_case AtGspare 8 Gspare (λ k _. refl) bits e n (read-is (rows AtGspare) bits e n h) in ((r.0, r.1, r.2), r.3)
 read-slot AtMacroblock bits e n h = elim (read_either mba_rows (gbsc_row ∷ []) bits e n (read-is (rows AtMacroblock) bits e n h)) [
   | inl a ↦ elim (read_either (table_rows mba_table Mba) (word_row _ Stuffing ∷ []) bits e n a) [
-      | inl b ↦
-          let r = table_case AtMacroblock mba_table Mba (λ row among. same_bits-true _ _ (and_left _ _ (among-all _ row mba_table mba_words among))) bits e n b in
-          let ok = and_right _ _ (among-all _ r.0 mba_table mba_words r.1) in
-          (inl (r.0.1, (ltb-true 0 r.0.1 (and_left _ _ ok), leb-true r.0.1 33 (and_right _ _ ok)), r.2), r.3)
-      | inr b ↦ let r = one_word_case AtMacroblock _ Stuffing refl bits e n b in (inr (inl r.0), r.1)
-    ]
+    | inl b ↦
+        let r = table_case AtMacroblock mba_table Mba (λ row among. same_bits-true _ _ (and_left _ _ (among-all _ row mba_table mba_words among))) bits e n b in
+        let ok = and_right _ _ (among-all _ r.0 mba_table mba_words r.1) in
+        (inl (r.0.1, (ltb-true 0 r.0.1 (and_left _ _ ok), leb-true r.0.1 33 (and_right _ _ ok)), r.2), r.3)
+    | inr b ↦ let r = one_word_case AtMacroblock _ Stuffing refl bits e n b in (inr (inl r.0), r.1)
+  ]
   | inr a ↦ let r = one_word_case AtMacroblock _ Gbsc refl bits e n a in (inr (inr r.0), r.1)
 ]
 read-slot AtMtype bits e n h =
@@ -201,8 +198,8 @@ read-slot AtFirst bits e n h = elim (read_either (map (λ row. pair_row row) ((f
 ]
 read-slot AtCoefficient bits e n h = elim (read_either (map (λ row. pair_row row) ((later_one_word, (0, 1)) ∷ tcoeff_table) ++ escape_row ∷ []) (word_row end_of_block_word Eob ∷ []) bits e n (read-is (rows AtCoefficient) bits e n h)) [
   | inl a ↦ elim (read_either (map (λ row. pair_row row) ((later_one_word, (0, 1)) ∷ tcoeff_table)) (escape_row ∷ []) bits e n a) [
-      | inl b ↦ let r = pair_case AtCoefficient ((later_one_word, (0, 1)) ∷ tcoeff_table) pair_words_later bits e n b in (inl r.0, r.1)
-      | inr b ↦ let r = escape_case AtCoefficient bits e n b in (inl r.0, r.1)
-    ]
+    | inl b ↦ let r = pair_case AtCoefficient ((later_one_word, (0, 1)) ∷ tcoeff_table) pair_words_later bits e n b in (inl r.0, r.1)
+    | inr b ↦ let r = escape_case AtCoefficient bits e n b in (inl r.0, r.1)
+  ]
   | inr a ↦ let r = one_word_case AtCoefficient _ Eob refl bits e n a in (inr r.0, r.1)
 ]

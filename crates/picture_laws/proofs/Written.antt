@@ -1,22 +1,20 @@
 -- The word of an element that a slot takes is read there as that element, whatever follows.
-use Rattle.std.proofs.Common.{◌≡◌, ◌≢◌, ℕ, zero, suc, ◌+◌, ◌-◌, ◌*◌, ◌/◌, ◌%◌, ◌^◌, ◌<◌, ◌≤◌, ◌==◌, ◌&&◌, ◌||◌, not, Bool, true, false, cond, List, [], ◌∷◌, ◌++◌, length, map, take, drop, Option, Some, None, nat_lt, nat_le, if◌then◌else◌, refl, sym, ◌∙◌, ap, subst, inl, inr, ◌⊎◌, append_assoc, append-nil, ℤ, pos, negsuc, neg_ℤ, nat_abs, codes, MatchBool, IsTrue, arith}
-use Rattle.std.specs.List.{list_any, list_all, find}
-use Rattle.std.specs.Ordering.{int_eq}
-use Rattle.std.proofs.lemmas.Bool.{false≢true, ltb-true, ltb-false, leb-true, eqb-true, eq-eqb, lt-ltb}
+use Rattle.std.proofs.Common.{◌≡◌, ℕ, zero, suc, ◌+◌, ◌-◌, ◌*◌, ◌/◌, ◌%◌, ◌^◌, ◌<◌, ◌≤◌, ◌==◌, ◌&&◌, ◌||◌, Bool, true, false, List, [], ◌∷◌, ◌++◌, length, map, nat_lt, refl, sym, ◌∙◌, ap, subst, inl, inr, append_assoc, append-nil, ℤ, pos, negsuc, neg_ℤ, nat_abs, arith}
+use Rattle.std.specs.List.{list_any, list_all}
+use Rattle.std.proofs.lemmas.Bool.{eqb-true, lt-ltb}
 use Rattle.std.proofs.lemmas.List.{length-append}
-use Rattle.std.proofs.Math.Nat.{div-eq_of_lt}
 use Rattle.pel_model.specs.Bits.{field, number}
 use Rattle.pel_model.specs.declared.MbKind.{MbKind}
 use Rattle.pel_model.specs.declared.MbKind.TheVariants.{Intra, IntraQuant, Inter, InterQuant, Mc, McCoded, McQuant, McFil, McFilCoded, McFilQuant}
-use Rattle.pel_model.specs.Codes.{is_prefix_free, mba_table, mtype_table, mvd_table, cbp_table, tcoeff_table, first_one_word, later_one_word, escape_word, end_of_block_word, row_of}
-use Rattle.pel_model.specs.Records.{Axis, Coefficient}
-use Rattle.pel_model.specs.Text.{word_of, coefficient_word, mtype_word, twos_complement, is_negative, pair_word}
-use Rattle.pel_model.specs.Valid.{has_code}
-use Rattle.pel_model.specs.Walk.{Step, Good, Stop, Bad, Row, read}
-use Rattle.pel_model.specs.Grammar.{Element, Psc, Tr, Ptype, Pei, Pspare, Gbsc, Gn, Gquant, Gei, Gspare, Stuffing, Mba, Mtype, Mquant, Mvd, Cbp, Dc, Tcoeff, Eob, Slot, AtPsc, AtTr, AtPtype, AtPei, AtPspare, AtGroup, AtGn, AtGquant, AtGei, AtGspare, AtMacroblock, AtMtype, AtMquant, AtMvd, AtCbp, AtDc, AtFirst, AtCoefficient, word_row, field_rows, flag_rows, table_rows, coefficient_row, coefficient_rows, escape_row, first_rows, later_rows, mba_rows, gbsc_row, rows, signed, from_twos_complement}
-use Rattle.picture_laws.proofs.Rows.{Among, IsRead, read-is, read-row, among-all, among-map, among-mapped, among-either, among-left, among-right, codes_of}
-use Rattle.picture_laws.proofs.Slots.{word_at, one_at, Takes, IsSent, IsByteLevel, IsStep, IsPattern, same_pair, same_bits-true, mba_words, mtype_words, mvd_words, cbp_words, pair, pair_is_sent, pair_words, pair_words_later, rows_free}
-use Rattle.picture_laws.proofs.Words.{number-fits, length-field, field-join, number_below, pair_row}
+use Rattle.pel_model.specs.Codes.{is_prefix_free, mba_table, mtype_table, mvd_table, cbp_table, tcoeff_table, first_one_word, later_one_word, escape_word, end_of_block_word}
+use Rattle.pel_model.specs.Records.{Coefficient}
+use Rattle.pel_model.specs.Text.{word_of, coefficient_word, mtype_word, twos_complement, is_negative}
+use Rattle.pel_model.specs.Walk.{Good, Row, read}
+use Rattle.pel_model.specs.Grammar.{Element, Psc, Tr, Ptype, Pei, Pspare, Gbsc, Gn, Gquant, Gei, Gspare, Stuffing, Mba, Mtype, Mquant, Mvd, Cbp, Dc, Tcoeff, Eob, Slot, AtPsc, AtTr, AtPtype, AtPei, AtPspare, AtGroup, AtGn, AtGquant, AtGei, AtGspare, AtMacroblock, AtMtype, AtMquant, AtMvd, AtCbp, AtDc, AtFirst, AtCoefficient, word_row, field_rows, flag_rows, table_rows, escape_row, mba_rows, gbsc_row, rows, signed, from_twos_complement}
+use Rattle.picture_laws.proofs.Basics.{not_less, not_equal}
+use Rattle.picture_laws.proofs.Rows.{Among, read-row, among-all, among-mapped, among-left, among-right, codes_of}
+use Rattle.picture_laws.proofs.Slots.{word_at, Takes, IsSent, IsByteLevel, IsStep, IsPattern, same_bits-true, mvd_words, pair, pair_is_sent, pair_words, pair_words_later, rows_free}
+use Rattle.picture_laws.proofs.Words.{number-fits, length-field, field-join, pair_row}
 use Rattle.vlc_codes.proofs.WordLaws.{and_left, and_right, either_way, if-true, if-false}
 
 -- a row among the rows of a slot, and the bits behind its code
@@ -50,9 +48,6 @@ found_in test (row ∷ table) h = elim (either_way (test row.1)) [
       (r.0, inr r.1, r.2, if-false (test row.1) row.0 (word_of test table) no_ ∙ r.3)
 ]
 
-differs : (n m : ℕ) → (n == m) ≡ false → n ≢ m
-differs n m h same = false≢true (sym h ∙ eq-eqb n m same)
-
 -- the numbers below m
 abbrev pub below : ℕ → List ℕ
 below zero = []
@@ -62,7 +57,7 @@ pub below_all : (test : ℕ → Bool) (m n : ℕ) → list_all test (below m) �
 below_all test zero n all h = absurd (omega arith)
 below_all test (suc m) n all h = elim (either_way (n == m)) [
   | inl same ↦ ap test (eqb-true n m same) ∙ and_left _ _ all
-  | inr other ↦ below_all test m n (and_right _ _ all) (omega (arith, differs n m other, h))
+  | inr other ↦ below_all test m n (and_right _ _ all) (omega (arith, not_equal n m other, h))
 ]
 
 steps_found : list_all (λ n. list_any (λ row. row.1 == n + 1) mba_table) (below 33) ≡ true
@@ -132,18 +127,15 @@ written_pair list free one table inside checked run level any rest =
     let run_is : f.0.1.0 ≡ run = eqb-true f.0.1.0 run (and_left _ _ f.2) in
     let level_is : f.0.1.1 ≡ nat_abs level = eqb-true f.0.1.1 (nat_abs level) (and_right _ _ f.2) in
     let same : pair f.0.1.0 f.0.1.1 (is_negative level) ≡ record { run = run; level = level; long = false } =
-        ap (λ r. pair r f.0.1.1 (is_negative level)) run_is ∙ (ap (λ l. pair run l (is_negative level)) level_is ∙ ap (λ (l : ℤ). record { run = run; level = l; long = false }) (signed_again level)) in
+    ap (λ r. pair r f.0.1.1 (is_negative level)) run_is ∙ (ap (λ l. pair run l (is_negative level)) level_is ∙ ap (λ (l : ℤ). record { run = run; level = l; long = false }) (signed_again level)) in
     let word : coefficient_word one (pair f.0.1.0 f.0.1.1 (is_negative level)) ≡ f.0.0 ++ is_negative level ∷ [] = same_bits-true _ _ (and_left _ _ (among-all (pair_is_sent one (is_negative level)) f.0 table (checked (is_negative level)) f.1)) in
     written list free (pair_row f.0) (inside f.0 f.1) (is_negative level ∷ []) refl (Tcoeff (record { run = run; level = level; long = false })) (ap Tcoeff same) (coefficient_word one (record { run = run; level = level; long = false })) (sym word ∙ ap (coefficient_word one) same) rest
-
-no_less : (n m : ℕ) → m ≤ n → nat_lt n m ≡ false
-no_less n m h = elim (either_way (nat_lt n m)) [ inl less ↦ absurd (omega (arith, ltb-true n m less)) | inr not_less ↦ not_less ]
 
 twos_fit : (level : ℤ) → IsByteLevel level → (twos_complement level < 256) × (from_twos_complement (twos_complement level) ≡ level)
 twos_fit (pos n) h = (omega arith, if-true (nat_lt n 128) (pos n) (neg_ℤ (pos (256 - n))) (lt-ltb n 128 h))
 twos_fit (negsuc n) h =
     let k : ℕ = 255 - n in
-    let high : nat_lt (255 - n) 128 ≡ false = no_less (255 - n) 128 (omega arith) in
+    let high : nat_lt (255 - n) 128 ≡ false = not_less (255 - n) 128 (omega arith) in
     let back : 256 - (255 - n) ≡ suc n = omega arith in
     (omega arith, if-false (nat_lt (255 - n) 128) (pos (255 - n)) (neg_ℤ (pos (256 - (255 - n)))) high ∙ ap (λ m. neg_ℤ (pos m)) back)
 
@@ -157,8 +149,8 @@ written_escape list free among one run level small byte rest =
     let level_is : n % 256 ≡ twos_complement level = omega (arith, t.0) in
     let bits : field n 14 ≡ field run 6 ++ field (twos_complement level) 8 = field-join run (twos_complement level) 6 8 t.0 in
     let same : Tcoeff (record { run = n / 256; level = from_twos_complement (n % 256); long = true }) ≡ Tcoeff (record { run = run; level = level; long = true }) =
-        ap (λ (r : ℕ). Tcoeff (record { run = r; level = from_twos_complement (n % 256); long = true })) run_is
-        ∙ ap (λ (l : ℤ). Tcoeff (record { run = run; level = l; long = true })) (ap from_twos_complement level_is ∙ t.1) in
+    ap (λ (r : ℕ). Tcoeff (record { run = r; level = from_twos_complement (n % 256); long = true })) run_is
+    ∙ ap (λ (l : ℤ). Tcoeff (record { run = run; level = l; long = true })) (ap from_twos_complement level_is ∙ t.1) in
     written list free escape_row among (field n 14) (length-field n 14) (Tcoeff (record { run = run; level = level; long = true })) (ap escape_row.make (number-fits n 14 below) ∙ same) (escape_word ++ field run 6 ++ field (twos_complement level) 8) (ap (λ t. escape_word ++ t) bits ∙ sym (append_assoc escape_word (field run 6) (field (twos_complement level) 8))) rest
 
 -- ---- each slot
@@ -169,7 +161,6 @@ takes_parts list free one inside escape checked run level false sent rest = writ
 
 takes_pair : (list : List (Row Element)) → is_prefix_free (codes_of list) ≡ true → (one : List Bool) → ((row : List Bool × (ℕ × ℕ)) → Among row ((one, (0, 1)) ∷ tcoeff_table) → Among (pair_row row) list) → Among escape_row list → ((b : Bool) → list_all (pair_is_sent one b) ((one, (0, 1)) ∷ tcoeff_table) ≡ true) → (c : Coefficient) → IsSent c → (rest : List Bool) → read list (coefficient_word one c ++ rest) ≡ Good (Tcoeff c) (length (coefficient_word one c))
 takes_pair list free one inside escape checked c sent rest = takes_parts list free one inside escape checked c.run c.level c.long sent rest
-
 
 -- an element that a slot takes
 abbrev ReadsAs : Slot → Element → List Bool → Type 0
@@ -193,9 +184,9 @@ write-slot AtGspare e rest t = as_is AtGspare e (Gspare t.0) rest t.2 (written_f
 write-slot AtMacroblock e rest t = elim t [
   | inl a ↦ as_is AtMacroblock e (Mba a.0) rest a.2 (written_step a.0 a.1 rest)
   | inr a ↦ elim a [
-      | inl b ↦ as_is AtMacroblock e Stuffing rest b (written_word (rows AtMacroblock) (rows_free AtMacroblock) _ Stuffing (among-left _ mba_rows (gbsc_row ∷ []) (among-right _ (table_rows mba_table Mba) _ (inl refl))) _ refl rest)
-      | inr b ↦ as_is AtMacroblock e Gbsc rest b (written_word (rows AtMacroblock) (rows_free AtMacroblock) _ Gbsc (among-right _ mba_rows (gbsc_row ∷ []) (inl refl)) _ refl rest)
-    ]
+    | inl b ↦ as_is AtMacroblock e Stuffing rest b (written_word (rows AtMacroblock) (rows_free AtMacroblock) _ Stuffing (among-left _ mba_rows (gbsc_row ∷ []) (among-right _ (table_rows mba_table Mba) _ (inl refl))) _ refl rest)
+    | inr b ↦ as_is AtMacroblock e Gbsc rest b (written_word (rows AtMacroblock) (rows_free AtMacroblock) _ Gbsc (among-right _ mba_rows (gbsc_row ∷ []) (inl refl)) _ refl rest)
+  ]
 ]
 write-slot AtMtype e rest t = as_is AtMtype e (Mtype t.0) rest t.1 (written_kind t.0 rest)
 write-slot AtMquant e rest t = as_is AtMquant e (Mquant t.0) rest t.2 (written_field 5 Mquant t.0 t.1 rest (rows_free AtMquant))

@@ -1,22 +1,16 @@
 -- The elements of a picture in an input form, in their order, and what it means that elements tell a picture.
-use Rattle.std.specs.Prelude.{◌≡◌, ℕ, ◌-◌, ◌%◌, ◌||◌, Bool, true, false, if◌then◌else◌, ℤ, pos, ◌-ℤ◌, List, [], ◌∷◌, ◌++◌, map, flat_map, replicate, get_or, drop, Option, Some, None}
+use Rattle.std.specs.Prelude.{◌≡◌, ℕ, ◌-◌, ◌%◌, ◌||◌, Bool, true, false, if◌then◌else◌, ℤ, pos, ◌-ℤ◌, List, [], ◌∷◌, ◌++◌, replicate, get_or, drop, Option, Some, None}
 use Rattle.std.specs.Ordering.{int_eq}
 use Rattle.pel_model.specs.declared.Format.{Format}
 use Rattle.pel_model.specs.Bits.{number}
 use Rattle.pel_model.specs.Codes.{mvd_table, has_vector, has_cbp}
-use Rattle.pel_model.specs.Records.{Axis, Across, Down, Coefficient, Block, Macroblock, Group, Picture, component}
+use Rattle.pel_model.specs.Records.{Axis, Across, Down, Block, Macroblock, Group, Picture, component}
 use Rattle.pel_model.specs.Text.{address_of, predictor, coded_block_pattern}
 use Rattle.pel_model.specs.Spelling.{FreeBits, GroupForm, LeftOut, Sent, Form, GroupsFit, type_text}
-use Rattle.pel_model.specs.Grammar.{Element, Psc, Tr, Ptype, Pei, Pspare, Gbsc, Gn, Gquant, Gei, Gspare, Stuffing, Mba, Mtype, Mquant, Mvd, Cbp, Dc, Tcoeff, Eob}
+use Rattle.pel_model.specs.Elements.{block_elements}
+use Rattle.pel_model.specs.Grammar.{Element, Psc, Tr, Ptype, Pei, Pspare, Gbsc, Gn, Gquant, Gei, Gspare, Stuffing, Mba, Mtype, Mquant, Mvd, Cbp}
 
 -- ---- blocks and macroblocks
-
-abbrev pub dc_elements : Option ℕ → List Element
-dc_elements None = []
-dc_elements (Some n) = Dc n ∷ []
-
-abbrev pub block_elements : Block → List Element
-block_elements b = dc_elements b.dc ++ (map Tcoeff b.coefficients ++ (Eob ∷ []))
 
 abbrev pub blocks_elements : List (Option Block) → List Element
 blocks_elements [] = []

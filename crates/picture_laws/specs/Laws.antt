@@ -7,7 +7,7 @@ use Rattle.pel_model.specs.Records.{Picture}
 use Rattle.pel_model.specs.Text.{text}
 use Rattle.pel_model.specs.Valid.{IsValid, group_count, limit}
 use Rattle.pel_model.specs.Accepts.{Accepts}
-use Rattle.pel_model.specs.Walk.{Good, Stop, Bad, after, start, skipped, Goes, FirstFault, Reads}
+use Rattle.pel_model.specs.Walk.{Good, Stop, Bad, after, Goes, FirstFault, Reads}
 use Rattle.pel_model.specs.Grammar.{Element, slot, may_end, begun, counted, next, picture}
 use Rattle.picture_laws.specs.Elements.{Tells}
 

@@ -7,20 +7,17 @@ ghost use Rattle.picture_laws.specs.Laws.{TextIsAccepted, AcceptedIsRead, WalkHa
 /// The strict text of a valid picture within the limit is accepted with that picture.
 pub fn text_is_accepted()
     ensures { TextIsAccepted }
-{
-}
+{}
 
 /// Accepted bits are good elements up to the lawful end, and these tell the picture.
 pub fn accepted_text_is_read()
     ensures { AcceptedIsRead }
-{
-}
+{}
 
 /// Good elements up to the lawful end tell a picture, and the bits are accepted with it.
 pub fn walk_has_a_record()
     ensures { WalkHasRecord }
-{
-}
+{}
 
 /// Bits are accepted with one picture or have one first fault, never both.
 pub fn one_record_or_one_fault()
@@ -28,8 +25,7 @@ pub fn one_record_or_one_fault()
     ensures never_both { NeverBoth }
     ensures one_record { OneRecord }
     ensures one_fault { OneFault }
-{
-}
+{}
 
 /// What is read over the first bits alone, and the limit of a picture where a macroblock's elements go past it: the
 /// element that is too long is the one that is cut in a reading of the bits that the limit leaves.
@@ -39,12 +35,10 @@ pub fn limit_is_read_by_a_cut()
     ensures judged { JudgedByTheLimit }
     ensures within { WithinTheLimit }
     ensures past { PastTheLimit }
-{
-}
+{}
 
 /// Bits behind the first 65,600 of a QCIF picture, or 262,208 of a CIF picture, change neither the picture with which
 /// bits are accepted nor the first fault.
 pub fn kept_length()
     ensures { KeptLength }
-{
-}
+{}
