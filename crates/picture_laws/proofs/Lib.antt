@@ -19,5 +19,6 @@ pub mod Slots
 pub mod Strict
 pub mod Told
 pub mod Vectors
+mod WorkedForms
 pub mod Words
 pub mod Written
