@@ -16,15 +16,15 @@ use Rattle.pel_model.specs.Spelling.{GroupForm, LeftOut, Sent, GroupsFit, spare_
 use Rattle.pel_model.specs.Walk.{after}
 use Rattle.pel_model.specs.Grammar.{Element, Pei, Pspare, Gbsc, Gn, Gquant, Gei, Gspare, Stuffing, Slot, AtPei, AtGroup, AtGei, AtMacroblock, slot, group, vector, is_group}
 use Rattle.pel_model.proofs.Walks.{after-append}
+use Rattle.picture_laws.specs.SoFar.{IsBehind, last_component}
 use Rattle.picture_laws.specs.Elements.{macroblock_elements, macroblocks_elements, spare_elements, group_elements, groups_elements}
 use Rattle.picture_laws.proofs.Rows.{Among, among-all}
 use Rattle.picture_laws.proofs.Slots.{Takes, gbsc}
 use Rattle.picture_laws.proofs.Words.{field-mod}
 use Rattle.picture_laws.proofs.Chains.{Stands}
-use Rattle.picture_laws.proofs.Vectors.{last_component}
 use Rattle.picture_laws.proofs.Basics.{not_same}
 use Rattle.picture_laws.proofs.Blocks.{Says, says-none, says-cons, says-append, says-text, all-head, all-tail, one_pass, state}
-use Rattle.picture_laws.proofs.Macroblocks.{IsBehind, says-macroblock, both_axes}
+use Rattle.picture_laws.proofs.Macroblocks.{says-macroblock, both_axes}
 use Rattle.vlc_codes.proofs.WordLaws.{either_way}
 
 -- ---- stuffing

@@ -15,13 +15,14 @@ use Rattle.pel_model.specs.Walk.{after}
 use Rattle.pel_model.specs.Grammar as grammar
 use Rattle.pel_model.specs.Grammar.{Element, Mba, Mtype, Mquant, Mvd, Cbp, Slot, AtMacroblock, AtMtype, AtMquant, AtMvd, AtCbp, slot, kind, blocks, group, address, vector, faults, first_why, block_slot, cbp_slot, vector_slot, ones, moved, in_range, stays_within}
 use Rattle.pel_model.proofs.Walks.{after-append}
+use Rattle.picture_laws.specs.SoFar.{IsBehind, IsLast, last_component}
 use Rattle.picture_laws.specs.Elements.{mquant_elements, pair_in, mvd_element, vector_elements, cbp_elements, blocks_elements, macroblock_elements}
 use Rattle.picture_laws.proofs.Slots.{word_at, Takes}
 use Rattle.picture_laws.proofs.Words.{number_below}
 use Rattle.std.proofs.lemmas.List.{length-map}
 use Rattle.picture_laws.proofs.Patterns.{ones-trues, number-some, sent-trues, blocks-intra, blocks-coded, blocks-none, any-sent, not-both}
 use Rattle.picture_laws.proofs.Chains.{Stands, word_in}
-use Rattle.picture_laws.proofs.Vectors.{pair-of, last_component, IsLast, predicted, predictor-small, in-range, stays}
+use Rattle.picture_laws.proofs.Vectors.{pair-of, predicted, predictor-small, in-range, stays}
 use Rattle.picture_laws.proofs.Basics.{not_less, not_same}
 use Rattle.picture_laws.proofs.Blocks.{Says, says-none, says-cons, says-append, says-text, one_pass, two_pass, state, sent, AreBlocksOf, says-blocks, blocks-state, blocks-slot}
 use Rattle.vlc_codes.proofs.WordLaws.{either_way, if-true, if-false}
@@ -207,14 +208,6 @@ says-rest format before number m place count six fit = elim (either_way (has_cbp
 ]
 
 -- ---- the macroblock
-
--- the elements before a macroblock, of which the last one sent in its group is `last`
-pub record IsBehind (number : ℕ) (last : Option Macroblock) (before : List Element) : Type 0 where
-  pub at : slot before ≡ AtMacroblock
-  pub group_is : group before ≡ number
-  pub address_is : address before ≡ address_of last
-  pub vector_is : (axis : Axis) → vector axis before ≡ last_component axis last
-  pub last_is : IsLast last
 
 -- behind MTYPE
 abbrev pub headed : List Element → Option Macroblock → Macroblock → List Element

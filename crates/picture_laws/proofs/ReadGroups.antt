@@ -11,12 +11,13 @@ use Rattle.pel_model.specs.Valid.{IsQuantiser, IsValidMacroblock, AddressesRise,
 use Rattle.pel_model.specs.Spelling.{GroupForm, LeftOut, Sent, GroupsFit}
 use Rattle.pel_model.specs.Walk.{after}
 use Rattle.pel_model.specs.Grammar.{Element, Pei, Pspare, Gbsc, Gn, Gquant, Gei, Gspare, Stuffing, Mba, AtPei, AtPspare, AtGn, AtGquant, AtGei, AtGspare, AtMacroblock, slot, group, vector, is_group, may_end}
+use Rattle.picture_laws.specs.SoFar.{IsBehind}
 use Rattle.picture_laws.specs.Elements.{macroblock_elements, macroblocks_elements, spare_elements, group_elements, groups_elements}
 use Rattle.picture_laws.proofs.Rows.{Among}
 use Rattle.picture_laws.proofs.Slots.{Takes}
 use Rattle.picture_laws.proofs.Basics.{not_equal, and_true, not_false}
 use Rattle.picture_laws.proofs.Blocks.{all-cons, all-nil, one_passed}
-use Rattle.picture_laws.proofs.Macroblocks.{IsBehind, says-macroblock, both_axes}
+use Rattle.picture_laws.proofs.Macroblocks.{says-macroblock, both_axes}
 use Rattle.picture_laws.proofs.Groups.{higher, says-gspares, gspares-state, says-sent, IsAtGroup, stuffed_behind}
 use Rattle.picture_laws.proofs.Pictures.{Rising}
 use Rattle.picture_laws.proofs.ReadBlocks.{IsRest, rest-after, rest-step, rest-more}

@@ -12,16 +12,17 @@ use Rattle.pel_model.specs.Text.{address_of, predictor, coded_block_pattern}
 use Rattle.pel_model.specs.Valid.{IsQuantiser, MquantFits, side, corner, StaysWithin, ComponentFits, IsIntraBlock, IsCodedBlock, BlocksFit, IsValidMacroblock}
 use Rattle.pel_model.specs.Walk.{after}
 use Rattle.pel_model.specs.Grammar.{Element, Mba, Mtype, Mquant, Mvd, Cbp, AtMtype, AtMquant, AtMvd, AtCbp, slot, kind, blocks, group, address, vector, block_slot, cbp_slot, vector_slot, ones, moved, in_range, stays_within}
+use Rattle.picture_laws.specs.SoFar.{IsBehind, IsLast}
 use Rattle.picture_laws.specs.Elements.{mquant_elements, pair_in, mvd_element, vector_elements, cbp_elements, blocks_elements, macroblock_elements}
 use Rattle.picture_laws.proofs.Rows.{Among}
 use Rattle.picture_laws.proofs.Slots.{IsStep, IsPattern}
 use Rattle.picture_laws.proofs.Words.{number-fits, length-field}
 use Rattle.picture_laws.proofs.Chains.{Stands}
-use Rattle.picture_laws.proofs.Vectors.{IsLast, predictor-small, range-in, stays-back, pair-back}
+use Rattle.picture_laws.proofs.Vectors.{predictor-small, range-in, stays-back, pair-back}
 use Rattle.picture_laws.proofs.Patterns.{trues, ones-trues, trues-some, sent-trues, intra-blocks, coded-blocks, none-blocks, sent-any, not-both}
 use Rattle.picture_laws.proofs.Basics.{not_equal, not_false}
 use Rattle.picture_laws.proofs.Blocks.{one_passed, two_passed, sent, AreBlocksOf}
-use Rattle.picture_laws.proofs.Macroblocks.{quantiser_says, says-vector, IsAtVector, IsBehindVector, IsBehind, headed, at-vector, mquant-blocks, vector-blocks}
+use Rattle.picture_laws.proofs.Macroblocks.{quantiser_says, says-vector, IsAtVector, IsBehindVector, headed, at-vector, mquant-blocks, vector-blocks}
 use Rattle.picture_laws.proofs.ReadBlocks.{IsRest, rest-after, rest-step, rest-more, ReadsBlocks, read-blocks}
 use Rattle.vlc_codes.proofs.WordLaws.{either_way, if-true, if-false}
 

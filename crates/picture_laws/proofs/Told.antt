@@ -13,9 +13,10 @@ use Rattle.pel_model.specs.Valid.{IsQuantiser, ComponentFits, IsIntraBlock, IsCo
 use Rattle.pel_model.specs.Spelling.{GroupForm, LeftOut, Sent, Form, GroupsFit}
 use Rattle.pel_model.specs.Grammar.{Element, Psc, Tr, Ptype, Pei, Pspare, Gbsc, Gn, Gquant, Gei, Gspare, Stuffing, Mba, Mtype, Mquant, Mvd, Cbp, Dc, Tcoeff, Eob, moved}
 use Rattle.pel_model.specs.Elements.{block_elements}
+use Rattle.picture_laws.specs.SoFar.{IsLast}
 use Rattle.picture_laws.specs.Elements.{blocks_elements, mquant_elements, pair_in, mvd_element, vector_elements, cbp_elements, macroblock_elements, macroblocks_elements, spare_elements, group_elements, groups_elements, elements, Tells}
 use Rattle.picture_laws.proofs.Words.{field-number}
-use Rattle.picture_laws.proofs.Vectors.{IsLast, pair-of, predictor-small}
+use Rattle.picture_laws.proofs.Vectors.{pair-of, predictor-small}
 use Rattle.picture_laws.proofs.Blocks.{all-head, all-tail}
 use Rattle.picture_laws.proofs.Macroblocks.{component_small, both_axes}
 use Rattle.picture_laws.proofs.ReadMacroblocks.{predictor_same, begun_macroblock, join3}

@@ -10,6 +10,7 @@ use Rattle.pel_model.specs.Text.{word_of, address_of, predictor, starts_anew}
 use Rattle.pel_model.specs.Valid.{StaysWithin}
 use Rattle.pel_model.specs.Grammar as grammar
 use Rattle.pel_model.specs.Grammar.{Mvd, AtMvd, in_range, moved, stays_within}
+use Rattle.picture_laws.specs.SoFar.{IsLast, last_component}
 use Rattle.picture_laws.specs.Elements.{pair_in}
 use Rattle.picture_laws.proofs.Rows.{Among, among-all, among-left, among-right, among-mapped}
 use Rattle.picture_laws.proofs.Slots.{word_at, same_pair, same_bits-true, mvd_words}
@@ -111,15 +112,6 @@ stays-back side first (pos n) h = leb-true (first + n + 16) side h
 stays-back side first (negsuc n) h = leb-true (n + 1) first h
 
 -- ---- predictors
-
-abbrev pub last_component : Axis → Option Macroblock → ℤ
-last_component axis None = pos 0
-last_component axis (Some m) = component axis m
-
--- the macroblock before is there, and has no vector where its kind has none
-abbrev pub IsLast : Option Macroblock → Type 0
-IsLast None = Unit {0}
-IsLast (Some m) = (0 < m.address) × ((axis : Axis) → nat_abs (component axis m) ≤ 15) × ((axis : Axis) → has_vector m.kind ≡ false → component axis m ≡ pos 0)
 
 same_either : (b : Bool) (z : ℤ) → z ≡ pos 0 → cond b (pos 0) z ≡ pos 0
 same_either true z h = refl
