@@ -4,6 +4,7 @@ use Rattle.std.specs.List.{list_any, list_all, find}
 use Rattle.std.proofs.lemmas.Bool.{ltb-true, ltb-false}
 use Rattle.std.proofs.lemmas.List.{length-take-le}
 use Rattle.pel_model.specs.declared.Format.{Format}
+use Rattle.pel_model.specs.declared.Format.TheVariants.{Qcif, Cif}
 use Rattle.pel_model.specs.declared.Why.{Why}
 use Rattle.pel_model.specs.declared.Why.TheVariants.{Cut, NoCode, TooLong}
 use Rattle.pel_model.specs.Bits.{number}
@@ -13,7 +14,7 @@ use Rattle.pel_model.specs.Valid.{limit}
 use Rattle.pel_model.specs.Accepts.{Accepts}
 use Rattle.pel_model.specs.Walk.{Step, Good, Stop, Bad, Row, skipped, start, after, Goes, Reads, FirstFault, read, word_at, whole_word, judged}
 use Rattle.pel_model.specs.Grammar.{Element, Slot, AtPsc, AtTr, AtPtype, AtPei, AtPspare, AtGroup, AtGn, AtGquant, AtGei, AtGspare, AtMacroblock, AtMtype, AtMquant, AtMvd, AtCbp, AtDc, AtFirst, AtCoefficient, slot, rows, faults, first_why, may_end, is_end, or_no_start, at_slot, next, picture, counted}
-use Rattle.picture_laws.specs.Laws.{KeptLength}
+use Rattle.picture_laws.specs.Laws.{KeptLength, kept_length}
 use Rattle.picture_laws.proofs.Basics.{not_less, some_same}
 use Rattle.picture_laws.proofs.Rows.{codes_of}
 use Rattle.picture_laws.proofs.Cuts.{drop-take}
@@ -212,10 +213,15 @@ same_record format bits others pic moves accepted =
     let w = walk-record format others read_.0 (moves read_.0 read_.1) in
     subst (λ p. Accepts format others p) (told-one format read_.0 w.0 pic w.1 w.2.1.valid read_.2 accepted.1.valid) w.2
 
+kept_is : (format : Format) → limit format + 64 ≡ kept_length format
+kept_is Qcif = refl
+kept_is Cif = refl
+
 pub kept-length : KeptLength
-kept-length format bits = (
-  λ pic accepted. same_record format bits (take (limit format + 64) bits) pic (keep_reads format bits) accepted,
-  λ pic accepted. same_record format (take (limit format + 64) bits) bits pic (unkeep_reads format bits) accepted,
-  keep_fault format bits,
-  unkeep_fault format bits,
-)
+kept-length format bits =
+    let is : take (limit format + 64) bits ≡ take (kept_length format) bits = ap (λ k. take k bits) (kept_is format) in (
+      λ pic accepted. subst (λ t. Accepts format t pic) is (same_record format bits (take (limit format + 64) bits) pic (keep_reads format bits) accepted),
+      λ pic accepted. same_record format (take (limit format + 64) bits) bits pic (unkeep_reads format bits) (subst (λ t. Accepts format t pic) (sym is) accepted),
+      λ place why fault. subst (λ t. FirstFault (picture format) t place why) is (keep_fault format bits place why fault),
+      λ place why fault. unkeep_fault format bits place why (subst (λ t. FirstFault (picture format) t place why) (sym is) fault),
+    )

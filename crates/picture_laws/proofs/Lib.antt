@@ -4,6 +4,7 @@ pub mod Blocks
 pub mod Chains
 pub mod Cuts
 pub mod Groups
+pub mod Joins
 pub mod Kept
 pub mod Limits
 pub mod Longs

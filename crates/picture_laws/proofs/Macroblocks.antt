@@ -15,7 +15,7 @@ use Rattle.pel_model.specs.Walk.{after}
 use Rattle.pel_model.specs.Grammar as grammar
 use Rattle.pel_model.specs.Grammar.{Element, Mba, Mtype, Mquant, Mvd, Cbp, Slot, AtMacroblock, AtMtype, AtMquant, AtMvd, AtCbp, slot, kind, blocks, group, address, vector, faults, first_why, block_slot, cbp_slot, vector_slot, ones, moved, in_range, stays_within}
 use Rattle.pel_model.proofs.Walks.{after-append}
-use Rattle.picture_laws.specs.SoFar.{IsBehind, IsLast, last_component}
+use Rattle.picture_laws.specs.SoFar.{IsBehind, IsLast}
 use Rattle.picture_laws.specs.Elements.{mquant_elements, pair_in, mvd_element, vector_elements, cbp_elements, blocks_elements, macroblock_elements}
 use Rattle.picture_laws.proofs.Slots.{word_at, Takes}
 use Rattle.picture_laws.proofs.Words.{number_below}

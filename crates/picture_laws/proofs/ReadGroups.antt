@@ -192,7 +192,7 @@ group_built format es number quant left is ok s r = record {
   next = r.next;
 }
 
-behind_header : (format : Format) (number quant : ℕ) (before : List Element) (spares : List ℕ) → IsBehind number None (after (Gquant quant ∷ Gn number ∷ Gbsc ∷ before) (spare_elements Gei Gspare spares))
+pub behind_header : (format : Format) (number quant : ℕ) (before : List Element) (spares : List ℕ) → IsBehind number None (after (Gquant quant ∷ Gn number ∷ Gbsc ∷ before) (spare_elements Gei Gspare spares))
 behind_header format number quant before spares =
     let s = says-gspares format (Gquant quant ∷ Gn number ∷ Gbsc ∷ before) spares refl in
     let same = gspares-state (Gquant quant ∷ Gn number ∷ Gbsc ∷ before) spares in

@@ -51,7 +51,7 @@ type_is : (format : Format) (p : ℕ) → p < 64 → not (names_format format p)
 type_is format p small named moving =
     sym (eqb-true (number (type_text format (free_of p))) p (or_either (not (names_format format p)) (p / 2 % 2 == 0) (number (type_text format (free_of p)) == p) (below_all (type_again format) 64 p (types_again format) small) named moving))
 
-record ReadsHeader (format : Format) (es : List Element) : Type 0 where
+pub record ReadsHeader (format : Format) (es : List Element) : Type 0 where
   pub free : FreeBits
   pub spares : List ℕ
   pub tr : ℕ
@@ -69,7 +69,7 @@ header_built format es left tr p fits type is s = record {
   fits = fits;
 }
 
-read_header : (format : Format) (es : List Element) → IsRest format [] es → ReadsHeader format es
+pub read_header : (format : Format) (es : List Element) → IsRest format [] es → ReadsHeader format es
 read_header format es r =
     let m0 = rest-more format [] es AtPsc refl refl r in
     let s0 = rest-step format [] m0.first Psc m0.rest m0.left m0.takes in
@@ -82,7 +82,7 @@ read_header format es r =
     header_built format es m2.rest m1.takes.0 m2.takes.0 m1.takes.1 (type_is format m2.takes.0 m2.takes.1 ok.0 ok.1)
     (m0.is ∙ (ap (λ x. x ∷ m0.rest) m0.takes ∙ ap (λ t. Psc ∷ t) (m1.is ∙ (ap (λ x. x ∷ m1.rest) m1.takes.2 ∙ ap (λ t. Tr m1.takes.0 ∷ t) (m2.is ∙ ap (λ x. x ∷ m2.rest) m2.takes.2))))) s
 
-header_slot : (format : Format) (free : FreeBits) (spares : List ℕ) (tr : ℕ) → tr < 32 → slot (after [] (header_elements format free spares tr)) ≡ AtGroup
+pub header_slot : (format : Format) (free : FreeBits) (spares : List ℕ) (tr : ℕ) → tr < 32 → slot (after [] (header_elements format free spares tr)) ≡ AtGroup
 header_slot format free spares tr fits = (says-pspares format (Ptype (number (type_text format free)) ∷ Tr tr ∷ Psc ∷ []) spares refl).1
 
 opening_at : (format : Format) (before es : List Element) → slot before ≡ AtGroup → IsRest format before es → IsOpening es

@@ -1,6 +1,7 @@
 -- The laws that join the two accounts of a coded picture: its record and texts, and its elements in their order.
 use Rattle.std.specs.Prelude.{◌≡◌, ℕ, ◌+◌, ◌-◌, ◌*◌, ◌<◌, ◌≤◌, Bool, true, false, List, [], ◌∷◌, ◌++◌, length, take, drop, ◌⊎◌}
 use Rattle.pel_model.specs.declared.Format.{Format}
+use Rattle.pel_model.specs.declared.Format.TheVariants.{Qcif, Cif}
 use Rattle.pel_model.specs.declared.Why.{Why}
 use Rattle.pel_model.specs.declared.Why.TheVariants.{Cut, TooLong}
 use Rattle.pel_model.specs.Records.{Picture}
@@ -117,7 +118,8 @@ PastTheLimit =
 
 -- bits behind the first 65,600 or 262,208 change neither the record nor the first fault
 abbrev pub kept_length : Format → ℕ
-kept_length format = limit format + 64
+kept_length Qcif = 65600
+kept_length Cif = 262208
 
 abbrev pub KeptLength : Type 0
 KeptLength =

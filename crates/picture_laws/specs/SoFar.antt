@@ -1,12 +1,14 @@
 -- A picture as far as its elements were read: what a reader that goes from left to right knows of its record.
-use Rattle.std.specs.Prelude.{◌≡◌, ℕ, ◌+◌, ◌<◌, ◌≤◌, Bool, true, false, ℤ, pos, nat_abs, List, [], ◌∷◌, ◌++◌, length, get_or, Option, Some, None}
+use Rattle.std.specs.Prelude.{◌≡◌, ℕ, ◌<◌, ◌≤◌, Bool, false, ℤ, pos, nat_abs, List, [], ◌∷◌, ◌++◌, length, get_or, Option, Some, None}
 use Rattle.pel_model.specs.declared.Format.{Format}
 use Rattle.pel_model.specs.Codes.{has_vector}
 use Rattle.pel_model.specs.Records.{Axis, Macroblock, Group, Picture, component}
 use Rattle.pel_model.specs.Text.{address_of, macroblock_text, macroblocks_text}
-use Rattle.pel_model.specs.Valid.{IsQuantiser, IsValidMacroblock, IsValidGroup, IsValidSoFar, IsValid, group_numbers, group_count}
+use Rattle.pel_model.specs.Valid.{IsValidGroup, IsValidSoFar, IsValid, group_numbers, group_count}
 use Rattle.pel_model.specs.Spelling.{FreeBits, GroupForm, Sent, GroupsFit}
-use Rattle.pel_model.specs.Walk.{after, Goes}
+use Rattle.pel_model.specs.Accepts.{Accepts}
+use Rattle.pel_model.specs.Walk.{after, Goes, Reads}
+use Rattle.pel_model.specs.Grammar as grammar
 use Rattle.pel_model.specs.Grammar.{Element, Psc, Tr, Ptype, Gbsc, Gn, Gquant, Stuffing, Mba, slot, AtGroup, AtMacroblock, group, address, vector, next}
 use Rattle.picture_laws.specs.Elements.{macroblock_elements, group_elements, groups_elements, header_elements, Tells}
 
@@ -134,3 +136,10 @@ PictureIsTold =
     (format : Format) (picture : Picture) (es : List Element)
     → IsPictureSoFar format picture es → length picture.groups ≡ group_count format
     → IsValid format picture × Tells format es picture
+
+-- and the elements end lawfully: the bits are accepted with this picture
+abbrev pub PictureIsAccepted : Type 0
+PictureIsAccepted =
+    (format : Format) (picture : Picture) (bits : List Bool) (es : List Element)
+    → IsPictureSoFar format picture es → length picture.groups ≡ group_count format
+    → Reads (grammar.picture format) bits es → Accepts format bits picture

@@ -3,6 +3,7 @@
 #![tactic(auto)]
 
 ghost use Rattle.picture_laws.specs.Laws.{TextIsAccepted, AcceptedIsRead, WalkHasRecord, HasRecordOrFault, NeverBoth, OneRecord, OneFault, GoodOverFirst, GoodOverAll, JudgedByTheLimit, WithinTheLimit, PastTheLimit, KeptLength};
+ghost use Rattle.picture_laws.specs.SoFar.{GroupBegins, StuffingJoins, MacroblockJoins, HeaderBegins, GroupIsLeftOut, GroupIsSent, PictureIsTold, PictureIsAccepted};
 
 /// The strict text of a valid picture within the limit is accepted with that picture.
 pub fn text_is_accepted()
@@ -41,4 +42,21 @@ pub fn limit_is_read_by_a_cut()
 /// bits are accepted nor the first fault.
 pub fn kept_length()
     ensures { KeptLength }
+{}
+
+/// A group as far as it was read: its header, then stuffing and macroblocks one by one, each with its text.
+pub fn group_so_far()
+    ensures begins { GroupBegins }
+    ensures stuffing { StuffingJoins }
+    ensures macroblock { MacroblockJoins }
+{}
+
+/// A picture as far as it was read: its header, then groups that are left out or were read; when it has all its groups
+/// and the bits end lawfully, they are accepted with it.
+pub fn picture_so_far()
+    ensures begins { HeaderBegins }
+    ensures left_out { GroupIsLeftOut }
+    ensures sent { GroupIsSent }
+    ensures told { PictureIsTold }
+    ensures accepted { PictureIsAccepted }
 {}
