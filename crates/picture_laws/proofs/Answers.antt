@@ -4,16 +4,16 @@ use Rattle.std.proofs.lemmas.List.{length-append}
 use Rattle.pel_model.specs.declared.Format.{Format}
 use Rattle.pel_model.specs.declared.Why.{Why}
 use Rattle.pel_model.specs.Walk.{Step, Good, Stop, Bad, skipped, start, after, Goes}
-use Rattle.pel_model.specs.Grammar.{Element, slot, picture}
+use Rattle.pel_model.specs.Grammar.{Element, slot, picture, next}
 use Rattle.pel_model.proofs.Walks.{same_walk, one_answer, one_reading}
-use Rattle.picture_laws.specs.Laws.{HasRecordOrFault, NeverBoth, OneRecord, OneFault}
-use Rattle.picture_laws.specs.Elements.{Tells}
+use Rattle.picture_laws.specs.Laws.{HasRecordOrFault, NeverBoth, OneSpelling, OneRecord, OneFault}
+use Rattle.picture_laws.specs.Elements.{elements}
 use Rattle.picture_laws.proofs.Told.{told-one}
 use Rattle.picture_laws.proofs.Slots.{word_at}
 use Rattle.picture_laws.proofs.Chains.{next-is}
 use Rattle.picture_laws.proofs.Limits.{picture-next}
 use Rattle.picture_laws.proofs.Longs.{word-some}
-use Rattle.picture_laws.proofs.Pictures.{accepted-read}
+use Rattle.picture_laws.proofs.Pictures.{spelled-read, accepted-read}
 use Rattle.picture_laws.proofs.ReadPictures.{walk-record}
 
 pub never-both : NeverBoth
@@ -77,9 +77,12 @@ record-or-fault format bits =
     ]
 
 -- two pictures of the same bits are one
+pub one-spelling : OneSpelling
+one-spelling format bits p q a valid b valid' =
+    let x = spelled-read format bits a.0 p a.1 valid in
+    let y = spelled-read format bits b.0 q b.1 valid' in
+    let same : elements format a.0 p ≡ elements format b.0 q = one_reading (next format) bits (elements format a.0 p) (elements format b.0 q) (_, x.0, x.1) (_, y.0, y.1) in
+    told-one format (elements format b.0 q) p q (a.0, a.1.fits, sym same) valid (b.0, b.1.fits, refl) valid'
+
 pub one-record : OneRecord
-one-record format bits p q a b =
-    let x = accepted-read format bits p a in
-    let y = accepted-read format bits q b in
-    let same : x.0 ≡ y.0 = one_reading (picture format) bits x.0 y.0 x.1 y.1 in
-    told-one format y.0 p q (subst (λ es. Tells format es p) same x.2) a.1.valid y.2 b.1.valid
+one-record format bits p q a b = one-spelling format bits p q (a.0, a.1.spelling) a.1.valid (b.0, b.1.spelling) b.1.valid

@@ -10,11 +10,10 @@ use Rattle.pel_model.specs.Codes.{has_vector, has_cbp}
 use Rattle.pel_model.specs.Records.{Across, Down, Block, Coefficient, Macroblock, Group, Picture}
 use Rattle.pel_model.specs.Text.{coded_block_pattern}
 use Rattle.pel_model.specs.Valid.{group_numbers, limit, IsValid}
-use Rattle.pel_model.specs.Spelling.{FreeBits, GroupForm, LeftOut, Sent, Form, GroupsFit, type_text, header_text, sent_groups_text, sent_text}
+use Rattle.pel_model.specs.Spelling.{FreeBits, GroupForm, LeftOut, Sent, Form, GroupsFit, type_text, header_text, sent_groups_text, sent_text, IsSpelling}
 use Rattle.pel_model.specs.Accepts.{left_out}
-use Rattle.pel_model.specs.Walk.{Stop, start, after, judged}
+use Rattle.pel_model.specs.Walk.{Stop, start, after, Goes, judged, read}
 use Rattle.pel_model.specs.Grammar.{Element, Psc, Tr, Ptype, Pei, Pspare, Gbsc, Gei, Gspare, Stuffing, Cbp, Tcoeff, Eob, Slot, AtGroup, AtMacroblock, slot, begun, faults, first_why, is_group, may_end, is_end, or_no_start, rows, next}
-use Rattle.pel_model.specs.Walk.{read}
 use Rattle.pel_model.proofs.Walks.{after-append}
 use Rattle.pel_model.specs.Elements.{dc_elements, block_elements}
 use Rattle.picture_laws.specs.Elements.{blocks_elements, mquant_elements, mvd_element, vector_elements, cbp_elements, macroblock_elements, macroblocks_elements, spare_elements, group_elements, groups_elements, header_elements, elements}
@@ -222,24 +221,28 @@ IsEnding s = (s ≡ AtGroup) ⊎ (s ≡ AtMacroblock)
 pub may-end : (s : Slot) → IsEnding s → (may_end s ≡ true) × (due s ≡ 0)
 may-end s h = elim h [ inl g ↦ (ap may_end g, ap due g) | inr m ↦ (ap may_end m, ap due m) ]
 
+-- what spells a valid picture is read to its end, whatever its length
+pub spelled-read : (format : Format) (bits : List Bool) (form : Form) (p : Picture) → IsSpelling format form bits p → IsValid format p → Goes (next format) [] (start bits) (elements format form p) (replicate form.zeros false, 0 + length (sent_text format form p)) × (next format (after [] (elements format form p)) (replicate form.zeros false, 0 + length (sent_text format form p)) ≡ Stop) × (due (slot (after [] (elements format form p))) ≡ 0)
+spelled-read format bits form p spelling valid =
+    let says = says-picture format form p spelling.fits valid in
+    let end : List Bool × ℕ = (replicate form.zeros false, 0 + length (sent_text format form p)) in
+    let ending = may-end (slot (after [] (elements format form p))) says.1.1.at in
+    (walk-goes format [] (start bits) (elements format form p) end (record {
+       chain = says.0.chain;
+       bits = spelling.text ∙ ap (λ t. t ++ replicate form.zeros false) (sym says.0.text);
+       place = ap (λ t. 0 + length t) (sym says.0.text);
+     }),
+     stops format (after [] (elements format form p)) end ending.0 (end-of-zeros form.zeros spelling.zeros),
+     ending.1)
+
 pub accepted-read : AcceptedIsRead
 accepted-read format bits p accepted =
     let form : Form = accepted.0 in
     let spelling = accepted.1.spelling in
-    let valid = accepted.1.valid in
-    let says = says-picture format accepted.0 p spelling.fits valid in
-    let es : List Element = elements format accepted.0 p in
-    let zeros : List Bool = replicate accepted.0.zeros false in
+    let read_ = spelled-read format bits accepted.0 p spelling accepted.1.valid in
     let end : List Bool × ℕ = (replicate accepted.0.zeros false, 0 + length (sent_text format accepted.0 p)) in
-    let ending = may-end (slot (after [] (elements format accepted.0 p))) says.1.1.at in
-    let walk = walk-goes format [] (start bits) (elements format accepted.0 p) end (record {
-      chain = says.0.chain;
-      bits = spelling.text ∙ ap (λ t. t ++ replicate accepted.0.zeros false) (sym says.0.text);
-      place = ap (λ t. 0 + length t) (sym says.0.text);
-    }) in
     let begun_is = begun-picture format accepted.0 p spelling.fits in
-    let fits : claimed format (after [] (elements format accepted.0 p)) (0 + length (sent_text format accepted.0 p)) ≤ limit format = omega (arith, ending.1, begun_is, valid.whole, accepted.1.short) in (
-      elements format accepted.0 p,
-      (end, goes-picture format [] (start bits) (elements format accepted.0 p) end walk fits, picture-stops format (after [] (elements format accepted.0 p)) end (stops format (after [] (elements format accepted.0 p)) end ending.0 (end-of-zeros accepted.0.zeros spelling.zeros))),
-      (accepted.0, spelling.fits, refl),
-    )
+    let fits : claimed format (after [] (elements format accepted.0 p)) (0 + length (sent_text format accepted.0 p)) ≤ limit format = omega (arith, read_.2, begun_is, accepted.1.valid.whole, accepted.1.short) in
+    (elements format accepted.0 p,
+     (end, goes-picture format [] (start bits) (elements format accepted.0 p) end read_.0 fits, picture-stops format (after [] (elements format accepted.0 p)) end read_.1),
+     (accepted.0, spelling.fits, refl))

@@ -1,5 +1,5 @@
 -- Elements that may stand one behind another up to an end: those of a block are the elements of a valid block.
-use Rattle.std.proofs.Common.{◌≡◌, ℕ, ◌+◌, ◌-◌, ◌<◌, ◌≤◌, ◌==◌, ◌&&◌, ◌||◌, Bool, true, false, cond, List, [], ◌∷◌, ◌++◌, map, Option, Some, None, nat_lt, refl, sym, ◌∙◌, ap, subst, inl, inr, append_assoc, ℤ, All, sum_by, is_some, arith}
+use Rattle.std.proofs.Common.{suc, ◌≡◌, ℕ, ◌+◌, ◌-◌, ◌<◌, ◌≤◌, ◌==◌, ◌&&◌, ◌||◌, Bool, true, false, cond, List, [], ◌∷◌, ◌++◌, map, Option, Some, None, nat_lt, refl, sym, ◌∙◌, ap, subst, inl, inr, append_assoc, ℤ, All, sum_by, is_some, arith}
 use Rattle.std.proofs.lemmas.Bool.{false≢true, ltb-false}
 use Rattle.std.proofs.lemmas.List.Sums.{sum_by-cons}
 use Rattle.pel_model.specs.declared.Format.{Format}
@@ -101,33 +101,35 @@ good_dc n small ok =
     let some = not_equal n 0 both.0 in
     (omega (arith, some), omega (arith, small), not_equal n 128 both.1)
 
+intra_built : (before es left : List Element) (n : ℕ) → IsValidDc n → es ≡ Dc n ∷ left → ReadsCoefficients (Dc n ∷ before) left → ReadsBlock true es
+intra_built before es left n ok is c = record {
+  block = record { dc = Some n; coefficients = c.cs };
+  rest = c.rest;
+  is = is ∙ ap (λ t. Dc n ∷ t) (c.is ∙ end_joined c.cs c.rest);
+  valid = (ok, (c.valid, c.fits));
+}
+
+coded_built : (before es left : List Element) (c : Coefficient) → filled before ≡ 0 → IsSent c → (c.long && is_forbidden_level c.level) ≡ false → es ≡ Tcoeff c ∷ left → ReadsCoefficients (Tcoeff c ∷ before) left → ReadsBlock false es
+coded_built before es left c none sent ok is more =
+    let all = with_one before es left c sent ok is more in
+    record {
+      block = record { dc = None; coefficients = c ∷ more.cs };
+      rest = more.rest;
+      is = all.is ∙ end_joined (c ∷ more.cs) more.rest;
+      valid = (refl, omega arith, (all.valid, subst (λ k. k + sum_by (λ (c : Coefficient). c.run + 1) (c ∷ more.cs) ≤ 64) none all.fits));
+    }
+
 pub read-block : (format : Format) (before es : List Element) (intra : Bool) → slot before ≡ cond intra AtDc AtFirst → IsRest format before es → ReadsBlock intra es
 read-block format before es true at r =
     let m = rest-more format before es AtDc at refl r in
-    let n : ℕ = m.takes.0 in
     let s = rest-step format before m.first (Dc m.takes.0) m.rest m.left m.takes.2 in
     let ok : (m.takes.0 == 0 || m.takes.0 == 128) ≡ false = one_passed (m.takes.0 == 0 || m.takes.0 == 128) BadDc s.0.good in
-    let c = read-coefficients format (Dc m.takes.0 ∷ before) m.rest refl (omega arith) s.1 in
-    record {
-      block = record { dc = Some m.takes.0; coefficients = c.cs };
-      rest = c.rest;
-      is = m.is ∙ (ap (λ x. x ∷ m.rest) m.takes.2 ∙ ap (λ t. Dc m.takes.0 ∷ t) (c.is ∙ end_joined c.cs c.rest));
-      valid = (good_dc m.takes.0 m.takes.1 ok, (c.valid, c.fits));
-    }
+    intra_built before es m.rest m.takes.0 (good_dc m.takes.0 m.takes.1 ok) (m.is ∙ ap (λ x. x ∷ m.rest) m.takes.2) (read-coefficients format (Dc m.takes.0 ∷ before) m.rest refl (omega arith) s.1)
 read-block format before es false at r =
     let m = rest-more format before es AtFirst at refl r in
-    let c : Coefficient = m.takes.0 in
     let s = rest-step format before m.first (Tcoeff m.takes.0) m.rest m.left m.takes.2 in
     let ok = one_more format before m.takes.0 s.0 in
-    let more = read-coefficients format (Tcoeff m.takes.0 ∷ before) m.rest refl ok.1 s.1 in
-    let all = with_one before es m.rest m.takes.0 m.takes.1 ok.0 (m.is ∙ ap (λ x. x ∷ m.rest) m.takes.2) more in
-    let none : filled before ≡ 0 = first-filled before at in
-    record {
-      block = record { dc = None; coefficients = m.takes.0 ∷ more.cs };
-      rest = more.rest;
-      is = all.is ∙ end_joined (m.takes.0 ∷ more.cs) more.rest;
-      valid = (refl, omega arith, (all.valid, subst (λ k. k + sum_by (λ (c : Coefficient). c.run + 1) (m.takes.0 ∷ more.cs) ≤ 64) none all.fits));
-    }
+    coded_built before es m.rest m.takes.0 (first-filled before at) m.takes.1 ok.0 (m.is ∙ ap (λ x. x ∷ m.rest) m.takes.2) (read-coefficients format (Tcoeff m.takes.0 ∷ before) m.rest refl ok.1 s.1)
 
 -- ---- the blocks of a macroblock
 
@@ -138,23 +140,39 @@ pub record ReadsBlocks (intra : Bool) (flags : List Bool) (es : List Element) : 
   pub flags_are : map is_some bs ≡ flags
   pub valid : AreBlocksOf intra bs
 
-pub read-blocks : (format : Format) (before es : List Element) (flags : List Bool) → slot before ≡ block_slot (kind before) (trues flags) → blocks before ≡ trues flags → IsRest format before es → ReadsBlocks (is_intra (kind before)) flags es
-read-blocks format before es [] at count r = record { bs = []; rest = es; is = refl; flags_are = refl; valid = tt }
-read-blocks format before es (false ∷ flags) at count r =
-    let more = read-blocks format before es flags at count r in
-    record { bs = None ∷ more.bs; rest = more.rest; is = more.is; flags_are = ap (λ t. false ∷ t) more.flags_are; valid = more.valid }
-read-blocks format before es (true ∷ flags) at count r =
-    let one = read-block format before es (is_intra (kind before)) at r in
-    let left = rest-after format before es (block_elements one.block) one.rest r one.is in
-    let same : kind (after before (block_elements one.block)) ≡ kind before = ap (λ (s : MbKind × ℕ × ℕ × ℤ × ℤ). s.0) (block-state before one.block) in
-    let fewer : blocks before - 1 ≡ trues flags = omega (arith, count) in
-    let more = read-blocks format (after before (block_elements one.block)) one.rest flags
-    (block-slot before one.block ∙ (ap (block_slot (kind before)) fewer ∙ ap (λ k. block_slot k (trues flags)) (sym same)))
-    (block-blocks before one.block ∙ fewer) left in
+one_block : (intra : Bool) (flags : List Bool) (es : List Element) → (one : ReadsBlock intra es) → ReadsBlocks intra flags one.rest → ReadsBlocks intra (true ∷ flags) es
+one_block intra flags es one more = record {
+  bs = Some one.block ∷ more.bs;
+  rest = more.rest;
+  is = one.is ∙ (ap (λ t. block_elements one.block ++ t) more.is ∙ sym (append_assoc (block_elements one.block) (blocks_elements more.bs) more.rest));
+  flags_are = ap (λ t. true ∷ t) more.flags_are;
+  valid = (one.valid, more.valid);
+}
+
+no_block : (intra : Bool) (flags : List Bool) (es : List Element) → ReadsBlocks intra flags es → ReadsBlocks intra (false ∷ flags) es
+no_block intra flags es more = record { bs = None ∷ more.bs; rest = more.rest; is = more.is; flags_are = ap (λ t. false ∷ t) more.flags_are; valid = more.valid }
+
+-- a place where so many blocks are due
+record IsDue (kind_ : MbKind) (n : ℕ) (before : List Element) : Type 0 where
+  pub at : slot before ≡ block_slot kind_ n
+  pub kind_is : kind before ≡ kind_
+  pub count : blocks before ≡ n
+
+due_less : (k : MbKind) (n : ℕ) (before : List Element) (b : Block) → IsDue k (suc n) before → IsDue k n (after before (block_elements b))
+due_less k n before b due_ =
+    let fewer : blocks before - 1 ≡ n = omega (arith, due_.count) in
     record {
-      bs = Some one.block ∷ more.bs;
-      rest = more.rest;
-      is = one.is ∙ (ap (λ t. block_elements one.block ++ t) more.is ∙ sym (append_assoc (block_elements one.block) (blocks_elements more.bs) more.rest));
-      flags_are = ap (λ t. true ∷ t) more.flags_are;
-      valid = (one.valid, subst (λ k. AreBlocksOf (is_intra k) more.bs) same more.valid);
+      at = block-slot before b ∙ (ap (block_slot (kind before)) fewer ∙ ap (λ k. block_slot k n) due_.kind_is);
+      kind_is = ap (λ (s : MbKind × ℕ × ℕ × ℤ × ℤ). s.0) (block-state before b) ∙ due_.kind_is;
+      count = block-blocks before b ∙ fewer;
     }
+
+blocks_due : (format : Format) (before es : List Element) (k : MbKind) (flags : List Bool) → IsDue k (trues flags) before → IsRest format before es → ReadsBlocks (is_intra k) flags es
+blocks_due format before es k [] due_ r = record { bs = []; rest = es; is = refl; flags_are = refl; valid = tt }
+blocks_due format before es k (false ∷ flags) due_ r = no_block (is_intra k) flags es (blocks_due format before es k flags due_ r)
+blocks_due format before es k (true ∷ flags) due_ r =
+    let one = read-block format before es (is_intra k) due_.at r in
+    one_block (is_intra k) flags es one (blocks_due format (after before (block_elements one.block)) one.rest k flags (due_less k (trues flags) before one.block due_) (rest-after format before es (block_elements one.block) one.rest r one.is))
+
+pub read-blocks : (format : Format) (before es : List Element) (flags : List Bool) → slot before ≡ block_slot (kind before) (trues flags) → blocks before ≡ trues flags → IsRest format before es → ReadsBlocks (is_intra (kind before)) flags es
+read-blocks format before es flags at count r = blocks_due format before es (kind before) flags (record { at = at; kind_is = refl; count = count }) r

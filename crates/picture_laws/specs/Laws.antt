@@ -7,6 +7,7 @@ use Rattle.pel_model.specs.declared.Why.TheVariants.{Cut, TooLong}
 use Rattle.pel_model.specs.Records.{Picture}
 use Rattle.pel_model.specs.Text.{text}
 use Rattle.pel_model.specs.Valid.{IsValid, group_count, limit}
+use Rattle.pel_model.specs.Spelling.{Spells}
 use Rattle.pel_model.specs.Accepts.{Accepts}
 use Rattle.pel_model.specs.Walk.{Good, Stop, Bad, after, Goes, FirstFault, Reads}
 use Rattle.pel_model.specs.Grammar.{Element, slot, may_end, begun, counted, next, picture}
@@ -43,6 +44,11 @@ abbrev pub NeverBoth : Type 0
 NeverBoth =
     (format : Format) (bits : List Bool) (pic : Picture) (place : ℕ) (why : Why) → Accepts format bits pic
     → FirstFault (picture format) bits place why → ⊥
+
+-- bits spell one valid picture
+abbrev pub OneSpelling : Type 0
+OneSpelling =
+    (format : Format) (bits : List Bool) (p q : Picture) → Spells format bits p → IsValid format p → Spells format bits q → IsValid format q → p ≡ q
 
 -- one record
 abbrev pub OneRecord : Type 0

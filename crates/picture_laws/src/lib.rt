@@ -2,7 +2,7 @@
 //! function does nothing; its contract is the law, whose words stand in `specs/`.
 #![tactic(auto)]
 
-ghost use Rattle.picture_laws.specs.Laws.{TextIsAccepted, AcceptedIsRead, WalkHasRecord, HasRecordOrFault, NeverBoth, OneRecord, OneFault, GoodOverFirst, GoodOverAll, JudgedByTheLimit, WithinTheLimit, PastTheLimit, KeptLength};
+ghost use Rattle.picture_laws.specs.Laws.{TextIsAccepted, AcceptedIsRead, WalkHasRecord, HasRecordOrFault, NeverBoth, OneSpelling, OneRecord, OneFault, GoodOverFirst, GoodOverAll, JudgedByTheLimit, WithinTheLimit, PastTheLimit, KeptLength};
 ghost use Rattle.picture_laws.specs.SoFar.{GroupBegins, StuffingJoins, MacroblockJoins, HeaderBegins, GroupIsLeftOut, GroupIsSent, PictureIsTold, PictureIsAccepted};
 
 /// The strict text of a valid picture within the limit is accepted with that picture.
@@ -24,6 +24,7 @@ pub fn walk_has_a_record()
 pub fn one_record_or_one_fault()
     ensures either { HasRecordOrFault }
     ensures never_both { NeverBoth }
+    ensures one_spelling { OneSpelling }
     ensures one_record { OneRecord }
     ensures one_fault { OneFault }
 {}
