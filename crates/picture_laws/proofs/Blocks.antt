@@ -231,7 +231,6 @@ says-blocks format before [] at count valid = says-none format before
 says-blocks format before (None ∷ bs) at count valid = says-blocks format before bs at count valid
 says-blocks format before (Some b ∷ bs) at count valid =
     let one = says-block format before (is_intra (kind before)) b at valid.0 in
-    let next = after before (block_elements b) in
     let same : kind (after before (block_elements b)) ≡ kind before = ap (λ (s : MbKind × ℕ × ℕ × ℤ × ℤ). s.0) (block-state before b) in
     let left : blocks before - 1 ≡ sent bs = omega (arith, count) in
     let rest = says-blocks format (after before (block_elements b)) bs

@@ -171,8 +171,6 @@ pair_same a b p q = ap (λ (x : List Bool). (x, a.1)) p ∙ ap (λ (k : ℕ). (b
 pub walk-goes : (format : Format) (before : List Element) (r : List Bool × ℕ) (es : List Element) (end : List Bool × ℕ) → IsWalk format before r es end → Goes (next format) before r es end
 walk-goes format before r [] end w = pair_same end r (sym w.bits) (w.place ∙ omega arith)
 walk-goes format before r (e ∷ es) end w =
-    let word : List Bool = word_in before e in
-    let more : List Bool = words (e ∷ before) es ++ end.0 in
     let bits : r.0 ≡ word_in before e ++ (words (e ∷ before) es ++ end.0) = w.bits ∙ append_assoc (word_in before e) (words (e ∷ before) es) end.0 in (
       length (word_in before e),
       ap (λ (t : List Bool). next format before (t, r.1)) bits ∙ next-good format before e (words (e ∷ before) es ++ end.0) r.1 w.chain.0,

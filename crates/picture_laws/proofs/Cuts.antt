@@ -98,7 +98,6 @@ any_among test (y ∷ xs) x p h = elim p [
 -- bits that end inside a word of a row are cut
 cut_code : {E : Type 0} (rows : List (Row E)) (row : Row E) (k : ℕ) → is_prefix_free (codes_of rows) ≡ true → Among row rows → k < length row.code → read rows (take k row.code) ≡ Bad Cut
 cut_code rows row k free among short =
-    let v : List Bool = take k row.code in
     let none : find (λ other. begins other.code (take k row.code)) rows ≡ None = find_none (λ other. begins other.code (take k row.code)) rows (λ other in_. elim (either_way (begins other.code (take k row.code))) [
       | inl here ↦
           let front : begins other.code row.code ≡ true = ap (begins other.code) (sym (take-drop-append k row.code)) ∙ begins_more other.code (take k row.code) (drop k row.code) here in
@@ -117,7 +116,6 @@ cut_row rows row tail rest k free among long short = elim (either_way (nat_lt k 
       ap (read rows) (take_within row.code (tail ++ rest) k (omega (arith, few))) ∙ cut_code rows row k free among few
   | inr past ↦
       let most : length row.code ≤ k = ltb-false k (length row.code) past in
-      let t : List Bool = take (k - length row.code) (tail ++ rest) in
       let bits : take k (row.code ++ (tail ++ rest)) ≡ row.code ++ take (k - length row.code) (tail ++ rest) = take-past row.code (tail ++ rest) k most in
       let size : length (row.code ++ take (k - length row.code) (tail ++ rest)) < length row.code + row.tail = omega (arith, length-append row.code (take (k - length row.code) (tail ++ rest)), length-take (k - length row.code) (tail ++ rest), short, most) in
       ap (read rows) bits
@@ -195,7 +193,6 @@ one_within format before r e n k leaves no_ h fits =
 pub within-the-limit : WithinTheLimit
 within-the-limit format before r end [] k leaves inside goes within = goes
 within-the-limit format before r end (e ∷ es) k leaves inside goes within =
-    let n : ℕ = goes.0 in
     let w = goes-walk format (e ∷ before) (skipped goes.0 r) es end goes.2 in
     let one = one_within format before r e goes.0 k leaves inside.0 goes.1 (omega (arith, w.place, within)) in
     (goes.0, one.0, within-the-limit format (e ∷ before) (skipped goes.0 r) end es (k - goes.0) one.1 inside.1 goes.2 (omega (arith, w.place, within)))

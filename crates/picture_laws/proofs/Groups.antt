@@ -55,8 +55,6 @@ pub says-macroblocks : (format : Format) (number : ℕ) (last : Option Macrobloc
 unfolding stuffed_text
 says-macroblocks format number last before behind [] place rise valid = (says-none format before, record { at = place.at; group_is = place.group_is })
 says-macroblocks format number last before behind (m ∷ ms) place rise valid =
-    let b1 : List Element = after before (macroblock_elements last m) in
-    let stuffing : List Element = replicate (get_or behind 0 0) Stuffing in
     let one = says-macroblock format number last m before place rise.0 rise.1 (all-head (IsValidMacroblock format number) m ms valid) in
     let two = says-stuffing format number (Some m) (after before (macroblock_elements last m)) (get_or behind 0 0) one.1 in
     let rest = says-macroblocks format number (Some m) (after (after before (macroblock_elements last m)) (replicate (get_or behind 0 0) Stuffing)) (drop 1 behind) ms two.1 rise.2 (all-tail (IsValidMacroblock format number) m ms valid) in
@@ -124,7 +122,6 @@ four_parts a b c d e = sym (append_assoc a (b ++ (c ++ d)) e ∙ ap (λ t. a ++ 
 pub says-sent : (format : Format) (before : List Element) (low : ℕ) (g : Group) (spares : List ℕ) (stuffings : ℕ) (behind : List ℕ) → IsAtGroup low before → is_group format g.number ≡ true → low < g.number → IsValidGroup format g → Says format before (group_elements (Sent spares stuffings behind) g) (sent_group_text (Sent spares stuffings behind) g) × IsBehindGroup g.number (after before (group_elements (Sent spares stuffings behind) g))
 unfolding group_header_text
 says-sent format before low g spares stuffings behind place is rise valid =
-    let b3 : List Element = Gquant g.quant ∷ Gn g.number ∷ Gbsc ∷ before in
     let gn_good : (is_group format g.number && nat_lt (group before) g.number) ≡ true = ap (λ b. b && nat_lt (group before) g.number) is ∙ lt-ltb (group before) g.number (omega (arith, place.group_is, rise)) in
     let gbsc_ : Stands format before Gbsc = record { takes = takes_gbsc (slot before) place.at; good = refl } in
     let gn_ : Stands format (Gbsc ∷ before) (Gn g.number) = record { takes = (g.number, group_small format g.number is, refl); good = one_pass (not (is_group format g.number && nat_lt (group before) g.number)) BadGroup (ap not gn_good) } in
@@ -143,7 +140,6 @@ says-sent format before low g spares stuffings behind place is rise valid =
     let e : after before (group_elements (Sent spares stuffings behind) g) ≡ after (after (after (Gquant g.quant ∷ Gn g.number ∷ Gbsc ∷ before) (spare_elements Gei Gspare spares)) (replicate stuffings Stuffing)) (macroblocks_elements None behind g.macroblocks) =
     after-append (Gquant g.quant ∷ Gn g.number ∷ Gbsc ∷ before) (spare_elements Gei Gspare spares) (replicate stuffings Stuffing ++ macroblocks_elements None behind g.macroblocks)
     ∙ after-append (after (Gquant g.quant ∷ Gn g.number ∷ Gbsc ∷ before) (spare_elements Gei Gspare spares)) (replicate stuffings Stuffing) (macroblocks_elements None behind g.macroblocks) in
-    let tail : List Bool = stuffing_text stuffings ++ stuffed_text None behind g.macroblocks in
     let parts = says-append format (Gquant g.quant ∷ Gn g.number ∷ Gbsc ∷ before) (spare_elements Gei Gspare spares) _ (spare_text spares) _ s.0 (says-append format _ (replicate stuffings Stuffing) _ (stuffing_text stuffings) _ t.0 ms.0) in
     let header = says-cons format before Gbsc _ gbsc _ gbsc_ refl (says-cons format (Gbsc ∷ before) (Gn g.number) _ (field g.number 4) _ gn_ refl (says-cons format (Gn g.number ∷ Gbsc ∷ before) (Gquant g.quant) _ (field g.quant 5) _ gquant_ refl parts)) in (
       says-text format before (group_elements (Sent spares stuffings behind) g) _ _ (four_parts gbsc (field g.number 4) (field g.quant 5) (spare_text spares) (stuffing_text stuffings ++ stuffed_text None behind g.macroblocks)) header,
@@ -166,7 +162,6 @@ says-groups format before low (LeftOut ∷ forms) (g ∷ gs) place fit rise vali
     says-groups format before g.number forms gs (higher low g.number before (omega (arith, rise.1)) place) fit.1 rise.2 (all-tail (IsValidGroup format) g gs valid)
 says-groups format before low (Sent spares stuffings behind ∷ forms) (g ∷ gs) place fit rise valid =
     let one = says-sent format before low g spares stuffings behind place rise.0 rise.1 (all-head (IsValidGroup format) g gs valid) in
-    let es : List Element = group_elements (Sent spares stuffings behind) g in
     let next : IsAtGroup g.number (after before (group_elements (Sent spares stuffings behind) g)) = record { at = inr one.1.at; group_is = omega (arith, one.1.group_is) } in
     let rest = says-groups format (after before (group_elements (Sent spares stuffings behind) g)) g.number forms gs next fit.1 rise.2 (all-tail (IsValidGroup format) g gs valid) in (
       says-append format before (group_elements (Sent spares stuffings behind) g) (groups_elements forms gs) (sent_group_text (Sent spares stuffings behind) g) (sent_groups_text forms gs) one.0 rest.0,

@@ -217,7 +217,6 @@ joined format before number quant ms es more r end g goes m none =
 
 pub macroblock-joins : MacroblockJoins
 macroblock-joins format before number quant ms es r end n more g goes inside at =
-    let last : Option Macroblock = last_of None ms in
     let all = rest_of format (after before es) r end (Mba n ∷ more) goes (ap may_end at) in
     let t : Takes AtMacroblock (Mba n) = subst (λ s. Takes s (Mba n)) g.place.at all.chain.0.takes in
     let s = rest-step format (after before es) (Mba n) (Mba n) more all refl in
@@ -271,7 +270,6 @@ one_more_group format picture es more f g p few number ok fit is = record {
 
 pub group-left-out : GroupIsLeftOut
 group-left-out format picture es p few =
-    let n : ℕ = next_number format picture in
     let ok : IsValidGroup format (group_of (next_number format picture) 1 []) = record { quant = (omega arith, omega arith); addresses = tt; macroblocks = all-nil (IsValidMacroblock format (next_number format picture)) } in
     subst (λ t. IsPictureSoFar format (with_group picture (group_of (next_number format picture) 1 [])) t) (append-nil es) (one_more_group format picture es [] LeftOut (group_of (next_number format picture) 1 []) p few refl ok (refl, refl) refl)
 

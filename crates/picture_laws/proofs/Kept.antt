@@ -74,7 +74,6 @@ rows_short AtCoefficient = refl
 
 same_whole : {E : Type 0} (row : Row E) (bits : List Bool) (k : ℕ) → length row.code + row.tail < 32 → 32 ≤ k → k < length bits → whole_word row (take k bits) ≡ whole_word row bits
 same_whole row bits k short most long =
-    let m : ℕ = length row.code + row.tail in
     let few : nat_lt (length (take k bits)) (length row.code + row.tail) ≡ false = not_less (length (take k bits)) (length row.code + row.tail) (omega (arith, length-take-le k bits (omega (arith, long)), short, most)) in
     let few2 : nat_lt (length bits) (length row.code + row.tail) ≡ false = not_less (length bits) (length row.code + row.tail) (omega (arith, short, most, long)) in
     let tail : take row.tail (drop (length row.code) (take k bits)) ≡ take row.tail (drop (length row.code) bits) =

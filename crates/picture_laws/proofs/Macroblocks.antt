@@ -78,9 +78,7 @@ IsFit format number axis m = (nat_abs (component axis m) ≤ 15) × StaysWithin 
 
 stands_mvd : (format : Format) (before : List Element) (number : ℕ) (axis : Axis) (last : Option Macroblock) (m : Macroblock) → IsLast last → slot before ≡ AtMvd axis → group before ≡ number → address before ≡ m.address → vector axis before ≡ predictor axis last m → IsFit format number axis m → Stands format before (mvd_element axis last m) × (word_in before (mvd_element axis last m) ≡ mvd_word axis last m) × (moved (vector axis before) (pair_in (component axis m -ℤ predictor axis last m) mvd_table) ≡ component axis m)
 stands_mvd format before number axis last m is at group_is address_is vector_is fit =
-    let c : ℤ = component axis m in
     let p : ℤ = predictor axis last m in
-    let v : ℤ × ℤ = pair_in (component axis m -ℤ predictor axis last m) mvd_table in
     let pair = pair-of axis (predictor axis last m) (component axis m) (predictor-small axis last m is) fit.0 in
     let gives : moved (vector axis before) (pair_in (component axis m -ℤ predictor axis last m) mvd_table) ≡ component axis m = ap (λ p. moved p (pair_in (component axis m -ℤ predictor axis last m) mvd_table)) vector_is ∙ pair.gives in
     let inside : in_range (moved (vector axis before) (pair_in (component axis m -ℤ predictor axis last m) mvd_table)) ≡ true = ap in_range gives ∙ in-range (component axis m) fit.0 in
@@ -176,7 +174,6 @@ says_blocks_alone format before number m place none count six fit = elim (either
 pub says-rest : (format : Format) (before : List Element) (number : ℕ) (m : Macroblock) → IsBehindVector number m before → blocks before ≡ cond (is_intra m.kind) 6 0 → length m.blocks ≡ 6 → BlocksFit m.kind m.blocks → Says format before (cbp_elements m ++ blocks_elements m.blocks) (cbp_text m ++ flat_map sent_block_text m.blocks) × IsDone number m (after before (cbp_elements m ++ blocks_elements m.blocks))
 says-rest format before number m place count six fit = elim (either_way (has_cbp m.kind)) [
   | inl has ↦
-      let c : ℕ = coded_block_pattern m.blocks in
       let inter : is_intra m.kind ≡ false = not-both m.kind has in
       let rest = subst (λ b. MatchBool b (All (λ b. IsSomeAnd b IsIntraBlock) m.blocks) (MatchBool (has_cbp m.kind) (Any IsSome m.blocks × All (λ b. IfSome b IsCodedBlock) m.blocks) (All IsNone m.blocks))) inter fit in
       let coded = subst (λ b. MatchBool b (Any IsSome m.blocks × All (λ b. IfSome b IsCodedBlock) m.blocks) (All IsNone m.blocks)) has rest in
@@ -282,8 +279,6 @@ stands-mba format number last m before place rise most = record {
 pub says-macroblock : (format : Format) (number : ℕ) (last : Option Macroblock) (m : Macroblock) (before : List Element) → IsBehind number last before → address_of last < m.address → m.address ≤ 33 → IsValidMacroblock format number m → Says format before (macroblock_elements last m) (macroblock_text last m) × IsBehind number (Some m) (after before (macroblock_elements last m))
 unfolding macroblock_text
 says-macroblock format number last m before place rise most valid =
-    let head : List Element = headed before last m in
-    let b1 : List Element = after (headed before last m) (mquant_elements m.mquant) in
     let q = quantiser_says format (headed before last m) (has_mquant m.kind) m.kind m.mquant refl refl valid.mquant in
     let v_at = at-vector number last m before place rise q.1 in
     let v = says-vector format (after (headed before last m) (mquant_elements m.mquant)) number last m place.last_is v_at valid.across valid.down in

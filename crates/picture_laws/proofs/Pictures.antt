@@ -93,7 +93,6 @@ type_long Cif free = refl
 pub says-header : (format : Format) (free : FreeBits) (spares : List ℕ) (tr : ℕ) → tr < 32 → Says format [] (header_elements format free spares tr) (header_text format free spares tr) × IsAtGroup 0 (after [] (header_elements format free spares tr))
 unfolding header_text
 says-header format free spares tr fits =
-    let p : ℕ = number (type_text format free) in
     let long = type_long format free in
     let small : number (type_text format free) < 64 = subst (λ k. number (type_text format free) < 2 ^ k) long (number_below (type_text format free)) in
     let again : field (number (type_text format free)) 6 ≡ type_text format free = ap (field (number (type_text format free))) (sym long) ∙ field-number (type_text format free) in
@@ -106,7 +105,6 @@ says-header format free spares tr fits =
 pub says-picture : (format : Format) (form : Form) (p : Picture) → GroupsFit form.groups p.groups → IsValid format p → Says format [] (elements format form p) (sent_text format form p) × ((high : ℕ) × IsAtGroup high (after [] (elements format form p)))
 says-picture format form p fit valid =
     let h = says-header format form.free form.spares p.tr valid.so_far.tr in
-    let head : List Element = header_elements format form.free form.spares p.tr in
     let g = says-groups format (after [] (header_elements format form.free form.spares p.tr)) 0 form.groups p.groups h.1 fit (valid-rise format p valid) valid.so_far.groups in (
       says-append format [] (header_elements format form.free form.spares p.tr) (groups_elements form.groups p.groups) (header_text format form.free form.spares p.tr) (sent_groups_text form.groups p.groups) h.0 g.0,
       (g.1.0, subst (λ b. IsAtGroup g.1.0 b) (sym (after-append [] (header_elements format form.free form.spares p.tr) (groups_elements form.groups p.groups))) g.1.1),
@@ -226,23 +224,24 @@ pub spelled-read : (format : Format) (bits : List Bool) (form : Form) (p : Pictu
 spelled-read format bits form p spelling valid =
     let says = says-picture format form p spelling.fits valid in
     let end : List Bool × ℕ = (replicate form.zeros false, 0 + length (sent_text format form p)) in
-    let ending = may-end (slot (after [] (elements format form p))) says.1.1.at in
-    (walk-goes format [] (start bits) (elements format form p) end (record {
-       chain = says.0.chain;
-       bits = spelling.text ∙ ap (λ t. t ++ replicate form.zeros false) (sym says.0.text);
-       place = ap (λ t. 0 + length t) (sym says.0.text);
-     }),
-     stops format (after [] (elements format form p)) end ending.0 (end-of-zeros form.zeros spelling.zeros),
-     ending.1)
+    let ending = may-end (slot (after [] (elements format form p))) says.1.1.at in (
+      walk-goes format [] (start bits) (elements format form p) end (record {
+        chain = says.0.chain;
+        bits = spelling.text ∙ ap (λ t. t ++ replicate form.zeros false) (sym says.0.text);
+        place = ap (λ t. 0 + length t) (sym says.0.text);
+      }),
+      stops format (after [] (elements format form p)) end ending.0 (end-of-zeros form.zeros spelling.zeros),
+      ending.1,
+    )
 
 pub accepted-read : AcceptedIsRead
 accepted-read format bits p accepted =
-    let form : Form = accepted.0 in
     let spelling = accepted.1.spelling in
     let read_ = spelled-read format bits accepted.0 p spelling accepted.1.valid in
     let end : List Bool × ℕ = (replicate accepted.0.zeros false, 0 + length (sent_text format accepted.0 p)) in
     let begun_is = begun-picture format accepted.0 p spelling.fits in
-    let fits : claimed format (after [] (elements format accepted.0 p)) (0 + length (sent_text format accepted.0 p)) ≤ limit format = omega (arith, read_.2, begun_is, accepted.1.valid.whole, accepted.1.short) in
-    (elements format accepted.0 p,
-     (end, goes-picture format [] (start bits) (elements format accepted.0 p) end read_.0 fits, picture-stops format (after [] (elements format accepted.0 p)) end read_.1),
-     (accepted.0, spelling.fits, refl))
+    let fits : claimed format (after [] (elements format accepted.0 p)) (0 + length (sent_text format accepted.0 p)) ≤ limit format = omega (arith, read_.2, begun_is, accepted.1.valid.whole, accepted.1.short) in (
+      elements format accepted.0 p,
+      (end, goes-picture format [] (start bits) (elements format accepted.0 p) end read_.0 fits, picture-stops format (after [] (elements format accepted.0 p)) end read_.1),
+      (accepted.0, spelling.fits, refl),
+    )

@@ -59,7 +59,6 @@ pub record ReadsComponent (format : Format) (number : ℕ) (axis : Axis) (last :
 
 read_component : (format : Format) (before es : List Element) (number : ℕ) (axis : Axis) (last : Option Macroblock) (m : Macroblock) → IsLast last → group before ≡ number → address before ≡ m.address → vector axis before ≡ predictor axis last m → (row : List Bool × (ℤ × ℤ)) → Among row mvd_table → Stands format before (Mvd axis row.1) → es ≡ es → (all : List Element) → all ≡ Mvd axis row.1 ∷ es → ReadsComponent format number axis last m all
 read_component format before es number axis last m is group_is address_is vector_is row among stands same all all_is =
-    let p : ℤ = predictor axis last m in
     let both = two_passed (not (in_range (moved (vector axis before) row.1))) (not (stays_within (side format axis) (corner axis (group before) (address before)) (moved (vector axis before) row.1))) BadVector VectorOutside stands.good in
     let inside : in_range (moved (predictor axis last m) row.1) ≡ true = ap (λ v. in_range (moved v row.1)) (sym vector_is) ∙ not_false (in_range (moved (vector axis before) row.1)) both.0 in
     let within : stays_within (side format axis) (corner axis number m.address) (moved (predictor axis last m) row.1) ≡ true =
@@ -93,10 +92,8 @@ pub record ReadsVector (format : Format) (number : ℕ) (last : Option Macrobloc
 
 vector_read : (format : Format) (number : ℕ) (last : Option Macroblock) (m : Macroblock) (es : List Element) → has_vector m.kind ≡ true → (a : ReadsComponent format number Across last m es) → (d : ReadsComponent format number Down last m a.rest) → ReadsVector format number last m es
 vector_read format number last m es has a d =
-    let n : Macroblock = with_vector m a.c d.c in
     let pa : predictor Across last m ≡ predictor Across last (with_vector m a.c d.c) = predictor_same Across last m (with_vector m a.c d.c) refl in
     let pd : predictor Down last m ≡ predictor Down last (with_vector m a.c d.c) = predictor_same Down last m (with_vector m a.c d.c) refl in
-    let two : List Element = mvd_element Across last (with_vector m a.c d.c) ∷ mvd_element Down last (with_vector m a.c d.c) ∷ [] in
     record {
       a = a.c;
       d = d.c;
@@ -183,13 +180,11 @@ read-rest format before es number m place count r = elim (either_way (has_cbp m.
   | inl has ↦
       let at : slot before ≡ AtCbp = place.at ∙ ap (λ b. cond b AtCbp (block_slot m.kind (cond (is_intra m.kind) 6 0))) has in
       let more = rest-more format before es AtCbp at refl r in
-      let c : ℕ = more.takes.0 in
       let s = rest-step format before more.first (Cbp more.takes.0) more.rest more.left more.takes.2 in
       let ones_are : ones more.takes.0 ≡ trues (field more.takes.0 6) = ap ones (sym (number-fits more.takes.0 6 (omega (arith, more.takes.1)))) ∙ ones-trues (field more.takes.0 6) (length-field more.takes.0 6) in
       let bs = read-blocks format (Cbp more.takes.0 ∷ before) more.rest (field more.takes.0 6) (ap (block_slot (kind before)) ones_are) ones_are s.1 in
       rest_coded m es more.rest more.takes.0 (is_intra (kind before)) has (ap is_intra place.kind_is ∙ not-both m.kind has) more.takes.1 (more.is ∙ ap (λ x. x ∷ more.rest) more.takes.2) bs
   | inr none ↦
-      let intra : Bool = is_intra (kind before) in
       let same : is_intra (kind before) ≡ is_intra m.kind = ap is_intra place.kind_is in
       let flags : trues (replicate 6 (is_intra (kind before))) ≡ cond (is_intra m.kind) 6 0 = all_flags (is_intra (kind before)) ∙ ap (λ b. cond b 6 0) same in
       let at : slot before ≡ block_slot (kind before) (trues (replicate 6 (is_intra (kind before)))) =
@@ -221,9 +216,6 @@ join3 a b c rest = sym (append_assoc a (b ++ c) rest ∙ ap (λ t. a ++ t) (appe
 
 built : (format : Format) (number : ℕ) (last : Option Macroblock) (es : List Element) (m : Macroblock) (left : List Element) → es ≡ Mba (m.address - address_of last) ∷ (Mtype m.kind ∷ (mquant_elements m.mquant ++ left)) → MquantFits m.kind m.mquant → address_of last < m.address → m.address ≤ 33 → (v : ReadsVector format number last m left) → (r : ReadsRest (with_vector m v.a v.d) v.rest) → ReadsMacroblock format number last es
 built format number last es m left is mquant rise most v r =
-    let n : Macroblock = with_blocks (with_vector m v.a v.d) r.bs in
-    let vec : List Element = vector_elements last (with_vector m v.a v.d) in
-    let tail : List Element = cbp_elements (with_blocks (with_vector m v.a v.d) r.bs) ++ blocks_elements r.bs in
     record {
       m = with_blocks (with_vector m v.a v.d) r.bs;
       rest = r.rest;
@@ -240,7 +232,6 @@ built format number last es m left is mquant rise most v r =
 -- behind the vector
 read_behind : (format : Format) (before all : List Element) (number : ℕ) (last : Option Macroblock) (m : Macroblock) (es : List Element) → IsBehind number last before → address_of last < m.address → m.address ≤ 33 → all ≡ Mba (m.address - address_of last) ∷ (Mtype m.kind ∷ (mquant_elements m.mquant ++ es)) → MquantFits m.kind m.mquant → IsRest format (after (headed before last m) (mquant_elements m.mquant)) es → slot (after (headed before last m) (mquant_elements m.mquant)) ≡ vector_slot m.kind → (v : ReadsVector format number last m es) → ReadsMacroblock format number last all
 read_behind format before all number last m es place rise most all_is mquant r at v =
-    let b1 : List Element = after (headed before last m) (mquant_elements m.mquant) in
     let place2 = at-vector number last (with_vector m v.a v.d) before place rise at in
     let says = says-vector format (after (headed before last m) (mquant_elements m.mquant)) number last (with_vector m v.a v.d) place.last_is place2 v.across v.down in
     let left = rest-after format (after (headed before last m) (mquant_elements m.mquant)) es (vector_elements last (with_vector m v.a v.d)) v.rest r v.is in
@@ -250,9 +241,6 @@ read_behind format before all number last m es place rise most all_is mquant r a
 -- behind MTYPE
 read_headed : (format : Format) (before es all : List Element) (number : ℕ) (last : Option Macroblock) (at : ℕ) (k : MbKind) → IsBehind number last before → address_of last < at → at ≤ 33 → all ≡ Mba (at - address_of last) ∷ (Mtype k ∷ es) → IsRest format (headed before last (begun_macroblock at k None)) es → (q : ReadsMquant (has_mquant k) es) → ReadsMacroblock format number last all
 read_headed format before es all number last at k place rise most all_is r q =
-    let m : Macroblock = begun_macroblock at k q.q in
-    let b0 : List Element = headed before last (begun_macroblock at k None) in
-    let b1 : List Element = after (headed before last (begun_macroblock at k None)) (mquant_elements q.q) in
     let left = rest-after format (headed before last (begun_macroblock at k None)) es (mquant_elements q.q) q.rest r q.is in
     let at_vector = (quantiser_says format (headed before last (begun_macroblock at k None)) (has_mquant k) k q.q refl refl q.valid).1 in
     let place1 = at-vector number last (begun_macroblock at k q.q) before place rise at_vector in
@@ -262,7 +250,6 @@ read_headed format before es all number last at k place rise most all_is r q =
 pub read-macroblock : (format : Format) (before es : List Element) (number : ℕ) (last : Option Macroblock) (n : ℕ) → IsBehind number last before → IsStep n → Stands format before (Mba n) → IsRest format (Mba n ∷ before) es → ReadsMacroblock format number last (Mba n ∷ es)
 read-macroblock format before es number last n place step_ stands r =
     let most : address before + n ≤ 33 = ltb-false 33 (address before + n) (one_passed (nat_lt 33 (address before + n)) BadAddress stands.good) in
-    let at : ℕ = address_of last + n in
     let d : n ≡ address_of last + n - address_of last = omega arith in
     let r2 : IsRest format (Mba (address_of last + n - address_of last) ∷ before) es = subst (λ k. IsRest format (Mba k ∷ before) es) d r in
     let more = rest-more format (Mba (address_of last + n - address_of last) ∷ before) es AtMtype refl refl r2 in

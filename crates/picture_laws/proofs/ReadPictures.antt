@@ -194,7 +194,6 @@ accepted_built format bits es end walk short ends p =
 
 pub walk-record : WalkHasRecord
 walk-record format bits es reads =
-    let end : List Bool × ℕ = reads.0 in
     let goes = goes-next format [] (start bits) es reads.0 reads.1 in
     let walk = goes-walk format [] (start bits) es reads.0 goes in
     let short = goes-within format [] (start bits) es reads.0 reads.1 (omega (arith, headers_fit format)) in

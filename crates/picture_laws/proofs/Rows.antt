@@ -98,8 +98,6 @@ good_parts x y n m h = (cc, cc)
 
 whole_read : {E : Type 0} (rows : List (Row E)) (row : Row E) (bits : List Bool) (e : E) (n : ℕ) → Among row rows → begins row.code bits ≡ true → whole_word row bits ≡ Good e n → IsRead rows bits e n
 whole_read rows row bits e n among front h =
-    let c : ℕ = length row.code in
-    let rest : List Bool = drop (length row.code) bits in
     elim (either_way (nat_lt (length bits) (length row.code + row.tail))) [
       | inl short ↦ absurd (bad_good (sym (if-true (nat_lt (length bits) (length row.code + row.tail)) (Bad Cut) (Good (row.make (number (take row.tail (drop (length row.code) bits)))) (length row.code + row.tail)) short) ∙ h))
       | inr fits ↦
@@ -161,7 +159,6 @@ find-row (first ∷ rows) row rest free h =
 
 pub read-row : {E : Type 0} (rows : List (Row E)) (row : Row E) (tail rest : List Bool) → is_prefix_free (codes_of rows) ≡ true → Among row rows → length tail ≡ row.tail → read rows (row.code ++ (tail ++ rest)) ≡ Good (row.make (number tail)) (length row.code + row.tail)
 read-row rows row tail rest free h long =
-    let bits = row.code ++ (tail ++ rest) in
     let behind : drop (length row.code) (row.code ++ (tail ++ rest)) ≡ tail ++ rest = drop-front row.code (tail ++ rest) (length row.code) refl in
     let front : take row.tail (drop (length row.code) (row.code ++ (tail ++ rest))) ≡ tail = ap (λ t. take row.tail t) behind ∙ take-front tail rest row.tail (sym long) in
     ap (word_at rows (row.code ++ (tail ++ rest))) (find-row rows row (tail ++ rest) free h)

@@ -89,7 +89,6 @@ unfolding told_vector
 vector_again format number last m rest is across down =
     let a = component_small format number Across m across in
     let d = component_small format number Down m down in
-    let es : List Element = mvd_element Across last m ∷ mvd_element Down last m ∷ [] in
     elim (either_way (has_vector m.kind)) [
       | inl has ↦
           let pa = pair-of Across (predictor Across last m) m.across (predictor-small Across last m is) a.0 in
@@ -171,7 +170,6 @@ unfolding told_body
 body_again format number last m rest is valid =
     let pa : predictor Across last (begun_macroblock m.address m.kind None) ≡ predictor Across last m = predictor_same Across last (begun_macroblock m.address m.kind None) m refl in
     let pd : predictor Down last (begun_macroblock m.address m.kind None) ≡ predictor Down last m = predictor_same Down last (begun_macroblock m.address m.kind None) m refl in
-    let left : List Element = cbp_elements m ++ (blocks_elements m.blocks ++ rest) in
     ap (behind_mquant last m.address m.kind) (mquant_again (has_mquant m.kind) m.mquant (vector_elements last m ++ (cbp_elements m ++ (blocks_elements m.blocks ++ rest))) valid.mquant)
     ∙ (ap (λ p. behind_vector m.address m.kind m.mquant (told_vector (has_vector m.kind) p (predictor Down last (begun_macroblock m.address m.kind None)) (vector_elements last m ++ (cbp_elements m ++ (blocks_elements m.blocks ++ rest))))) pa
     ∙ (ap (λ p. behind_vector m.address m.kind m.mquant (told_vector (has_vector m.kind) (predictor Across last m) p (vector_elements last m ++ (cbp_elements m ++ (blocks_elements m.blocks ++ rest))))) pd
@@ -195,7 +193,6 @@ macroblock_again format number last m rest is rise valid =
 told_macroblocks : ℕ → Option Macroblock → List Element → List Macroblock × List Element
 told_macroblocks zero last es = ([], es)
 told_macroblocks (suc fuel) last (Mba n ∷ es) =
-    let m = told_macroblock last (Mba n ∷ es) in
     ((told_macroblock last (Mba n ∷ es)).0 ∷ (told_macroblocks fuel (Some (told_macroblock last (Mba n ∷ es)).0) (told_macroblock last (Mba n ∷ es)).1).0, (told_macroblocks fuel (Some (told_macroblock last (Mba n ∷ es)).0) (told_macroblock last (Mba n ∷ es)).1).1)
 told_macroblocks (suc fuel) last (Stuffing ∷ es) = told_macroblocks fuel last es
 told_macroblocks (suc fuel) last es = ([], es)
@@ -226,8 +223,6 @@ macroblocks_again zero format number last (suc n) behind ms rest few is rise val
 macroblocks_again (suc fuel) format number last (suc n) behind ms rest few is rise valid opening = macroblocks_again fuel format number last n behind ms rest (omega (arith, few)) is rise valid opening
 macroblocks_again zero format number last zero behind (m ∷ ms) rest few is rise valid opening = absurd (omega (arith, few))
 macroblocks_again (suc fuel) format number last zero behind (m ∷ ms) rest few is rise valid opening =
-    let stuffing : List Element = replicate (get_or behind 0 0) Stuffing in
-    let more : List Element = replicate (get_or behind 0 0) Stuffing ++ (macroblocks_elements (Some m) (drop 1 behind) ms ++ rest) in
     let parts : macroblocks_elements last behind (m ∷ ms) ++ rest ≡ macroblock_elements last m ++ (replicate (get_or behind 0 0) Stuffing ++ (macroblocks_elements (Some m) (drop 1 behind) ms ++ rest)) =
     sym (join3 (macroblock_elements last m) (replicate (get_or behind 0 0) Stuffing) (macroblocks_elements (Some m) (drop 1 behind) ms) rest) in
     let one = macroblock_again format number last m (replicate (get_or behind 0 0) Stuffing ++ (macroblocks_elements (Some m) (drop 1 behind) ms ++ rest)) is rise.0 (all-head (IsValidMacroblock format number) m ms valid) in
@@ -306,12 +301,10 @@ left_again n ns _ b = absurd b
 sent_again : (format : Format) (g : Group) (spares : List ℕ) (stuffings : ℕ) (behind : List ℕ) (ns : List ℕ) (rest : List Element) → IsValidGroup format g → Opens rest → told_groups (g.number ∷ ns) (group_elements (Sent spares stuffings behind) g ++ rest) ≡ g ∷ told_groups ns rest
 unfolding told_groups
 sent_again format g spares stuffings behind ns rest valid opening =
-    let body_ : List Element = replicate stuffings Stuffing ++ (macroblocks_elements None behind g.macroblocks ++ rest) in
     let parts : (spare_elements Gei Gspare spares ++ (replicate stuffings Stuffing ++ macroblocks_elements None behind g.macroblocks)) ++ rest ≡ spare_elements Gei Gspare spares ++ (replicate stuffings Stuffing ++ (macroblocks_elements None behind g.macroblocks ++ rest)) =
     sym (join3 (spare_elements Gei Gspare spares) (replicate stuffings Stuffing) (macroblocks_elements None behind g.macroblocks) rest) in
     let past : past_gspares ((spare_elements Gei Gspare spares ++ (replicate stuffings Stuffing ++ macroblocks_elements None behind g.macroblocks)) ++ rest) ≡ replicate stuffings Stuffing ++ (macroblocks_elements None behind g.macroblocks ++ rest) = ap past_gspares parts ∙ gspares_again spares (replicate stuffings Stuffing ++ (macroblocks_elements None behind g.macroblocks ++ rest)) in
     let told = macroblocks_again (length (replicate stuffings Stuffing ++ (macroblocks_elements None behind g.macroblocks ++ rest))) format g.number None stuffings behind g.macroblocks rest (omega arith) tt valid.addresses valid.macroblocks opening in
-    let es : List Element = (spare_elements Gei Gspare spares ++ (replicate stuffings Stuffing ++ macroblocks_elements None behind g.macroblocks)) ++ rest in
     let sent_ : told_sent (past_gspares ((spare_elements Gei Gspare spares ++ (replicate stuffings Stuffing ++ macroblocks_elements None behind g.macroblocks)) ++ rest)) ≡ (g.macroblocks, rest) = ap told_sent past ∙ told in
     ap (λ c. cond c (record { number = g.number; quant = g.quant; macroblocks = (told_sent (past_gspares ((spare_elements Gei Gspare spares ++ (replicate stuffings Stuffing ++ macroblocks_elements None behind g.macroblocks)) ++ rest))).0 } ∷ told_groups ns (told_sent (past_gspares ((spare_elements Gei Gspare spares ++ (replicate stuffings Stuffing ++ macroblocks_elements None behind g.macroblocks)) ++ rest))).1) (empty g.number ∷ told_groups ns (Gbsc ∷ Gn g.number ∷ Gquant g.quant ∷ ((spare_elements Gei Gspare spares ++ (replicate stuffings Stuffing ++ macroblocks_elements None behind g.macroblocks)) ++ rest)))) (eq-eqb g.number g.number refl)
     ∙ ap (λ (r : List Macroblock × List Element). record { number = g.number; quant = g.quant; macroblocks = r.0 } ∷ told_groups ns r.1) sent_

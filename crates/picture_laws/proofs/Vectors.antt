@@ -88,7 +88,6 @@ pair-of axis p c small small' =
 pub pair-back : (p : ℤ) (row : List Bool × (ℤ × ℤ)) → nat_abs p ≤ 15 → Among row mvd_table → pair_in (moved p row.1 -ℤ p) mvd_table ≡ row.1
 pair-back p row small among =
     let all = among-all (comes_back p) row mvd_table (among-all (λ p. list_all (comes_back p) mvd_table) p components all_back (among-components p small)) among in
-    let v : ℤ × ℤ = pair_in (moved p row.1 -ℤ p) mvd_table in
     let a : (pair_in (moved p row.1 -ℤ p) mvd_table).0 ≡ row.1.0 = int_same _ row.1.0 (and_left _ _ all) in
     let b : (pair_in (moved p row.1 -ℤ p) mvd_table).1 ≡ row.1.1 = int_same _ row.1.1 (and_right _ _ all) in
     ap (λ (x : ℤ). (x, (pair_in (moved p row.1 -ℤ p) mvd_table).1)) a ∙ ap (λ (y : ℤ). (row.1.0, y)) b

@@ -121,9 +121,7 @@ signed_again (negsuc n) = refl
 
 written_pair : (list : List (Row Element)) → is_prefix_free (codes_of list) ≡ true → (one : List Bool) (table : List (List Bool × (ℕ × ℕ))) → ((row : List Bool × (ℕ × ℕ)) → Among row table → Among (pair_row row) list) → ((b : Bool) → list_all (pair_is_sent one b) table ≡ true) → (run : ℕ) (level : ℤ) → list_any (λ p. p.0 == run && p.1 == nat_abs level) (map (λ row. row.1) table) ≡ true → (rest : List Bool) → read list (coefficient_word one (record { run = run; level = level; long = false }) ++ rest) ≡ Good (Tcoeff (record { run = run; level = level; long = false })) (length (coefficient_word one (record { run = run; level = level; long = false })))
 written_pair list free one table inside checked run level any rest =
-    let b : Bool = is_negative level in
     let f = found_in (λ p. p.0 == run && p.1 == nat_abs level) table (any_found (λ p. p.0 == run && p.1 == nat_abs level) table any) in
-    let row = f.0 in
     let run_is : f.0.1.0 ≡ run = eqb-true f.0.1.0 run (and_left _ _ f.2) in
     let level_is : f.0.1.1 ≡ nat_abs level = eqb-true f.0.1.1 (nat_abs level) (and_right _ _ f.2) in
     let same : pair f.0.1.0 f.0.1.1 (is_negative level) ≡ record { run = run; level = level; long = false } =
@@ -134,7 +132,6 @@ written_pair list free one table inside checked run level any rest =
 twos_fit : (level : ℤ) → IsByteLevel level → (twos_complement level < 256) × (from_twos_complement (twos_complement level) ≡ level)
 twos_fit (pos n) h = (omega arith, if-true (nat_lt n 128) (pos n) (neg_ℤ (pos (256 - n))) (lt-ltb n 128 h))
 twos_fit (negsuc n) h =
-    let k : ℕ = 255 - n in
     let high : nat_lt (255 - n) 128 ≡ false = not_less (255 - n) 128 (omega arith) in
     let back : 256 - (255 - n) ≡ suc n = omega arith in
     (omega arith, if-false (nat_lt (255 - n) 128) (pos (255 - n)) (neg_ℤ (pos (256 - (255 - n)))) high ∙ ap (λ m. neg_ℤ (pos m)) back)
