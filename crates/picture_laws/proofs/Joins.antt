@@ -1,30 +1,35 @@
 -- What is read from left to right joins what was read before it.
-use Rattle.std.proofs.Common.{◌≡◌, ◌≢◌, ℕ, zero, suc, ◌+◌, ◌-◌, ◌<◌, ◌≤◌, ◌==◌, Bool, true, List, [], ◌∷◌, ◌++◌, length, map, take, replicate, Option, Some, None, refl, sym, ◌∙◌, ap, subst, inl, inr, append_assoc, append-nil, arith}
+use Rattle.std.proofs.Common.{false, ◌%◌, ◌≡◌, ◌≢◌, ℕ, zero, suc, ◌+◌, ◌-◌, ◌<◌, ◌≤◌, ◌==◌, Bool, true, List, [], ◌∷◌, ◌++◌, length, map, take, replicate, Option, Some, None, refl, sym, ◌∙◌, ap, subst, inl, inr, append_assoc, append-nil, arith}
 use Rattle.std.proofs.lemmas.List.{length-append, take_more}
 use Rattle.std.proofs.lemmas.List.Elements.{All-push}
 use Rattle.pel_model.specs.declared.Format.{Format}
 use Rattle.pel_model.specs.declared.Why.TheVariants.{BadQuant}
-use Rattle.pel_model.specs.Records.{Macroblock, Group, Picture}
-use Rattle.pel_model.specs.Text.{address_of, macroblock_text, macroblocks_text}
+use Rattle.pel_model.specs.Codes.{has_vector, has_cbp}
+use Rattle.pel_model.specs.Records.{Across, Down, Coefficient, Block, Macroblock, Group, Picture}
+use Rattle.pel_model.specs.Text.{coded_block_pattern, address_of, macroblock_text, macroblocks_text}
 use Rattle.pel_model.specs.Valid.{IsQuantiser, IsValidMacroblock, AddressesRise, IsValidGroup, IsValidSoFar, group_numbers, group_count}
 use Rattle.pel_model.specs.Spelling.{GroupForm, LeftOut, Sent, GroupFits, GroupsFit}
 use Rattle.pel_model.specs.Accepts.{Accepts}
 use Rattle.pel_model.specs.Walk.{after, Goes}
-use Rattle.pel_model.specs.Grammar.{Element, Psc, Tr, Ptype, Gbsc, Gn, Gquant, Gei, Gspare, Stuffing, Mba, Mtype, AtGroup, AtGquant, AtMacroblock, slot, may_end, next}
+use Rattle.pel_model.specs.Grammar as grammar
+use Rattle.pel_model.specs.Grammar.{Slot, quant, Cbp, Tcoeff, Element, Psc, Tr, Ptype, Gbsc, Gn, Gquant, Gei, Gspare, Stuffing, Mba, Mtype, AtGroup, AtGquant, AtMacroblock, slot, may_end, next}
 use Rattle.pel_model.proofs.Walks.{after-append}
-use Rattle.picture_laws.specs.Elements.{macroblock_elements, macroblocks_elements, spare_elements, group_elements, groups_elements, header_elements}
-use Rattle.picture_laws.specs.SoFar.{IsBehind, last_of, group_of, IsGroupSoFar, AreInside, GroupBegins, StuffingJoins, IsJoined, MacroblockJoins, IsPictureSoFar, with_group, next_number, HeaderBegins, GroupIsLeftOut, GroupIsSent, PictureIsTold, PictureIsAccepted}
+use Rattle.picture_laws.specs.Laws.{StandInside}
+use Rattle.pel_model.specs.Elements.{dc_elements, block_elements}
+use Rattle.picture_laws.specs.Elements.{blocks_elements, mquant_elements, mvd_element, vector_elements, cbp_elements, macroblock_elements, macroblocks_elements, spare_elements, group_elements, groups_elements, header_elements}
+use Rattle.picture_laws.specs.SoFar.{IsBehind, last_of, group_of, IsGroupSoFar, AreInside, GroupBegins, StuffingJoins, IsJoined, MacroblockJoins, IsPictureSoFar, with_group, next_number, HeaderBegins, GroupIsLeftOut, GroupIsSent, PictureIsTold, PictureIsAccepted, InsideStands, quant_behind, in_effect}
 use Rattle.picture_laws.proofs.Basics.{not_equal}
 use Rattle.picture_laws.proofs.Slots.{Takes, IsStep}
-use Rattle.picture_laws.proofs.Chains.{words, goes-walk}
-use Rattle.picture_laws.proofs.Blocks.{all-nil, one_passed}
-use Rattle.picture_laws.proofs.Macroblocks.{says-macroblock, body}
+use Rattle.picture_laws.proofs.Chains.{Chain, words, goes-walk}
+use Rattle.picture_laws.proofs.Blocks.{after-block, all-nil, one_passed}
+use Rattle.picture_laws.proofs.Macroblocks.{says-macroblock, body, headed, after-body}
 use Rattle.picture_laws.proofs.Groups.{says-gspares, stuffed_behind}
 use Rattle.picture_laws.proofs.ReadBlocks.{IsRest, rest-after, rest-step}
 use Rattle.picture_laws.proofs.ReadMacroblocks.{ReadsMacroblock, read-macroblock}
 use Rattle.picture_laws.proofs.ReadGroups.{ReadsSpares, read-gspares, behind_header}
 use Rattle.picture_laws.proofs.Told.{told-one}
 use Rattle.picture_laws.proofs.ReadPictures.{walk-record, ReadsHeader, read_header, header_slot}
+use Rattle.vlc_codes.proofs.WordLaws.{either_way, if-true, if-false}
 
 -- ---- nothing more
 
@@ -112,6 +117,56 @@ bump-elements last (n ∷ b ∷ bs) m (x ∷ ms) each =
     ap (λ t. macroblock_elements last m ++ (replicate n Stuffing ++ t)) (bump-elements (Some m) (b ∷ bs) x ms (omega (arith, each)))
     ∙ sym (more_joined (macroblock_elements last m) (replicate n Stuffing) (macroblocks_elements (Some m) (b ∷ bs) (x ∷ ms)) (Stuffing ∷ []))
 
+-- ---- the quantiser in effect
+
+gspares-quant : (before : List Element) (spares : List ℕ) → quant (after before (spare_elements Gei Gspare spares)) ≡ quant before
+gspares-quant before [] = refl
+gspares-quant before (n ∷ ns) = gspares-quant (Gspare (n % 256) ∷ Gei true ∷ before) ns
+
+coefficients-quant : (before : List Element) (cs : List Coefficient) → quant (after before (map Tcoeff cs)) ≡ quant before
+coefficients-quant before [] = refl
+coefficients-quant before (c ∷ cs) = coefficients-quant (Tcoeff c ∷ before) cs
+
+dc-quant : (before : List Element) (dc : Option ℕ) → quant (after before (dc_elements dc)) ≡ quant before
+dc-quant before None = refl
+dc-quant before (Some n) = refl
+
+block-quant : (before : List Element) (b : Block) → quant (after before (block_elements b)) ≡ quant before
+block-quant before b = ap quant (after-block before b) ∙ (coefficients-quant (after before (dc_elements b.dc)) b.coefficients ∙ dc-quant before b.dc)
+
+blocks-quant : (before : List Element) (bs : List (Option Block)) → quant (after before (blocks_elements bs)) ≡ quant before
+blocks-quant before [] = refl
+blocks-quant before (None ∷ bs) = blocks-quant before bs
+blocks-quant before (Some b ∷ bs) = ap quant (after-append before (block_elements b) (blocks_elements bs)) ∙ (blocks-quant (after before (block_elements b)) bs ∙ block-quant before b)
+
+mquant-quant : (before : List Element) (q : Option ℕ) → quant (after before (mquant_elements q)) ≡ quant_behind (quant before) q
+mquant-quant before None = refl
+mquant-quant before (Some q) = refl
+
+vector-quant : (before : List Element) (last : Option Macroblock) (m : Macroblock) → quant (after before (vector_elements last m)) ≡ quant before
+vector-quant before last m = elim (either_way (has_vector m.kind)) [
+  | inl has ↦ ap (λ es. quant (after before es)) (if-true (has_vector m.kind) (mvd_element Across last m ∷ mvd_element Down last m ∷ []) [] has)
+  | inr none ↦ ap (λ es. quant (after before es)) (if-false (has_vector m.kind) (mvd_element Across last m ∷ mvd_element Down last m ∷ []) [] none)
+]
+
+cbp-quant : (before : List Element) (m : Macroblock) → quant (after before (cbp_elements m)) ≡ quant before
+cbp-quant before m = elim (either_way (has_cbp m.kind)) [
+  | inl has ↦ ap (λ es. quant (after before es)) (if-true (has_cbp m.kind) (Cbp (coded_block_pattern m.blocks) ∷ []) [] has)
+  | inr none ↦ ap (λ es. quant (after before es)) (if-false (has_cbp m.kind) (Cbp (coded_block_pattern m.blocks) ∷ []) [] none)
+]
+
+macroblock-quant : (before : List Element) (last : Option Macroblock) (m : Macroblock) → quant (after before (macroblock_elements last m)) ≡ quant_behind (quant before) m.mquant
+macroblock-quant before last m =
+    ap quant (after-body (headed before last m) last m)
+    ∙ (ap quant (after-append (after (after (headed before last m) (mquant_elements m.mquant)) (vector_elements last m)) (cbp_elements m) (blocks_elements m.blocks))
+    ∙ (blocks-quant (after (after (after (headed before last m) (mquant_elements m.mquant)) (vector_elements last m)) (cbp_elements m)) m.blocks
+    ∙ (cbp-quant (after (after (headed before last m) (mquant_elements m.mquant)) (vector_elements last m)) m
+    ∙ (vector-quant (after (headed before last m) (mquant_elements m.mquant)) last m ∙ mquant-quant (headed before last m) m.mquant))))
+
+effect-snoc : (q : ℕ) (ms : List Macroblock) (m : Macroblock) → in_effect q (ms ++ m ∷ []) ≡ quant_behind (in_effect q ms) m.mquant
+effect-snoc q [] m = refl
+effect-snoc q (x ∷ ms) m = effect-snoc (quant_behind q x.mquant) ms m
+
 -- ---- a group so far
 
 -- the elements of a group, with more behind them
@@ -121,17 +176,18 @@ group_more number quant spares n m more = ap (λ t. Gbsc ∷ (Gn number ∷ (Gqu
 same_quant : (a b : ℕ) → Gquant a ≡ Gquant b → a ≡ b
 same_quant a b h = cc
 
-group_begun : (format : Format) (before es : List Element) (number quant : ℕ) → IsQuantiser quant → (s : ReadsSpares Gei Gspare es) → s.rest ≡ [] → IsGroupSoFar format before number quant [] (Gbsc ∷ (Gn number ∷ (Gquant quant ∷ es)))
-group_begun format before es number quant ok s none =
+group_begun : (format : Format) (before es : List Element) (number q : ℕ) → IsQuantiser q → (s : ReadsSpares Gei Gspare es) → s.rest ≡ [] → IsGroupSoFar format before number q [] (Gbsc ∷ (Gn number ∷ (Gquant q ∷ es)))
+group_begun format before es number q ok s none =
     let is : es ≡ spare_elements Gei Gspare s.spares = s.is ∙ (ap (λ t. spare_elements Gei Gspare s.spares ++ t) none ∙ append-nil (spare_elements Gei Gspare s.spares)) in
     record {
       spares = s.spares;
       stuffings = 0;
       behind = [];
       each = refl;
-      elements = ap (λ t. Gbsc ∷ (Gn number ∷ (Gquant quant ∷ t))) (is ∙ sym (append-nil (spare_elements Gei Gspare s.spares)));
+      elements = ap (λ t. Gbsc ∷ (Gn number ∷ (Gquant q ∷ t))) (is ∙ sym (append-nil (spare_elements Gei Gspare s.spares)));
       valid = record { quant = ok; addresses = tt; macroblocks = all-nil (IsValidMacroblock format number) };
-      place = subst (λ t. IsBehind number None (after (Gquant quant ∷ Gn number ∷ Gbsc ∷ before) t)) (sym is) (behind_header format number quant before s.spares);
+      place = subst (λ t. IsBehind number None (after (Gquant q ∷ Gn number ∷ Gbsc ∷ before) t)) (sym is) (behind_header format number q before s.spares);
+      quant_is = ap (λ t. quant (after (Gquant q ∷ Gn number ∷ Gbsc ∷ before) t)) is ∙ gspares-quant (Gquant q ∷ Gn number ∷ Gbsc ∷ before) s.spares;
     }
 
 pub group-begins : GroupBegins
@@ -161,6 +217,7 @@ stuffing-joins format before number quant [] es g = record {
       ∙ ap (λ t. Gbsc ∷ (Gn number ∷ (Gquant quant ∷ (spare_elements Gei Gspare g.spares ++ t)))) (stuffing-snoc g.stuffings ∙ sym (append-nil (replicate (suc g.stuffings) Stuffing))));
   valid = g.valid;
   place = stuffing_place format before number quant [] es g;
+  quant_is = ap grammar.quant (after-append before es (Stuffing ∷ [])) ∙ g.quant_is;
 }
 stuffing-joins format before number quant (m ∷ ms) es g = record {
   spares = g.spares;
@@ -171,6 +228,7 @@ stuffing-joins format before number quant (m ∷ ms) es g = record {
       ∙ ap (λ t. Gbsc ∷ (Gn number ∷ (Gquant quant ∷ (spare_elements Gei Gspare g.spares ++ (replicate g.stuffings Stuffing ++ t))))) (sym (bump-elements None g.behind m ms g.each)));
   valid = g.valid;
   place = stuffing_place format before number quant (m ∷ ms) es g;
+  quant_is = ap grammar.quant (after-append before es (Stuffing ∷ [])) ∙ g.quant_is;
 }
 
 same_tail : (x y : Element) (xs ys : List Element) → x ∷ xs ≡ y ∷ ys → xs ≡ ys
@@ -212,6 +270,8 @@ joined format before number quant ms es more r end g goes m none =
             ∙ ap (λ t. Gbsc ∷ (Gn number ∷ (Gquant quant ∷ (spare_elements Gei Gspare g.spares ++ (replicate g.stuffings Stuffing ++ t))))) (ap (λ t. macroblocks_elements None g.behind ms ++ t) is ∙ sym (elements-snoc None g.behind ms m.m g.each)));
         valid = record { quant = g.valid.quant; addresses = rise-snoc None ms m.m g.valid.addresses m.rise m.most; macroblocks = All-push (IsValidMacroblock format number) ms m.m g.valid.macroblocks m.valid };
         place = subst (λ l. IsBehind number l (after before (es ++ more))) (sym (last-snoc None ms m.m)) here;
+        quant_is = ap grammar.quant (after-append before es more) ∙ (ap (λ t. grammar.quant (after (after before es) t)) is
+            ∙ (macroblock-quant (after before es) (last_of None ms) m.m ∙ (ap (λ q. quant_behind q m.m.mquant) g.quant_is ∙ sym (effect-snoc quant ms m.m))));
       };
     }
 
@@ -306,3 +366,31 @@ picture-accepted format picture bits es p whole reads =
     let told = picture-told format picture es p whole in
     let w = walk-record format bits es reads in
     subst (λ p. Accepts format bits p) (told-one format es w.0 picture w.1 w.2.1.valid told.1 told.0) w.2
+
+-- ---- inside
+
+inside_slot : (s : Slot) (e : Element) → Takes s e → AreInside (e ∷ []) → may_end s ≡ false
+inside_slot AtGroup e t h = absurd (subst (λ x. AreInside (x ∷ [])) t h)
+inside_slot AtMacroblock e t h = elim t [
+  | inl a ↦ absurd (subst (λ x. AreInside (x ∷ [])) a.2 h)
+  | inr a ↦ elim a [
+    | inl b ↦ absurd (subst (λ x. AreInside (x ∷ [])) b h)
+    | inr b ↦ absurd (subst (λ x. AreInside (x ∷ [])) b h)
+  ]
+]
+inside_slot _ e t h = refl
+
+inside_head : (e : Element) (es : List Element) → AreInside (e ∷ es) → AreInside (e ∷ []) × AreInside es
+inside_head Gbsc es h = absurd h
+inside_head Stuffing es h = absurd h
+inside_head (Mba n) es h = absurd h
+inside_head _ es h = (tt, h)
+
+chain_inside : (format : Format) (before es : List Element) → Chain format before es → AreInside es → StandInside before es
+chain_inside format before [] chain inside = tt
+chain_inside format before (e ∷ es) chain inside =
+    let both = inside_head e es inside in
+    (inside_slot (slot before) e chain.0.takes both.0, chain_inside format (e ∷ before) es chain.1 both.1)
+
+pub inside-stands : InsideStands
+inside-stands format before r end es goes inside = chain_inside format before es (goes-walk format before r es end goes).chain inside

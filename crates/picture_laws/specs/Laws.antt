@@ -48,7 +48,8 @@ NeverBoth =
 -- bits spell one valid picture
 abbrev pub OneSpelling : Type 0
 OneSpelling =
-    (format : Format) (bits : List Bool) (p q : Picture) → Spells format bits p → IsValid format p → Spells format bits q → IsValid format q → p ≡ q
+    (format : Format) (bits : List Bool) (p q : Picture) → Spells format bits p → IsValid format p
+    → Spells format bits q → IsValid format q → p ≡ q
 
 -- one record
 abbrev pub OneRecord : Type 0

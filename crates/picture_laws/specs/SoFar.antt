@@ -10,6 +10,7 @@ use Rattle.pel_model.specs.Accepts.{Accepts}
 use Rattle.pel_model.specs.Walk.{after, Goes, Reads}
 use Rattle.pel_model.specs.Grammar as grammar
 use Rattle.pel_model.specs.Grammar.{Element, Psc, Tr, Ptype, Gbsc, Gn, Gquant, Stuffing, Mba, slot, AtGroup, AtMacroblock, group, address, vector, next}
+use Rattle.picture_laws.specs.Laws.{StandInside}
 use Rattle.picture_laws.specs.Elements.{macroblock_elements, group_elements, groups_elements, header_elements, Tells}
 
 -- ---- behind a macroblock
@@ -22,7 +23,10 @@ last_component axis (Some m) = component axis m
 -- what is known of the macroblock before, where there is one
 abbrev pub IsLast : Option Macroblock → Type 0
 IsLast None = Unit {0}
-IsLast (Some m) = (0 < m.address) × ((axis : Axis) → nat_abs (component axis m) ≤ 15) × ((axis : Axis) → has_vector m.kind ≡ false → component axis m ≡ pos 0)
+IsLast (Some m) =
+    (0 < m.address)
+    × ((axis : Axis) → nat_abs (component axis m) ≤ 15)
+    × ((axis : Axis) → has_vector m.kind ≡ false → component axis m ≡ pos 0)
 
 -- a macroblock may come, in the group with this number, of which `last` was sent last
 pub record IsBehind (number : ℕ) (last : Option Macroblock) (before : List Element) : Type 0 where
@@ -36,6 +40,15 @@ pub record IsBehind (number : ℕ) (last : Option Macroblock) (before : List Ele
 abbrev pub last_of : Option Macroblock → List Macroblock → Option Macroblock
 last_of last [] = last
 last_of last (m ∷ ms) = last_of (Some m) ms
+
+-- the quantiser in effect behind a macroblock, and behind these, where it was `quant` before (4.2.3.3)
+abbrev pub quant_behind : ℕ → Option ℕ → ℕ
+quant_behind quant None = quant
+quant_behind quant (Some mquant) = mquant
+
+abbrev pub in_effect : ℕ → List Macroblock → ℕ
+in_effect quant [] = quant
+in_effect quant (m ∷ ms) = in_effect (quant_behind quant m.mquant) ms
 
 -- ---- a group so far
 
@@ -51,6 +64,7 @@ pub record IsGroupSoFar (format : Format) (before : List Element) (number quant 
   pub elements : es ≡ group_elements (Sent spares stuffings behind) (group_of number quant ms)
   pub valid : IsValidGroup format (group_of number quant ms)
   pub place : IsBehind number (last_of None ms) (after before es)
+  pub quant_is : grammar.quant (after before es) ≡ in_effect quant ms
 
 -- no element of these is a word that may stand between macroblocks
 abbrev pub AreInside : List Element → Type 0
@@ -59,6 +73,12 @@ AreInside (Gbsc ∷ es) = ⊥
 AreInside (Stuffing ∷ es) = ⊥
 AreInside (Mba n ∷ es) = ⊥
 AreInside (_ ∷ es) = AreInside es
+
+-- good elements of that kind stand at no place where an end can be
+abbrev pub InsideStands : Type 0
+InsideStands =
+    (format : Format) (before : List Element) (r end : List Bool × ℕ) (es : List Element)
+    → Goes (next format) before r es end → AreInside es → StandInside before es
 
 -- a group's header was read
 abbrev pub GroupBegins : Type 0
@@ -84,7 +104,8 @@ pub record IsJoined (format : Format) (before : List Element) (number quant : �
 
 abbrev pub MacroblockJoins : Type 0
 MacroblockJoins =
-    (format : Format) (before : List Element) (number quant : ℕ) (ms : List Macroblock) (es : List Element) (r end : List Bool × ℕ) (n : ℕ) (more : List Element)
+    (format : Format) (before : List Element) (number quant : ℕ) (ms : List Macroblock) (es : List Element)
+    (r end : List Bool × ℕ) (n : ℕ) (more : List Element)
     → IsGroupSoFar format before number quant ms es → Goes (next format) (after before es) r (Mba n ∷ more) end → AreInside more
     → slot (after (after before es) (Mba n ∷ more)) ≡ AtMacroblock
     → IsJoined format before number quant ms es (Mba n ∷ more) r end

@@ -3,7 +3,7 @@
 #![tactic(auto)]
 
 ghost use Rattle.picture_laws.specs.Laws.{TextIsAccepted, AcceptedIsRead, WalkHasRecord, HasRecordOrFault, NeverBoth, OneSpelling, OneRecord, OneFault, GoodOverFirst, GoodOverAll, JudgedByTheLimit, WithinTheLimit, PastTheLimit, KeptLength};
-ghost use Rattle.picture_laws.specs.SoFar.{GroupBegins, StuffingJoins, MacroblockJoins, HeaderBegins, GroupIsLeftOut, GroupIsSent, PictureIsTold, PictureIsAccepted};
+ghost use Rattle.picture_laws.specs.SoFar.{InsideStands, GroupBegins, StuffingJoins, MacroblockJoins, HeaderBegins, GroupIsLeftOut, GroupIsSent, PictureIsTold, PictureIsAccepted};
 
 /// The strict text of a valid picture within the limit is accepted with that picture.
 pub fn text_is_accepted()
@@ -50,6 +50,7 @@ pub fn group_so_far()
     ensures begins { GroupBegins }
     ensures stuffing { StuffingJoins }
     ensures macroblock { MacroblockJoins }
+    ensures inside { InsideStands }
 {}
 
 /// A picture as far as it was read: its header, then groups that are left out or were read; when it has all its groups
