@@ -1,0 +1,25 @@
+pub mod Answers
+pub mod Basics
+pub mod Blocks
+pub mod Chains
+pub mod Cuts
+pub mod Groups
+pub mod Joins
+pub mod Kept
+pub mod Limits
+pub mod Longs
+pub mod Macroblocks
+pub mod Patterns
+pub mod Pictures
+pub mod ReadBlocks
+pub mod ReadGroups
+pub mod ReadMacroblocks
+pub mod ReadPictures
+pub mod Rows
+pub mod Slots
+pub mod Strict
+pub mod Told
+pub mod Vectors
+mod WorkedForms
+pub mod Words
+pub mod Written

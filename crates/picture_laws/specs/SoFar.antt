@@ -1,0 +1,166 @@
+-- A picture as far as its elements were read: what a reader that goes from left to right knows of its record.
+use Rattle.std.specs.Prelude.{◌≡◌, ℕ, ◌<◌, ◌≤◌, Bool, false, ℤ, pos, nat_abs, List, [], ◌∷◌, ◌++◌, length, get_or, Option, Some, None}
+use Rattle.pel_model.specs.declared.Format.{Format}
+use Rattle.pel_model.specs.Codes.{has_vector}
+use Rattle.pel_model.specs.Records.{Axis, Macroblock, Group, Picture, component}
+use Rattle.pel_model.specs.Text.{address_of, macroblock_text, macroblocks_text}
+use Rattle.pel_model.specs.Valid.{IsValidGroup, IsValidSoFar, IsValid, group_numbers, group_count}
+use Rattle.pel_model.specs.Spelling.{FreeBits, GroupForm, Sent, GroupsFit}
+use Rattle.pel_model.specs.Accepts.{Accepts}
+use Rattle.pel_model.specs.Walk.{after, Goes, Reads}
+use Rattle.pel_model.specs.Grammar as grammar
+use Rattle.pel_model.specs.Grammar.{Element, Psc, Tr, Ptype, Gbsc, Gn, Gquant, Stuffing, Mba, slot, AtGroup, AtMacroblock, group, address, vector, next}
+use Rattle.picture_laws.specs.Laws.{StandInside}
+use Rattle.picture_laws.specs.Elements.{macroblock_elements, group_elements, groups_elements, header_elements, Tells}
+
+-- ---- behind a macroblock
+
+-- a component of the vector before
+abbrev pub last_component : Axis → Option Macroblock → ℤ
+last_component axis None = pos 0
+last_component axis (Some m) = component axis m
+
+-- what is known of the macroblock before, where there is one
+abbrev pub IsLast : Option Macroblock → Type 0
+IsLast None = Unit {0}
+IsLast (Some m) =
+    (0 < m.address)
+    × ((axis : Axis) → nat_abs (component axis m) ≤ 15)
+    × ((axis : Axis) → has_vector m.kind ≡ false → component axis m ≡ pos 0)
+
+-- a macroblock may come, in the group with this number, of which `last` was sent last
+pub record IsBehind (number : ℕ) (last : Option Macroblock) (before : List Element) : Type 0 where
+  pub at : slot before ≡ AtMacroblock
+  pub group_is : group before ≡ number
+  pub address_is : address before ≡ address_of last
+  pub vector_is : (axis : Axis) → vector axis before ≡ last_component axis last
+  pub last_is : IsLast last
+
+-- the last of these macroblocks, or `last` where there is none
+abbrev pub last_of : Option Macroblock → List Macroblock → Option Macroblock
+last_of last [] = last
+last_of last (m ∷ ms) = last_of (Some m) ms
+
+-- the quantiser in effect behind a macroblock, and behind these, where it was `quant` before (4.2.3.3)
+abbrev pub quant_behind : ℕ → Option ℕ → ℕ
+quant_behind quant None = quant
+quant_behind quant (Some mquant) = mquant
+
+abbrev pub in_effect : ℕ → List Macroblock → ℕ
+in_effect quant [] = quant
+in_effect quant (m ∷ ms) = in_effect (quant_behind quant m.mquant) ms
+
+-- ---- a group so far
+
+abbrev pub group_of : ℕ → ℕ → List Macroblock → Group
+group_of number quant ms = record { number = number; quant = quant; macroblocks = ms }
+
+-- behind `before`, the elements are a group's header and these macroblocks, with spare octets and stuffing
+pub record IsGroupSoFar (format : Format) (before : List Element) (number quant : ℕ) (ms : List Macroblock) (es : List Element) : Type 0 where
+  pub spares : List ℕ
+  pub stuffings : ℕ
+  pub behind : List ℕ
+  pub each : length behind ≡ length ms
+  pub elements : es ≡ group_elements (Sent spares stuffings behind) (group_of number quant ms)
+  pub valid : IsValidGroup format (group_of number quant ms)
+  pub place : IsBehind number (last_of None ms) (after before es)
+  pub quant_is : grammar.quant (after before es) ≡ in_effect quant ms
+
+-- no element of these is a word that may stand between macroblocks
+abbrev pub AreInside : List Element → Type 0
+AreInside [] = Unit {0}
+AreInside (Gbsc ∷ es) = ⊥
+AreInside (Stuffing ∷ es) = ⊥
+AreInside (Mba n ∷ es) = ⊥
+AreInside (_ ∷ es) = AreInside es
+
+-- good elements of that kind stand at no place where an end can be
+abbrev pub InsideStands : Type 0
+InsideStands =
+    (format : Format) (before : List Element) (r end : List Bool × ℕ) (es : List Element)
+    → Goes (next format) before r es end → AreInside es → StandInside before es
+
+-- a group's header was read
+abbrev pub GroupBegins : Type 0
+GroupBegins =
+    (format : Format) (before : List Element) (r end : List Bool × ℕ) (number quant : ℕ) (es : List Element)
+    → Goes (next format) before r (Gbsc ∷ (Gn number ∷ (Gquant quant ∷ es))) end → AreInside es
+    → slot (after before (Gbsc ∷ (Gn number ∷ (Gquant quant ∷ es)))) ≡ AtMacroblock
+    → IsGroupSoFar format before number quant [] (Gbsc ∷ (Gn number ∷ (Gquant quant ∷ es)))
+
+-- stuffing was read
+abbrev pub StuffingJoins : Type 0
+StuffingJoins =
+    (format : Format) (before : List Element) (number quant : ℕ) (ms : List Macroblock) (es : List Element)
+    → IsGroupSoFar format before number quant ms es → IsGroupSoFar format before number quant ms (es ++ Stuffing ∷ [])
+
+-- a macroblock that was read behind these: its bits are its text, and it is the group's next
+pub record IsJoined (format : Format) (before : List Element) (number quant : ℕ) (ms : List Macroblock) (es more : List Element) (r end : List Bool × ℕ) : Type 0 where
+  pub macroblock : Macroblock
+  pub elements : more ≡ macroblock_elements (last_of None ms) macroblock
+  pub bits : r.0 ≡ macroblock_text (last_of None ms) macroblock ++ end.0
+  pub text : macroblocks_text None (ms ++ macroblock ∷ []) ≡ macroblocks_text None ms ++ macroblock_text (last_of None ms) macroblock
+  pub so_far : IsGroupSoFar format before number quant (ms ++ macroblock ∷ []) (es ++ more)
+
+abbrev pub MacroblockJoins : Type 0
+MacroblockJoins =
+    (format : Format) (before : List Element) (number quant : ℕ) (ms : List Macroblock) (es : List Element)
+    (r end : List Bool × ℕ) (n : ℕ) (more : List Element)
+    → IsGroupSoFar format before number quant ms es → Goes (next format) (after before es) r (Mba n ∷ more) end → AreInside more
+    → slot (after (after before es) (Mba n ∷ more)) ≡ AtMacroblock
+    → IsJoined format before number quant ms es (Mba n ∷ more) r end
+
+-- ---- a picture so far
+
+-- the elements are a picture header and these groups, of which some may be left out
+pub record IsPictureSoFar (format : Format) (picture : Picture) (es : List Element) : Type 0 where
+  pub free : FreeBits
+  pub spares : List ℕ
+  pub forms : List GroupForm
+  pub fits : GroupsFit forms picture.groups
+  pub elements : es ≡ header_elements format free spares picture.tr ++ groups_elements forms picture.groups
+  pub valid : IsValidSoFar format picture
+
+abbrev pub with_group : Picture → Group → Picture
+with_group picture g = record { tr = picture.tr; groups = picture.groups ++ g ∷ [] }
+
+-- the number of the group that comes next
+abbrev pub next_number : Format → Picture → ℕ
+next_number format picture = get_or (group_numbers format) (length picture.groups) 0
+
+-- the picture header was read
+abbrev pub HeaderBegins : Type 0
+HeaderBegins =
+    (format : Format) (r end : List Bool × ℕ) (tr ptype : ℕ) (es : List Element)
+    → Goes (next format) [] r (Psc ∷ (Tr tr ∷ (Ptype ptype ∷ es))) end → AreInside es
+    → slot (after [] (Psc ∷ (Tr tr ∷ (Ptype ptype ∷ es)))) ≡ AtGroup
+    → IsPictureSoFar format (record { tr = tr; groups = [] }) (Psc ∷ (Tr tr ∷ (Ptype ptype ∷ es)))
+
+-- the next group is left out
+abbrev pub GroupIsLeftOut : Type 0
+GroupIsLeftOut =
+    (format : Format) (picture : Picture) (es : List Element)
+    → IsPictureSoFar format picture es → length picture.groups < group_count format
+    → IsPictureSoFar format (with_group picture (group_of (next_number format picture) 1 [])) es
+
+-- the next group was read
+abbrev pub GroupIsSent : Type 0
+GroupIsSent =
+    (format : Format) (picture : Picture) (es : List Element) (quant : ℕ) (ms : List Macroblock) (more : List Element)
+    → IsPictureSoFar format picture es → length picture.groups < group_count format
+    → IsGroupSoFar format (after [] es) (next_number format picture) quant ms more
+    → IsPictureSoFar format (with_group picture (group_of (next_number format picture) quant ms)) (es ++ more)
+
+-- all groups were read or left out
+abbrev pub PictureIsTold : Type 0
+PictureIsTold =
+    (format : Format) (picture : Picture) (es : List Element)
+    → IsPictureSoFar format picture es → length picture.groups ≡ group_count format
+    → IsValid format picture × Tells format es picture
+
+-- and the elements end lawfully: the bits are accepted with this picture
+abbrev pub PictureIsAccepted : Type 0
+PictureIsAccepted =
+    (format : Format) (picture : Picture) (bits : List Bool) (es : List Element)
+    → IsPictureSoFar format picture es → length picture.groups ≡ group_count format
+    → Reads (grammar.picture format) bits es → Accepts format bits picture

@@ -1,0 +1,64 @@
+//! Laws of coded pictures: what joins their records and texts to their elements, read from left to right. Each
+//! function does nothing; its contract is the law, whose words stand in `specs/`.
+#![tactic(auto)]
+
+ghost use Rattle.picture_laws.specs.Laws.{TextIsAccepted, AcceptedIsRead, WalkHasRecord, HasRecordOrFault, NeverBoth, OneSpelling, OneRecord, OneFault, GoodOverFirst, GoodOverAll, JudgedByTheLimit, WithinTheLimit, PastTheLimit, KeptLength};
+ghost use Rattle.picture_laws.specs.SoFar.{InsideStands, GroupBegins, StuffingJoins, MacroblockJoins, HeaderBegins, GroupIsLeftOut, GroupIsSent, PictureIsTold, PictureIsAccepted};
+
+/// The strict text of a valid picture within the limit is accepted with that picture.
+pub fn text_is_accepted()
+    ensures { TextIsAccepted }
+{}
+
+/// Accepted bits are good elements up to the lawful end, and these tell the picture.
+pub fn accepted_text_is_read()
+    ensures { AcceptedIsRead }
+{}
+
+/// Good elements up to the lawful end tell a picture, and the bits are accepted with it.
+pub fn walk_has_a_record()
+    ensures { WalkHasRecord }
+{}
+
+/// Bits are accepted with one picture or have one first fault, never both.
+pub fn one_record_or_one_fault()
+    ensures either { HasRecordOrFault }
+    ensures never_both { NeverBoth }
+    ensures one_spelling { OneSpelling }
+    ensures one_record { OneRecord }
+    ensures one_fault { OneFault }
+{}
+
+/// What is read over the first bits alone, and the limit of a picture where a macroblock's elements go past it: the
+/// element that is too long is the one that is cut in a reading of the bits that the limit leaves.
+pub fn limit_is_read_by_a_cut()
+    ensures over_first { GoodOverFirst }
+    ensures over_all { GoodOverAll }
+    ensures judged { JudgedByTheLimit }
+    ensures within { WithinTheLimit }
+    ensures past { PastTheLimit }
+{}
+
+/// Bits behind the first 65,600 of a QCIF picture, or 262,208 of a CIF picture, change neither the picture with which
+/// bits are accepted nor the first fault.
+pub fn kept_length()
+    ensures { KeptLength }
+{}
+
+/// A group as far as it was read: its header, then stuffing and macroblocks one by one, each with its text.
+pub fn group_so_far()
+    ensures begins { GroupBegins }
+    ensures stuffing { StuffingJoins }
+    ensures macroblock { MacroblockJoins }
+    ensures inside { InsideStands }
+{}
+
+/// A picture as far as it was read: its header, then groups that are left out or were read; when it has all its groups
+/// and the bits end lawfully, they are accepted with it.
+pub fn picture_so_far()
+    ensures begins { HeaderBegins }
+    ensures left_out { GroupIsLeftOut }
+    ensures sent { GroupIsSent }
+    ensures told { PictureIsTold }
+    ensures accepted { PictureIsAccepted }
+{}
