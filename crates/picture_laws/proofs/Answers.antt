@@ -5,7 +5,7 @@ use Rattle.pel_model.specs.declared.Format.{Format}
 use Rattle.pel_model.specs.declared.Why.{Why}
 use Rattle.pel_model.specs.Walk.{Step, Good, Stop, Bad, skipped, start, after, Goes}
 use Rattle.pel_model.specs.Grammar.{Element, slot, picture, next}
-use Rattle.pel_model.proofs.Walks.{same_walk, one_answer, one_reading}
+use Rattle.pel_model.proofs.Walks.{one_fault, not_both, one_reading}
 use Rattle.picture_laws.specs.Laws.{HasRecordOrFault, NeverBoth, OneSpelling, OneRecord, OneFault}
 use Rattle.picture_laws.specs.Elements.{elements}
 use Rattle.picture_laws.proofs.Told.{told-one}
@@ -19,20 +19,10 @@ use Rattle.picture_laws.proofs.ReadPictures.{walk-record}
 pub never-both : NeverBoth
 never-both format bits pic place why accepted fault =
     let read = accepted-read format bits pic accepted in
-    one_answer (picture format) bits read.0 place why read.1 fault
-
-not_good : {E : Type 0} (s : Step E) (why : Why) (e : E) (n : ℕ) → s ≡ Bad why → s ≡ Good e n → ⊥
-not_good s why e n bad good = cc
-
-same_why : {E : Type 0} (s : Step E) (why other : Why) → s ≡ Bad why → s ≡ Bad other → why ≡ other
-same_why s why other p q = cc
+    not_both (picture format) bits read.0 place why read.1 fault
 
 pub one-fault : OneFault
-one-fault format bits p q why other a b =
-    let same = same_walk (picture format) [] (start bits) a.1 b.1 a.0 b.0 a.2 b.2 (λ e n good. not_good (picture format (after [] a.0) a.1) why e n a.3 good) (λ e n good. not_good (picture format (after [] b.0) b.1) other e n b.3 good) in
-    let moved = subst (λ es. picture format (after [] es) b.1 ≡ Bad other) (sym same.0) b.3 in
-    let here = subst (λ end. picture format (after [] a.0) end ≡ Bad other) (sym same.1) moved in
-    (a.4 ∙ (ap (λ (r : List Bool × ℕ). r.1) same.1 ∙ sym b.4), same_why (picture format (after [] a.0) a.1) why other a.3 here)
+one-fault format bits p q why other a b = one_fault (picture format) bits p q why other a b
 
 -- ---- there is an answer
 
