@@ -12,7 +12,7 @@ use Rattle.pel_model.specs.Spelling.{GroupForm, LeftOut, Sent, GroupFits, Groups
 use Rattle.pel_model.specs.Accepts.{Accepts}
 use Rattle.pel_model.specs.Walk.{after, Goes}
 use Rattle.pel_model.specs.Grammar as grammar
-use Rattle.pel_model.specs.Grammar.{Slot, quant, Cbp, Tcoeff, Element, Psc, Tr, Ptype, Gbsc, Gn, Gquant, Gei, Gspare, Stuffing, Mba, Mtype, AtGroup, AtGquant, AtMacroblock, slot, may_end, next}
+use Rattle.pel_model.specs.Grammar.{address, vector, Eob, Slot, quant, Cbp, Tcoeff, Element, Psc, Tr, Ptype, Gbsc, Gn, Gquant, Gei, Gspare, Stuffing, Mba, Mtype, AtGroup, AtGquant, AtMacroblock, slot, may_end, next}
 use Rattle.pel_model.proofs.Walks.{after-append}
 use Rattle.picture_laws.specs.Laws.{StandInside}
 use Rattle.pel_model.specs.Elements.{dc_elements, block_elements}
@@ -39,6 +39,24 @@ inside-right (Gbsc ∷ xs) ys h = absurd h
 inside-right (Stuffing ∷ xs) ys h = absurd h
 inside-right (Mba n ∷ xs) ys h = absurd h
 inside-right (_ ∷ xs) ys h = inside-right xs ys h
+
+pub inside-append : (xs ys : List Element) → AreInside xs → AreInside ys → AreInside (xs ++ ys)
+inside-append [] ys h k = k
+inside-append (Gbsc ∷ xs) ys h k = absurd h
+inside-append (Stuffing ∷ xs) ys h k = absurd h
+inside-append (Mba n ∷ xs) ys h k = absurd h
+inside-append (_ ∷ xs) ys h k = inside-append xs ys h k
+
+pub inside-coefficients : (cs : List Coefficient) → AreInside (map Tcoeff cs)
+inside-coefficients [] = tt
+inside-coefficients (c ∷ cs) = inside-coefficients cs
+
+inside_dc : (dc : Option ℕ) → AreInside (dc_elements dc)
+inside_dc None = tt
+inside_dc (Some n) = tt
+
+pub inside-block : (b : Block) → AreInside (block_elements b)
+inside-block b = inside-append (dc_elements b.dc ++ map Tcoeff b.coefficients) (Eob ∷ []) (inside-append (dc_elements b.dc) (map Tcoeff b.coefficients) (inside_dc b.dc) (inside-coefficients b.coefficients)) tt
 
 -- where a macroblock or a group is due and none of these elements is one, there are none
 no_more : (format : Format) (before es : List Element) → slot before ≡ AtMacroblock → IsRest format before es → AreInside es → es ≡ []
@@ -261,6 +279,9 @@ joined format before number quant ms es more r end g goes m none =
       elements = is;
       bits = walk.bits ∙ ap (λ t. t ++ end.0) text;
       text = text-snoc None ms m.m;
+      address_is = ap (λ t. address (after (after before es) t)) is ∙ says.1.address_is;
+      vector_is = λ axis. ap (λ t. vector axis (after (after before es) t)) is ∙ says.1.vector_is axis;
+      quant_is = ap (λ t. grammar.quant (after (after before es) t)) is ∙ macroblock-quant (after before es) (last_of None ms) m.m;
       so_far = record {
         spares = g.spares;
         stuffings = g.stuffings;

@@ -18,7 +18,7 @@ use Rattle.picture_laws.specs.Elements.{blocks_elements, mquant_elements, pair_i
 use Rattle.picture_laws.proofs.Words.{field-number}
 use Rattle.picture_laws.proofs.Vectors.{pair-of, predictor-small}
 use Rattle.picture_laws.proofs.Blocks.{all-head, all-tail}
-use Rattle.picture_laws.proofs.Macroblocks.{component_small, both_axes}
+use Rattle.picture_laws.proofs.Macroblocks.{component_small, both_axes, body}
 use Rattle.picture_laws.proofs.ReadMacroblocks.{predictor_same, begun_macroblock, join3}
 use Rattle.picture_laws.proofs.Groups.{RiseFrom}
 use Rattle.picture_laws.proofs.ReadGroups.{empty}
@@ -216,21 +216,36 @@ last_of format number m some valid =
     let d = component_small format number Down m valid.down in
     (some, both_axes (λ axis. nat_abs (component axis m) ≤ 15) a.0 d.0, both_axes (λ axis. has_vector m.kind ≡ false → component axis m ≡ pos 0) a.1 d.1)
 
+told_next : (fuel n : ℕ) (last : Option Macroblock) (es more rest : List Element) (m : Macroblock) (ms : List Macroblock) → told_macroblock last (Mba n ∷ es) ≡ (m, more) → told_macroblocks fuel (Some m) more ≡ (ms, rest) → told_macroblocks (suc fuel) last (Mba n ∷ es) ≡ (m ∷ ms, rest)
+unfolding told_macroblocks
+told_next fuel n last es more rest m ms one later =
+    ap (λ (r : Macroblock × List Element). (r.0 ∷ (told_macroblocks fuel (Some r.0) r.1).0, (told_macroblocks fuel (Some r.0) r.1).1)) one
+    ∙ ap (λ (r : List Macroblock × List Element). (m ∷ r.0, r.1)) later
+
+-- what stands behind a macroblock
+abbrev behind_one : Macroblock → List ℕ → List Macroblock → List Element → List Element
+behind_one m behind ms rest = replicate (get_or behind 0 0) Stuffing ++ (macroblocks_elements (Some m) (drop 1 behind) ms ++ rest)
+
+first_apart : (last : Option Macroblock) (behind : List ℕ) (m : Macroblock) (ms : List Macroblock) (rest : List Element) → macroblocks_elements last behind (m ∷ ms) ++ rest ≡ macroblock_elements last m ++ behind_one m behind ms rest
+first_apart last behind m ms rest = sym (join3 (macroblock_elements last m) (replicate (get_or behind 0 0) Stuffing) (macroblocks_elements (Some m) (drop 1 behind) ms) rest)
+
+fewer_behind : (fuel : ℕ) (last : Option Macroblock) (behind : List ℕ) (m : Macroblock) (ms : List Macroblock) (rest : List Element) → length (macroblocks_elements last behind (m ∷ ms) ++ rest) ≤ suc fuel → length (behind_one m behind ms rest) ≤ fuel
+fewer_behind fuel last behind m ms rest few =
+    omega (arith, few, ap length (first_apart last behind m ms rest), length-append (macroblock_elements last m) (behind_one m behind ms rest))
+
 macroblocks_again : (fuel : ℕ) (format : Format) (number : ℕ) (last : Option Macroblock) (n : ℕ) (behind : List ℕ) (ms : List Macroblock) (rest : List Element) → length (replicate n Stuffing ++ (macroblocks_elements last behind ms ++ rest)) ≤ fuel → IsLast last → AddressesRise (address_of last) ms → All (IsValidMacroblock format number) ms → Opens rest → told_macroblocks fuel last (replicate n Stuffing ++ (macroblocks_elements last behind ms ++ rest)) ≡ (ms, rest)
 unfolding told_macroblocks
 macroblocks_again fuel format number last zero behind [] rest few is rise valid opening = opens_none fuel last rest opening
 macroblocks_again zero format number last (suc n) behind ms rest few is rise valid opening = absurd (omega (arith, few))
-macroblocks_again (suc fuel) format number last (suc n) behind ms rest few is rise valid opening = macroblocks_again fuel format number last n behind ms rest (omega (arith, few)) is rise valid opening
+macroblocks_again (suc fuel) format number last (suc n) behind ms rest few is rise valid opening =
+    macroblocks_again fuel format number last n behind ms rest (omega (arith, few)) is rise valid opening
 macroblocks_again zero format number last zero behind (m ∷ ms) rest few is rise valid opening = absurd (omega (arith, few))
 macroblocks_again (suc fuel) format number last zero behind (m ∷ ms) rest few is rise valid opening =
-    let parts : macroblocks_elements last behind (m ∷ ms) ++ rest ≡ macroblock_elements last m ++ (replicate (get_or behind 0 0) Stuffing ++ (macroblocks_elements (Some m) (drop 1 behind) ms ++ rest)) =
-    sym (join3 (macroblock_elements last m) (replicate (get_or behind 0 0) Stuffing) (macroblocks_elements (Some m) (drop 1 behind) ms) rest) in
-    let one = macroblock_again format number last m (replicate (get_or behind 0 0) Stuffing ++ (macroblocks_elements (Some m) (drop 1 behind) ms ++ rest)) is rise.0 (all-head (IsValidMacroblock format number) m ms valid) in
-    let fits : length (replicate (get_or behind 0 0) Stuffing ++ (macroblocks_elements (Some m) (drop 1 behind) ms ++ rest)) ≤ fuel = omega (arith, few, ap length parts, length-append (macroblock_elements last m) (replicate (get_or behind 0 0) Stuffing ++ (macroblocks_elements (Some m) (drop 1 behind) ms ++ rest))) in
-    let later = macroblocks_again fuel format number (Some m) (get_or behind 0 0) (drop 1 behind) ms rest fits (last_of format number m (omega (arith, rise.0)) (all-head (IsValidMacroblock format number) m ms valid)) rise.2 (all-tail (IsValidMacroblock format number) m ms valid) opening in
-    ap (told_macroblocks (suc fuel) last) parts
-    ∙ (ap (λ (r : Macroblock × List Element). (r.0 ∷ (told_macroblocks fuel (Some r.0) r.1).0, (told_macroblocks fuel (Some r.0) r.1).1)) one
-    ∙ ap (λ (r : List Macroblock × List Element). (m ∷ r.0, r.1)) later)
+    let ok = all-head (IsValidMacroblock format number) m ms valid in
+    ap (told_macroblocks (suc fuel) last) (first_apart last behind m ms rest)
+    ∙ told_next fuel (m.address - address_of last) last (Mtype m.kind ∷ body last m ++ behind_one m behind ms rest) (behind_one m behind ms rest) rest m ms
+    (macroblock_again format number last m (behind_one m behind ms rest) is rise.0 ok)
+    (macroblocks_again fuel format number (Some m) (get_or behind 0 0) (drop 1 behind) ms rest (fewer_behind fuel last behind m ms rest few) (last_of format number m (omega (arith, rise.0)) ok) rise.2 (all-tail (IsValidMacroblock format number) m ms valid) opening)
 
 -- ---- groups
 

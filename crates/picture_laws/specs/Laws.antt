@@ -75,6 +75,12 @@ pub record IsJudged (format : Format) (before : List Element) (r : List Bool × 
 abbrev pub JudgedByTheLimit : Type 0
 JudgedByTheLimit = (format : Format) (before : List Element) (r : List Bool × ℕ) → IsJudged format before r
 
+-- good elements of a picture are good whatever its length
+abbrev pub WithoutTheLimit : Type 0
+WithoutTheLimit =
+    (format : Format) (before : List Element) (r end : List Bool × ℕ) (es : List Element)
+    → Goes (picture format) before r es end → Goes (next format) before r es end
+
 -- elements none of which stands where a lawful end can be
 abbrev pub StandInside : List Element → List Element → Type 0
 StandInside before [] = Unit {0}

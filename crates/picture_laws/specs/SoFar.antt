@@ -94,12 +94,16 @@ StuffingJoins =
     (format : Format) (before : List Element) (number quant : ℕ) (ms : List Macroblock) (es : List Element)
     → IsGroupSoFar format before number quant ms es → IsGroupSoFar format before number quant ms (es ++ Stuffing ∷ [])
 
--- a macroblock that was read behind these: its bits are its text, and it is the group's next
+-- a macroblock that was read behind these: its bits are its text, its address, vector and quantiser are those that the
+-- elements say, and it is the group's next
 pub record IsJoined (format : Format) (before : List Element) (number quant : ℕ) (ms : List Macroblock) (es more : List Element) (r end : List Bool × ℕ) : Type 0 where
   pub macroblock : Macroblock
   pub elements : more ≡ macroblock_elements (last_of None ms) macroblock
   pub bits : r.0 ≡ macroblock_text (last_of None ms) macroblock ++ end.0
   pub text : macroblocks_text None (ms ++ macroblock ∷ []) ≡ macroblocks_text None ms ++ macroblock_text (last_of None ms) macroblock
+  pub address_is : address (after (after before es) more) ≡ macroblock.address
+  pub vector_is : (axis : Axis) → vector axis (after (after before es) more) ≡ component axis macroblock
+  pub quant_is : grammar.quant (after (after before es) more) ≡ quant_behind (grammar.quant (after before es)) macroblock.mquant
   pub so_far : IsGroupSoFar format before number quant (ms ++ macroblock ∷ []) (es ++ more)
 
 abbrev pub MacroblockJoins : Type 0

@@ -2,7 +2,7 @@
 //! function does nothing; its contract is the law, whose words stand in `specs/`.
 #![tactic(auto)]
 
-ghost use Rattle.picture_laws.specs.Laws.{TextIsAccepted, AcceptedIsRead, WalkHasRecord, HasRecordOrFault, NeverBoth, OneSpelling, OneRecord, OneFault, GoodOverFirst, GoodOverAll, JudgedByTheLimit, WithinTheLimit, PastTheLimit, KeptLength};
+ghost use Rattle.picture_laws.specs.Laws.{TextIsAccepted, AcceptedIsRead, WalkHasRecord, HasRecordOrFault, NeverBoth, OneSpelling, OneRecord, OneFault, GoodOverFirst, GoodOverAll, JudgedByTheLimit, WithoutTheLimit, WithinTheLimit, PastTheLimit, KeptLength};
 ghost use Rattle.picture_laws.specs.SoFar.{InsideStands, GroupBegins, StuffingJoins, MacroblockJoins, HeaderBegins, GroupIsLeftOut, GroupIsSent, PictureIsTold, PictureIsAccepted};
 
 /// The strict text of a valid picture within the limit is accepted with that picture.
@@ -35,6 +35,7 @@ pub fn limit_is_read_by_a_cut()
     ensures over_first { GoodOverFirst }
     ensures over_all { GoodOverAll }
     ensures judged { JudgedByTheLimit }
+    ensures without { WithoutTheLimit }
     ensures within { WithinTheLimit }
     ensures past { PastTheLimit }
 {}
