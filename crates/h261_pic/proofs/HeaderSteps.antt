@@ -1,7 +1,8 @@
 -- What stands at the slots of a header: a start code, and fields of a width.
-use Rattle.std.proofs.Common.{◌≡◌, ◌≢◌, ℕ, ◌+◌, ◌-◌, ◌*◌, ◌/◌, ◌^◌, ◌≤◌, ◌<◌, ◌==◌, ◌||◌, Bool, true, false, cond, List, [], ◌∷◌, length, take, Some, None, nat_lt, min, if◌then◌else◌, refl, sym, ◌∙◌, ap, subst, arith, div-lt_iff_lt-mul, pow_pos, pow-add, length-take}
+use Rattle.std.proofs.Common.{◌≡◌, ◌≢◌, ℕ, ◌+◌, ◌-◌, ◌*◌, ◌/◌, ◌^◌, ◌≤◌, ◌<◌, ◌==◌, ◌||◌, Bool, true, false, cond, List, [], ◌∷◌, ◌++◌, length, take, Some, None, nat_lt, min, if◌then◌else◌, refl, sym, ◌∙◌, ap, subst, arith, div-lt_iff_lt-mul, pow_pos, pow-add, length-take}
 use Rattle.std.proofs.lemmas.Bool.{ltb-true, eqb-true}
-use Rattle.std.proofs.lemmas.List.{take_all}
+use Rattle.std.proofs.lemmas.List.{take_all, take-append-le}
+use Rattle.pel_bits.specs.Reading.{zeros}
 use Rattle.pel_bits.specs.Bits as bits
 use Rattle.pel_bits.proofs.Fields.{take-field, number-fits, field-number}
 use Rattle.pel_model.specs.declared.Format.{Format}
@@ -68,9 +69,13 @@ is_other_by n m false is h = refl
 pub is_other : (n m : ℕ) → n ≢ m → (n == m) ≡ false
 is_other n m h = is_other_by n m (n == m) refl h
 
+-- the bits that were peeked at
+pub peeked : (left : List Bool) (n k : ℕ) → k ≤ length left → n ≡ bits.number (take k (left ++ zeros k)) → n ≡ bits.number (take k left)
+peeked left n k fits is = is ∙ ap bits.number (take-append-le k left (zeros k) fits)
+
 -- ---- the start code
 
-begins_front : (word left : List Bool) → take (length word) left ≡ word → begins word left ≡ true
+pub begins_front : (word left : List Bool) → take (length word) left ≡ word → begins word left ≡ true
 begins_front [] left is = refl
 begins_front (b ∷ word) [] is = absurd cc
 begins_front (b ∷ word) (c ∷ left) is = same b c (cc) (begins_front word left cc)
@@ -81,7 +86,7 @@ begins_front (b ∷ word) (c ∷ left) is = same b c (cc) (begins_front word lef
     same true false is front = absurd cc
     same false true is front = absurd cc
 
-front_begins : (word left : List Bool) → begins word left ≡ true → take (length word) left ≡ word
+pub front_begins : (word left : List Bool) → begins word left ≡ true → take (length word) left ≡ word
 front_begins [] left is = refl
 front_begins (b ∷ word) [] is = absurd cc
 front_begins (true ∷ word) (true ∷ left) is = ap (λ (bs : List Bool). true ∷ bs) (front_begins word left is)
@@ -89,34 +94,35 @@ front_begins (false ∷ word) (false ∷ left) is = ap (λ (bs : List Bool). fal
 front_begins (true ∷ word) (false ∷ left) is = absurd cc
 front_begins (false ∷ word) (true ∷ left) is = absurd cc
 
-code-field : picture_start_code ≡ bits.field 16 20
+pub code-field : picture_start_code ≡ bits.field 16 20
 unfolding bits.field
 code-field = refl
 
--- the first k bits of the start code
-front_of_code : (k : ℕ) → k ≤ 20 → take k picture_start_code ≡ bits.field (16 / 2 ^ (20 - k)) k
-front_of_code k within =
-    let all : k + (20 - k) ≡ 20 = omega arith in
-    ap (take k) (code-field ∙ ap (bits.field 16) (sym all)) ∙ take-field 16 k (20 - k)
+-- a code that is the field of a number
+module _ (code : List Bool) (value total : ℕ) (code-is : code ≡ bits.field value total) (below : value < 2 ^ total) where
+  front_of_code : (k : ℕ) → k ≤ total → take k code ≡ bits.field (value / 2 ^ (total - k)) k
+  front_of_code k within =
+      let all : k + (total - k) ≡ total = omega arith in
+      ap (take k) (code-is ∙ ap (bits.field value) (sym all)) ∙ take-field value k (total - k)
 
-front-fits : (k : ℕ) → k ≤ 20 → 16 / 2 ^ (20 - k) < 2 ^ k
-front-fits k within =
-    let all : k + (20 - k) ≡ 20 = omega arith in
-    let product : 2 ^ 20 ≡ 2 ^ k * 2 ^ (20 - k) = ap (λ (n : ℕ). 2 ^ n) (sym all) ∙ pow-add 2 k (20 - k) in
-    (div-lt_iff_lt-mul (pow_pos (20 - k))).1 (subst (λ (n : ℕ). 16 < n) product (omega arith))
+  front-fits : (k : ℕ) → k ≤ total → value / 2 ^ (total - k) < 2 ^ k
+  front-fits k within =
+      let all : k + (total - k) ≡ total = omega arith in
+      let product : 2 ^ total ≡ 2 ^ k * 2 ^ (total - k) = ap (λ (n : ℕ). 2 ^ n) (sym all) ∙ pow-add 2 k (total - k) in
+      (div-lt_iff_lt-mul (pow_pos (total - k))).1 (subst (λ (n : ℕ). value < n) product below)
 
--- a front of the bits is one of the start code where it spells the number of that
-module _ (left : List Bool) (n k : ℕ) (within : k ≤ 20) (fits : k ≤ length left) (is : n ≡ bits.number (take k left)) where
-  pub is_front : n ≡ 16 / 2 ^ (20 - k) → take k left ≡ take k picture_start_code
-  is_front same =
-      let len : length (take k left) ≡ k = omega (arith, length-take k left) in
-      sym (field-number (take k left))
-      ∙ (ap (bits.field (bits.number (take k left))) len
-      ∙ (ap (λ (m : ℕ). bits.field m k) (sym is ∙ same) ∙ sym (front_of_code k within)))
+  -- a front of the bits is one of the code where it spells the number of that
+  module _ (left : List Bool) (n k : ℕ) (within : k ≤ total) (is : n ≡ bits.number (take k left)) where
+    pub is_front : k ≤ length left → n ≡ value / 2 ^ (total - k) → take k left ≡ take k code
+    is_front fits same =
+        let len : length (take k left) ≡ k = omega (arith, length-take k left) in
+        sym (field-number (take k left))
+        ∙ (ap (bits.field (bits.number (take k left))) len
+        ∙ (ap (λ (m : ℕ). bits.field m k) (sym is ∙ same) ∙ sym (front_of_code k within)))
 
-  pub is_number : take k left ≡ take k picture_start_code → n ≡ 16 / 2 ^ (20 - k)
-  is_number same =
-      is ∙ (ap bits.number (same ∙ front_of_code k within) ∙ number-fits (16 / 2 ^ (20 - k)) k (front-fits k within))
+    pub is_number : take k left ≡ take k code → n ≡ value / 2 ^ (total - k)
+    is_number same =
+        is ∙ (ap bits.number (same ∙ front_of_code k within) ∙ number-fits (value / 2 ^ (total - k)) k (front-fits k within))
 
 code-length : length picture_start_code ≡ 20
 code-length = refl
@@ -128,15 +134,15 @@ at-psc left = refl
 found : (left : List Bool) (here : Bool) → begins picture_start_code left ≡ here → read (word_row picture_start_code Psc ∷ []) left ≡ word_at (word_row picture_start_code Psc ∷ []) left (cond here (Some (word_row picture_start_code Psc)) None)
 found left here is = ap (λ (b : Bool). word_at (word_row picture_start_code Psc ∷ []) left (cond b (Some (word_row picture_start_code Psc)) None)) is
 
-not_less : (a b : ℕ) (less : Bool) → nat_lt a b ≡ less → b ≤ a → less ≡ false
+pub not_less : (a b : ℕ) (less : Bool) → nat_lt a b ≡ less → b ≤ a → less ≡ false
 not_less a b true is h = absurd (omega (arith, ltb-true a b is))
 not_less a b false is h = refl
 
-is_false : (b : Bool) → (b ≡ true → ⊥) → b ≡ false
+pub is_false : (b : Bool) → (b ≡ true → ⊥) → b ≡ false
 is_false true h = absurd (h refl)
 is_false false h = refl
 
-or_none : (b : Bool) → b ≡ false → (b || false) ≡ false
+pub or_none : (b : Bool) → b ≡ false → (b || false) ≡ false
 or_none b is = ap (λ (c : Bool). c || false) is
 
 module _ (format : Format) (before : List Element) (r : List Bool × ℕ) (due : slot before ≡ AtPsc) where
@@ -172,7 +178,7 @@ module _ (format : Format) (before : List Element) (r : List Bool × ℕ) (due :
       start-none
       (λ whole. let long : 20 ≤ length r.0 = begins_length picture_start_code r.0 whole in
       let k_is : k ≡ 20 = omega arith in
-      differs (is_number r.0 n k (omega arith) (omega arith) seen (ap (λ (m : ℕ). take m r.0) k_is ∙ (front_begins picture_start_code r.0 whole ∙ ap (λ (m : ℕ). take m picture_start_code) (sym k_is)))))
+      differs (is_number picture_start_code 16 20 code-field (omega arith) r.0 n k (omega arith) seen (ap (λ (m : ℕ). take m r.0) k_is ∙ (front_begins picture_start_code r.0 whole ∙ ap (λ (m : ℕ). take m picture_start_code) (sym k_is)))))
       (λ front. let short : length r.0 ≤ 20 = begins_length r.0 picture_start_code front in
       let k_is : k ≡ length r.0 = omega arith in
-      differs (is_number r.0 n k (omega arith) (omega arith) seen (take_all k r.0 (omega arith) ∙ (sym (front_begins r.0 picture_start_code front) ∙ ap (λ (m : ℕ). take m picture_start_code) (sym k_is)))))
+      differs (is_number picture_start_code 16 20 code-field (omega arith) r.0 n k (omega arith) seen (take_all k r.0 (omega arith) ∙ (sym (front_begins r.0 picture_start_code front) ∙ ap (λ (m : ℕ). take m picture_start_code) (sym k_is)))))

@@ -7,3 +7,4 @@ pub mod ValidPictures
 pub mod HeaderSteps
 pub mod Spares
 pub mod HeaderWalks
+pub mod Comings

@@ -1,9 +1,10 @@
-//! Headers as senders may write them, and the first fault of others.
+//! Headers as senders may write them, what comes behind them, and the first fault of others.
 
-use crate::{GroupHeader, read_group_header, read_picture_header};
+use crate::Coming::{End, Group, Macroblock, Stuffing};
+use crate::{GroupHeader, read_group_header, read_picture_header, take_coming};
 use pel_bits::{Bits, Reader};
 use pel_model::Format::{Cif, Qcif};
-use pel_model::Why::{BadGroup, BadQuant, Cut, NoStart, StillImage, WrongFormat};
+use pel_model::Why::{BadGroup, BadQuant, Cut, NoCode, NoStart, StillImage, WrongFormat};
 use pel_model::{Fault, Why};
 
 // Up to 64 digits, at the front of eight octets.
@@ -69,6 +70,28 @@ fn group_headers(rt: HostRuntime) {
         let octets = octets(digits);
         let mut r = reader(&octets, digits);
         assert_eq!(rt; read_group_header(&mut r, format, last), result);
+        assert_eq!(rt; r.place(), place);
+    }
+}
+
+#[test]
+fn what_comes_where_a_macroblock_may(rt: HostRuntime) {
+    for (digits, (result, place)) in [
+        ("", (Ok(End), 0)),
+        ("0000000", (Ok(End), 0)),
+        ("00000000", at(0, Cut)),
+        ("0000000000000", at(0, Cut)),
+        ("0000000000000000", at(0, NoCode)),
+        ("00000000000011", at(0, NoCode)),
+        ("000000000000000100", (Ok(Group), 16)),
+        ("0000000111100", (Ok(Stuffing), 11)),
+        ("000000011", at(0, Cut)),
+        ("011", (Ok(Macroblock), 0)),
+        ("01", at(0, Cut)),
+    ] {
+        let octets = octets(digits);
+        let mut r = reader(&octets, digits);
+        assert_eq!(rt; take_coming(&mut r), result);
         assert_eq!(rt; r.place(), place);
     }
 }

@@ -1,13 +1,7 @@
-use Rattle.std.proofs.Common.{◌≡◌, ℕ, ◌≤◌, ◌++◌, List, Bool, length, take, refl, ◌∙◌, ap, arith}
-use Rattle.std.proofs.lemmas.List.{take-append-le}
-use Rattle.pel_bits.specs.Bits.{number}
-use Rattle.pel_bits.specs.Reading.{zeros}
-use Rattle.h261_pic.proofs.HeaderSteps.{start-good, start-cut, other-number, is_front}
+use Rattle.std.proofs.Common.{◌≡◌, refl, arith}
+use Rattle.pel_model.specs.Codes.{picture_start_code}
+use Rattle.h261_pic.proofs.HeaderSteps.{start-good, start-cut, other-number, is_front, code-field, peeked}
 use Rattle.h261_pic.proofs.input_headers.take_start.Goals as goal
-
--- the bits that were peeked at
-peeked : (left : List Bool) (n k : ℕ) → k ≤ length left → n ≡ number (take k (left ++ zeros k)) → n ≡ number (take k left)
-peeked left n k fits is = is ∙ ap number (take-append-le k left (zeros k) fits)
 
 pub returns-then-peek-width : goal.returns-then-peek-width
 returns-then-peek-width c = λ format before due.
@@ -19,12 +13,12 @@ pub returns-then-width-lt20 : goal.returns-then-width-lt20
 returns-then-width-lt20 c = λ format before due.
     let k = c.min-width.result in
     let left = c.args.r.now.0 in
-    (start-cut format before c.args.r.now due k (omega arith) (omega arith) (is_front left c.peek.result k (omega arith) (omega arith) (peeked left c.peek.result k (omega arith) c.peek.ensures) c.if-peek-width.false), c.place-place.ensures, refl)
+    (start-cut format before c.args.r.now due k (omega arith) (omega arith) (is_front picture_start_code 16 20 code-field (omega arith) left c.peek.result k (omega arith) (peeked left c.peek.result k (omega arith) c.peek.ensures) (omega arith) c.if-peek-width.false), c.place-place.ensures, refl)
 
 pub returns : goal.returns
 returns c = λ format before due.
     let k = c.min-width.result in
     let left = c.args.r.now.0 in
-    let same = is_front left c.peek.result k (omega arith) (omega arith) (peeked left c.peek.result k (omega arith) c.peek.ensures) c.if-peek-width.false in
+    let same = is_front picture_start_code 16 20 code-field (omega arith) left c.peek.result k (omega arith) (peeked left c.peek.result k (omega arith) c.peek.ensures) (omega arith) c.if-peek-width.false in
     let k_is : k ≡ 20 = omega arith in
     (20, start-good format before c.args.r.now due (omega arith) (rw k_is at same), c.skip.ensures)

@@ -1,0 +1,74 @@
+//! What comes behind a group's header, a macroblock or stuffing (H.261, 4.2.2 and 4.2.3).
+#![tactic(auto)]
+
+ghost use Rattle.std.specs.Prelude.{◌≡◌, ◌≤◌, false, List};
+ghost use Rattle.pel_model.specs.declared.Format.{Format};
+ghost use Rattle.pel_model.specs.declared.Why.{Why as Reason};
+ghost use Rattle.pel_model.specs.Grammar.{Element, slot, AtMacroblock, is_end as is_end_of, mba_rows, next};
+ghost use Rattle.pel_model.specs.Walk.{Bad, read};
+ghost use Rattle.h261_pic.specs.Comes.{Comes};
+
+use pel_bits::Reader;
+use pel_model::{Fault, Why};
+use vlc_codes::{MbaRow, mba};
+
+/// What stands where a macroblock may.
+#[derive(Clone, Copy, Debug, PartialEq, Eq)]
+pub enum Coming {
+    /// The picture's end: at most 7 bits are left, and all are 0.
+    End,
+    /// The next group, whose start code was taken.
+    Group,
+    /// Stuffing, which was taken.
+    Stuffing,
+    /// A macroblock, whose MBA stands at the reader's place.
+    Macroblock,
+}
+
+/// Says what comes where a macroblock may, and takes a start code or stuffing. At a fault, NoCode or Cut, the reader has
+/// not moved; it is judged over all words that may stand there.
+pub fn take_coming(r: &mut Reader<'_>) -> Result<Coming, Fault>
+    ensures { (format : Format) (before : List Element) → slot before ≡ AtMacroblock →
+        Comes (next format before r.old) result r.old r.new }
+{
+    if is_end(r) {
+        return Ok(Coming::End);
+    }
+    let mut ahead = r.copy();
+    match mba(&mut ahead) {
+        Ok(MbaRow::Step(_)) => Ok(Coming::Macroblock),
+        Ok(MbaRow::Stuffing) => {
+            *r = ahead;
+            Ok(Coming::Stuffing)
+        }
+        Err(why) => take_group_code(r, why),
+    }
+}
+
+// At most 7 bits are left, and all are 0.
+fn is_end(r: &Reader<'_>) -> bool
+    ensures { result ≡ is_end_of r.now.0 }
+{
+    let left = r.left();
+    left < 8 && r.peek(left) == 0
+}
+
+// Takes GBSC (4.2.2.1), where no word of MBA stands for that reason.
+fn take_group_code(r: &mut Reader<'_>, why: Why) -> Result<Coming, Fault>
+    ensures { (format : Format) (before : List Element) → slot before ≡ AtMacroblock → is_end_of r.old.0 ≡ false →
+        read mba_rows r.old.0 ≡ Bad why → Comes (next format before r.old) result r.old r.new }
+{
+    let place = r.place();
+    let width = r.left().min(16);
+    if r.peek(width) != 1 >> (16 - width) {
+        return Err(Fault { place, why });
+    }
+    if width < 16 {
+        return Err(Fault {
+            place,
+            why: Why::Cut,
+        });
+    }
+    r.skip(16);
+    Ok(Coming::Group)
+}
