@@ -9,7 +9,7 @@ use Rattle.pel_model.specs.declared.Why.{Why}
 use Rattle.pel_model.specs.declared.Why.TheVariants.{Cut, NoCode}
 use Rattle.pel_model.specs.Codes.{begins, group_start_code, mba_table}
 use Rattle.pel_model.specs.Walk.{Step, Good, Bad, Stop, Row, read, cause, whole_word, word_at, judged}
-use Rattle.pel_model.specs.Grammar.{Element, Gbsc, Stuffing, slot, AtMacroblock, at_slot, is_end, rows, mba_rows, gbsc_row, next}
+use Rattle.pel_model.specs.Grammar.{Element, Gbsc, Stuffing, Slot, slot, AtGroup, AtMacroblock, at_slot, is_end, rows, mba_rows, gbsc_row, next}
 use Rattle.pel_model.proofs.Steps.{judge, next-at, judged-good, judged-none}
 use Rattle.vlc_codes.proofs.WordLaws.{either_way, and_left, and_right, begins_length, begins_longer, cause-cut}
 use Rattle.h261_mb.proofs.Words.{read_front}
@@ -29,15 +29,24 @@ pub group-field : group_start_code ≡ bits.field 1 16
 unfolding bits.field
 group-field = refl
 
-at-macroblock : (left : List Bool) → is_end left ≡ false → at_slot AtMacroblock left ≡ read (mba_rows ++ gbsc_row ∷ []) left
+pub at-macroblock : (left : List Bool) → is_end left ≡ false → at_slot AtMacroblock left ≡ read (mba_rows ++ gbsc_row ∷ []) left
 unfolding rows
 at-macroblock left is = ap (λ (b : Bool). cond b Stop (read (mba_rows ++ gbsc_row ∷ []) left)) is
+
+-- behind a picture header the start code alone may stand
+pub at-group : (left : List Bool) → is_end left ≡ false → at_slot AtGroup left ≡ read (gbsc_row ∷ []) left
+unfolding rows
+at-group left is = ap (λ (b : Bool). cond b Stop (read (gbsc_row ∷ []) left)) is
+
+at-first-end : (left : List Bool) → is_end left ≡ true → at_slot AtGroup left ≡ Stop
+unfolding rows
+at-first-end left is = ap (λ (b : Bool). cond b Stop (read (gbsc_row ∷ []) left)) is
 
 at-end : (left : List Bool) → is_end left ≡ true → at_slot AtMacroblock left ≡ Stop
 unfolding rows
 at-end left is = ap (λ (b : Bool). cond b Stop (read (mba_rows ++ gbsc_row ∷ []) left)) is
 
-no_tails : list_all (λ (row : Row Element). row.tail == 0) mba_rows ≡ true
+pub no_tails : list_all (λ (row : Row Element). row.tail == 0) mba_rows ≡ true
 unfolding mba_table
 no_tails = refl
 
@@ -94,18 +103,18 @@ module _ (left : List Bool) where
   same_bad : (why other : Why) → ◌≡◌ {A = Step Element} (Bad why) (Bad other) → why ≡ other
   same_bad why other same = cc
 
-  module _ (why : Why) (is : read mba_rows left ≡ Bad why) where
-    none : front mba_rows ≡ None
-    none = none_found mba_rows mba_rows why no_tails is
+  module _ (words : List (Row Element)) (plain : list_all (λ (row : Row Element). row.tail == 0) words ≡ true) (why : Why) (is : read words left ≡ Bad why) where
+    none : front words ≡ None
+    none = none_found words words why plain is
 
-    reason : cause (map (λ (row : Row Element). row.code) mba_rows) left ≡ why
-    reason = same_bad _ why (ap (word_at mba_rows left) (sym none) ∙ is)
+    reason : cause (map (λ (row : Row Element). row.code) words) left ≡ why
+    reason = same_bad _ why (ap (word_at words left) (sym none) ∙ is)
 
     abbrev union : List (Row Element)
-    union = mba_rows ++ gbsc_row ∷ []
+    union = words ++ gbsc_row ∷ []
 
     at_code : (here : Bool) → begins group_start_code left ≡ here → read union left ≡ word_at union left (cond here (Some gbsc_row) None)
-    at_code here h = ap (word_at union left) (found_behind mba_rows (gbsc_row ∷ []) none ∙ ap (λ (b : Bool). cond b (Some gbsc_row) None) h)
+    at_code here h = ap (word_at union left) (found_behind words (gbsc_row ∷ []) none ∙ ap (λ (b : Bool). cond b (Some gbsc_row) None) h)
 
     -- a start code; a front of one; or what the words of MBA say
     pub group-good : 16 ≤ length left → take 16 left ≡ take 16 group_start_code → read union left ≡ Good Gbsc 16
@@ -117,7 +126,7 @@ module _ (left : List Bool) where
     group-cut k len short same =
         let begun : take (length left) group_start_code ≡ left =
         ap (λ (n : ℕ). take n group_start_code) (sym len) ∙ (sym same ∙ take_all k left (omega (arith, len))) in
-        let cut : is_cut union ≡ true = cut_either mba_rows gbsc_row ∙ or_true (is_cut mba_rows) (begins left group_start_code) (begins_front left group_start_code begun) in
+        let cut : is_cut union ≡ true = cut_either words gbsc_row ∙ or_true (is_cut words) (begins left group_start_code) (begins_front left group_start_code begun) in
         at_code false (begins_longer group_start_code left (omega (arith, len))) ∙ ap Bad (cause-cut (map (λ (row : Row Element). row.code) union) left cut)
       where
         or_true : (a b : Bool) → b ≡ true → (a || b) ≡ true
@@ -126,7 +135,7 @@ module _ (left : List Bool) where
 
     pub group-none : (begins group_start_code left ≡ true → ⊥) → (begins left group_start_code ≡ true → ⊥) → read union left ≡ Bad why
     group-none not_whole not_front =
-        let same : is_cut union ≡ is_cut mba_rows = cut_either mba_rows gbsc_row ∙ or_false (is_cut mba_rows) (begins left group_start_code) (is_false (begins left group_start_code) not_front) in
+        let same : is_cut union ≡ is_cut words = cut_either words gbsc_row ∙ or_false (is_cut words) (begins left group_start_code) (is_false (begins left group_start_code) not_front) in
         at_code false (is_false (begins group_start_code left) not_whole)
         ∙ ap Bad (ap (λ (cut : Bool). if cut then Cut else NoCode) same ∙ reason)
       where
@@ -136,37 +145,40 @@ module _ (left : List Bool) where
 
 -- ---- the step of the grammar
 
-module _ (format : Format) (before : List Element) (r : List Bool × ℕ) (due : slot before ≡ AtMacroblock) where
-  pub at-the-end : is_end r.0 ≡ true → next format before r ≡ Stop
-  at-the-end is = next-at format before r AtMacroblock due ∙ ap (judged (judge format before)) (at-end r.0 is)
+module _ (format : Format) (before : List Element) (r : List Bool × ℕ) where
+  pub at-the-end : slot before ≡ AtMacroblock → is_end r.0 ≡ true → next format before r ≡ Stop
+  at-the-end due is = next-at format before r AtMacroblock due ∙ ap (judged (judge format before)) (at-end r.0 is)
 
-  module _ (goes_on : is_end r.0 ≡ false) where
-    pub stuffing-comes : (n : ℕ) → read mba_rows r.0 ≡ Good Stuffing n → next format before r ≡ Good Stuffing n
-    stuffing-comes n is =
-        next-at format before r AtMacroblock due
-        ∙ judged-good (judge format before) Stuffing n (at_slot AtMacroblock r.0) (at-macroblock r.0 goes_on ∙ read_front r.0 Stuffing n mba_rows (gbsc_row ∷ []) is) refl
+  pub at-the-first-end : slot before ≡ AtGroup → is_end r.0 ≡ true → next format before r ≡ Stop
+  at-the-first-end due is = next-at format before r AtGroup due ∙ ap (judged (judge format before)) (at-first-end r.0 is)
 
-    module _ (why : Why) (is : read mba_rows r.0 ≡ Bad why) where
-      pub group-comes : 16 ≤ length r.0 → take 16 r.0 ≡ take 16 group_start_code → next format before r ≡ Good Gbsc 16
-      group-comes long same =
-          next-at format before r AtMacroblock due
-          ∙ judged-good (judge format before) Gbsc 16 (at_slot AtMacroblock r.0) (at-macroblock r.0 goes_on ∙ group-good r.0 why is long same) refl
+  pub stuffing-comes : slot before ≡ AtMacroblock → is_end r.0 ≡ false → (n : ℕ) → read mba_rows r.0 ≡ Good Stuffing n → next format before r ≡ Good Stuffing n
+  stuffing-comes due goes_on n is =
+      next-at format before r AtMacroblock due
+      ∙ judged-good (judge format before) Stuffing n (at_slot AtMacroblock r.0) (at-macroblock r.0 goes_on ∙ read_front r.0 Stuffing n mba_rows (gbsc_row ∷ []) is) refl
 
-      pub group-is-cut : (k : ℕ) → k ≡ length r.0 → k < 16 → take k r.0 ≡ take k group_start_code → next format before r ≡ Bad Cut
-      group-is-cut k len short same =
-          next-at format before r AtMacroblock due
-          ∙ judged-none (judge format before) Cut (at_slot AtMacroblock r.0) (at-macroblock r.0 goes_on ∙ group-cut r.0 why is k len short same)
+  -- where a start code may stand behind other words, none of which does
+  module _ (s : Slot) (words : List (Row Element)) (plain : list_all (λ (row : Row Element). row.tail == 0) words ≡ true) (due : slot before ≡ s) (at : at_slot s r.0 ≡ read (words ++ gbsc_row ∷ []) r.0) (why : Why) (is : read words r.0 ≡ Bad why) where
+    pub group-comes : 16 ≤ length r.0 → take 16 r.0 ≡ take 16 group_start_code → next format before r ≡ Good Gbsc 16
+    group-comes long same =
+        next-at format before r s due
+        ∙ judged-good (judge format before) Gbsc 16 (at_slot s r.0) (at ∙ group-good r.0 words plain why is long same) refl
 
-      -- the number of the first bits, 16 or all that are left, is not that of the start code's front
-      pub nothing-comes : (n k : ℕ) → k ≡ min (length r.0) 16 → n ≡ bits.number (take k r.0) → n ≢ 1 / 2 ^ (16 - k) → next format before r ≡ Bad why
-      nothing-comes n k k_is seen differs =
-          let not_whole : begins group_start_code r.0 ≡ true → ⊥ = λ whole.
-          let long : 16 ≤ length r.0 = begins_length group_start_code r.0 whole in
-          let all : k ≡ 16 = omega arith in
-          differs (is_number group_start_code 1 16 group-field (omega arith) r.0 n k (omega arith) seen (ap (λ (m : ℕ). take m r.0) all ∙ (front_begins group_start_code r.0 whole ∙ ap (λ (m : ℕ). take m group_start_code) (sym all)))) in
-          let not_front : begins r.0 group_start_code ≡ true → ⊥ = λ begun.
-          let short : length r.0 ≤ 16 = begins_length r.0 group_start_code begun in
-          let all : k ≡ length r.0 = omega arith in
-          differs (is_number group_start_code 1 16 group-field (omega arith) r.0 n k (omega arith) seen (take_all k r.0 (omega arith) ∙ (sym (front_begins r.0 group_start_code begun) ∙ ap (λ (m : ℕ). take m group_start_code) (sym all)))) in
-          next-at format before r AtMacroblock due
-          ∙ judged-none (judge format before) why (at_slot AtMacroblock r.0) (at-macroblock r.0 goes_on ∙ group-none r.0 why is not_whole not_front)
+    pub group-is-cut : (k : ℕ) → k ≡ length r.0 → k < 16 → take k r.0 ≡ take k group_start_code → next format before r ≡ Bad Cut
+    group-is-cut k len short same =
+        next-at format before r s due
+        ∙ judged-none (judge format before) Cut (at_slot s r.0) (at ∙ group-cut r.0 words plain why is k len short same)
+
+    -- the number of the first bits, 16 or all that are left, is not that of the start code's front
+    pub nothing-comes : (n k : ℕ) → k ≡ min (length r.0) 16 → n ≡ bits.number (take k r.0) → n ≢ 1 / 2 ^ (16 - k) → next format before r ≡ Bad why
+    nothing-comes n k k_is seen differs =
+        let not_whole : begins group_start_code r.0 ≡ true → ⊥ = λ whole.
+        let long : 16 ≤ length r.0 = begins_length group_start_code r.0 whole in
+        let all : k ≡ 16 = omega arith in
+        differs (is_number group_start_code 1 16 group-field (omega arith) r.0 n k (omega arith) seen (ap (λ (m : ℕ). take m r.0) all ∙ (front_begins group_start_code r.0 whole ∙ ap (λ (m : ℕ). take m group_start_code) (sym all)))) in
+        let not_front : begins r.0 group_start_code ≡ true → ⊥ = λ begun.
+        let short : length r.0 ≤ 16 = begins_length r.0 group_start_code begun in
+        let all : k ≡ length r.0 = omega arith in
+        differs (is_number group_start_code 1 16 group-field (omega arith) r.0 n k (omega arith) seen (take_all k r.0 (omega arith) ∙ (sym (front_begins r.0 group_start_code begun) ∙ ap (λ (m : ℕ). take m group_start_code) (sym all)))) in
+        next-at format before r s due
+        ∙ judged-none (judge format before) why (at_slot s r.0) (at ∙ group-none r.0 words plain why is not_whole not_front)

@@ -3,8 +3,8 @@
 
 ghost use Rattle.std.specs.Prelude.{◌≡◌, ◌≤◌, false, List};
 ghost use Rattle.pel_model.specs.declared.Format.{Format};
-ghost use Rattle.pel_model.specs.declared.Why.{Why as Reason};
-ghost use Rattle.pel_model.specs.Grammar.{Element, slot, AtMacroblock, is_end as is_end_of, mba_rows, next};
+ghost use Rattle.pel_model.specs.declared.Why.TheVariants.{NoCode};
+ghost use Rattle.pel_model.specs.Grammar.{Element, slot, AtGroup, AtMacroblock, is_end as is_end_of, mba_rows, next};
 ghost use Rattle.pel_model.specs.Walk.{Bad, read};
 ghost use Rattle.h261_pic.specs.Comes.{Comes};
 
@@ -45,6 +45,18 @@ pub fn take_coming(r: &mut Reader<'_>) -> Result<Coming, Fault>
     }
 }
 
+/// Says what comes behind a picture header, the end or a group, and takes a start code. At a fault, NoCode or Cut, the
+/// reader has not moved.
+pub fn take_group_or_end(r: &mut Reader<'_>) -> Result<Coming, Fault>
+    ensures { (format : Format) (before : List Element) → slot before ≡ AtGroup →
+        Comes (next format before r.old) result r.old r.new }
+{
+    if is_end(r) {
+        return Ok(Coming::End);
+    }
+    take_group_code(r, Why::NoCode)
+}
+
 // At most 7 bits are left, and all are 0.
 fn is_end(r: &Reader<'_>) -> bool
     ensures { result ≡ is_end_of r.now.0 }
@@ -53,10 +65,12 @@ fn is_end(r: &Reader<'_>) -> bool
     left < 8 && r.peek(left) == 0
 }
 
-// Takes GBSC (4.2.2.1), where no word of MBA stands for that reason.
+// Takes GBSC (4.2.2.1), where no word of MBA stands for that reason, or where no other word may stand.
 fn take_group_code(r: &mut Reader<'_>, why: Why) -> Result<Coming, Fault>
-    ensures { (format : Format) (before : List Element) → slot before ≡ AtMacroblock → is_end_of r.old.0 ≡ false →
+    ensures behind_a_group { (format : Format) (before : List Element) → slot before ≡ AtMacroblock → is_end_of r.old.0 ≡ false →
         read mba_rows r.old.0 ≡ Bad why → Comes (next format before r.old) result r.old r.new }
+    ensures behind_a_header { (format : Format) (before : List Element) → slot before ≡ AtGroup → is_end_of r.old.0 ≡ false →
+        why ≡ NoCode → Comes (next format before r.old) result r.old r.new }
 {
     let place = r.place();
     let width = r.left().min(16);

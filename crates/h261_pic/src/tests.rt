@@ -1,7 +1,7 @@
 //! Headers as senders may write them, what comes behind them, and the first fault of others.
 
 use crate::Coming::{End, Group, Macroblock, Stuffing};
-use crate::{GroupHeader, read_group_header, read_picture_header, take_coming};
+use crate::{GroupHeader, read_group_header, read_picture_header, take_coming, take_group_or_end};
 use pel_bits::{Bits, Reader};
 use pel_model::Format::{Cif, Qcif};
 use pel_model::Why::{BadGroup, BadQuant, Cut, NoCode, NoStart, StillImage, WrongFormat};
@@ -92,6 +92,23 @@ fn what_comes_where_a_macroblock_may(rt: HostRuntime) {
         let octets = octets(digits);
         let mut r = reader(&octets, digits);
         assert_eq!(rt; take_coming(&mut r), result);
+        assert_eq!(rt; r.place(), place);
+    }
+}
+
+#[test]
+fn what_comes_behind_a_picture_header(rt: HostRuntime) {
+    for (digits, (result, place)) in [
+        ("", (Ok(End), 0)),
+        ("0000000", (Ok(End), 0)),
+        ("00000000", at(0, Cut)),
+        ("000000000000000100", (Ok(Group), 16)),
+        ("1", at(0, NoCode)),
+        ("0000000000000000", at(0, NoCode)),
+    ] {
+        let octets = octets(digits);
+        let mut r = reader(&octets, digits);
+        assert_eq!(rt; take_group_or_end(&mut r), result);
         assert_eq!(rt; r.place(), place);
     }
 }
