@@ -13,3 +13,9 @@ Comes here (Ok coming.Group) old new = (n : ℕ) × (here ≡ Good Gbsc n) × (n
 Comes here (Ok coming.Stuffing) old new = (n : ℕ) × (here ≡ Good Stuffing n) × (new ≡ skipped n old)
 Comes here (Ok coming.Macroblock) old new = (d : ℕ) × (n : ℕ) × (read mba_rows old.0 ≡ Good (Mba d) n) × (new ≡ old)
 Comes here (Err f) old new = (here ≡ Bad f.why) × (f.place ≡ old.1) × (new ≡ old)
+
+-- behind a picture header neither stuffing nor a macroblock may come
+abbrev pub IsGroupOrEnd : Coming → Type 0
+IsGroupOrEnd coming.End = Unit {0}
+IsGroupOrEnd coming.Group = Unit {0}
+IsGroupOrEnd _ = ⊥

@@ -1,12 +1,12 @@
 //! What comes behind a group's header, a macroblock or stuffing (H.261, 4.2.2 and 4.2.3).
 #![tactic(auto)]
 
-ghost use Rattle.std.specs.Prelude.{◌≡◌, ◌≤◌, false, List};
+ghost use Rattle.std.specs.Prelude.{◌≡◌, ◌≤◌, false, List, IfOk};
 ghost use Rattle.pel_model.specs.declared.Format.{Format};
 ghost use Rattle.pel_model.specs.declared.Why.TheVariants.{NoCode};
 ghost use Rattle.pel_model.specs.Grammar.{Element, slot, AtGroup, AtMacroblock, is_end as is_end_of, mba_rows, next};
 ghost use Rattle.pel_model.specs.Walk.{Bad, read};
-ghost use Rattle.h261_pic.specs.Comes.{Comes};
+ghost use Rattle.h261_pic.specs.Comes.{Comes, IsGroupOrEnd};
 
 use pel_bits::Reader;
 use pel_model::{Fault, Why};
@@ -48,8 +48,9 @@ pub fn take_coming(r: &mut Reader<'_>) -> Result<Coming, Fault>
 /// Says what comes behind a picture header, the end or a group, and takes a start code. At a fault, NoCode or Cut, the
 /// reader has not moved.
 pub fn take_group_or_end(r: &mut Reader<'_>) -> Result<Coming, Fault>
-    ensures { (format : Format) (before : List Element) → slot before ≡ AtGroup →
+    ensures comes { (format : Format) (before : List Element) → slot before ≡ AtGroup →
         Comes (next format before r.old) result r.old r.new }
+    ensures of_these { IfOk result IsGroupOrEnd }
 {
     if is_end(r) {
         return Ok(Coming::End);
@@ -71,6 +72,7 @@ fn take_group_code(r: &mut Reader<'_>, why: Why) -> Result<Coming, Fault>
         read mba_rows r.old.0 ≡ Bad why → Comes (next format before r.old) result r.old r.new }
     ensures behind_a_header { (format : Format) (before : List Element) → slot before ≡ AtGroup → is_end_of r.old.0 ≡ false →
         why ≡ NoCode → Comes (next format before r.old) result r.old r.new }
+    ensures of_these { IfOk result IsGroupOrEnd }
 {
     let place = r.place();
     let width = r.left().min(16);
