@@ -1,98 +1,99 @@
--- A file is of the first form, but for its picture, exactly where its octets stand at their places.
-use Rattle.std.proofs.Common.{◌≡◌, ℕ, ◌+◌, ◌<◌, ◌≤◌, List, [], ◌∷◌, ◌++◌, length, take, drop, slice_index, refl, sym, ◌∙◌, ap, ap₂, subst, arith, codes}
-use Rattle.std.proofs.lemmas.List.{length-take-le, length-drop, take-append-drop, drop-drop, drop_more, get_or_append_left, get_or-append-add, get_or-take}
+-- The two pieces of a file of the first form, and the file.
+use Rattle.std.proofs.Common.{◌≡◌, ℕ, ◌+◌, ◌-◌, ◌*◌, ◌/◌, ◌%◌, ◌<◌, ◌≤◌, List, [], ◌∷◌, ◌++◌, length, take, drop, slice_index, refl, sym, ◌∙◌, ap, ap₂, arith, codes, length-append}
+use Rattle.std.proofs.lemmas.List.{take-append-drop, drop-drop, drop_more, take_at}
 use Rattle.std.proofs.Math.ListN.{drop_of_length-le}
-use lib.Seq.{get_or-drop}
-use Rattle.bridge_cli.specs.FirstForm.{file_octets, IsWholePacket, IsOutline}
-use Rattle.bridge_cli.specs.Framed.{IsFramed}
+use Rattle.bridge_cli.specs.FirstForm.{FirstForm, IsFirstForm, file_octets}
+use Rattle.bridge_cli.specs.Pieces.{head_octets, IsHead, IsRest}
 use Rattle.pel_model.specs.declared.Quad.{Quad}
 use Rattle.pel_model.specs.Regions.{number_of}
 
--- a run, and what stands behind it
+-- ---- a head, by what stands at its places
+
 run-and-rest : (xs : List ℕ) (at a : ℕ) → drop at xs ≡ take a (drop at xs) ++ drop (at + a) xs
 run-and-rest xs at a = sym (take-append-drop a (drop at xs)) ∙ ap (λ t. take a (drop at xs) ++ t) (drop-drop a at xs)
 
 one-and-rest : (xs : List ℕ) (at : ℕ) → at < length xs → drop at xs ≡ slice_index xs at ∷ drop (at + 1) xs
 one-and-rest xs at below = drop_more xs at 0 below
 
-pieces : (file : List ℕ) → length file ≡ 863
-    → file ≡ take 18 (drop 0 file) ++ slice_index file 18 ∷ (take 6 (drop 19 file) ++ (take 835 (drop 25 file) ++ slice_index file 860 ∷ slice_index file 861 ∷ slice_index file 862 ∷ []))
-pieces file long =
-    run-and-rest file 0 18
-    ∙ ap (λ t. take 18 (drop 0 file) ++ t) (
-    one-and-rest file 18 (omega arith)
-    ∙ ap (λ t. slice_index file 18 ∷ t) (
-    run-and-rest file 19 6
-    ∙ ap (λ t. take 6 (drop 19 file) ++ t) (
-    run-and-rest file 25 835
-    ∙ ap (λ t. take 835 (drop 25 file) ++ t) (
-    one-and-rest file 860 (omega arith)
-    ∙ ap (λ t. slice_index file 860 ∷ t) (
-    one-and-rest file 861 (omega arith)
-    ∙ ap (λ t. slice_index file 861 ∷ t) (
-    one-and-rest file 862 (omega arith)
-    ∙ ap (λ t. slice_index file 862 ∷ t) (drop_of_length-le file {i = 863} (omega arith))))))))
+pieces : (head : List ℕ) → length head ≡ 25
+    → head ≡ take 18 (drop 0 head) ++ slice_index head 18 ∷ (take 4 (drop 19 head) ++ slice_index head 23 ∷ slice_index head 24 ∷ [])
+pieces head long =
+    run-and-rest head 0 18
+    ∙ ap (λ t. take 18 (drop 0 head) ++ t) (
+    one-and-rest head 18 (omega arith)
+    ∙ ap (λ t. slice_index head 18 ∷ t) (
+    run-and-rest head 19 4
+    ∙ ap (λ t. take 4 (drop 19 head) ++ t) (
+    one-and-rest head 23 (omega arith)
+    ∙ ap (λ t. slice_index head 23 ∷ t) (
+    one-and-rest head 24 (omega arith)
+    ∙ ap (λ t. slice_index head 24 ∷ t) (drop_of_length-le head {i = 25} (omega arith))))))
 
--- the file, by what its places hold
-placed : List ℕ → ℕ → List ℕ → List ℕ → ℕ → ℕ → ℕ → List ℕ
-placed front digit middle packet tick step end = front ++ digit ∷ (middle ++ (packet ++ tick ∷ step ∷ end ∷ []))
+-- the head, by what its places hold
+placed : List ℕ → ℕ → List ℕ → ℕ → ℕ → List ℕ
+placed front digit middle high low = front ++ digit ∷ (middle ++ high ∷ low ∷ [])
 
-octets-are : (file : List ℕ) (place : Quad) → length file ≡ 863 → slice_index file 18 ≡ 48 + number_of place → IsFramed file
-    → file ≡ file_octets place (take 835 (drop 25 file)) (slice_index file 861)
+head-octets : (head : List ℕ) (place : Quad) (size : ℕ) → length head ≡ 25 → slice_index head 18 ≡ 48 + number_of place
+    → take 18 (drop 0 head) ≡ codes "H261CONF" ++ 1 ∷ 1 ∷ codes "C" ++ 9 ∷ codes "place " → take 4 (drop 19 head) ≡ codes " 0P" ++ 0 ∷ []
+    → slice_index head 23 ≡ size / 256 → slice_index head 24 ≡ size % 256 → head ≡ head_octets place size
 unfolding placed
-octets-are file place long digit framed =
-    pieces file long
-    ∙ ap₂ (λ (front : List ℕ) (middle : List ℕ). placed front (slice_index file 18) middle (take 835 (drop 25 file)) (slice_index file 860) (slice_index file 861) (slice_index file 862))
-    framed.front framed.middle
-    ∙ ap₂ (λ (tick : ℕ) (end : ℕ). placed (codes "H261CONF" ++ 1 ∷ 1 ∷ codes "C" ++ 9 ∷ codes "place ") (slice_index file 18) (codes " 0P" ++ 0 ∷ 3 ∷ 67 ∷ []) (take 835 (drop 25 file)) tick (slice_index file 861) end)
-    framed.tick framed.end
-    ∙ ap (λ (d : ℕ). placed (codes "H261CONF" ++ 1 ∷ 1 ∷ codes "C" ++ 9 ∷ codes "place ") d (codes " 0P" ++ 0 ∷ 3 ∷ 67 ∷ []) (take 835 (drop 25 file)) 84 (slice_index file 861) 69)
-    digit
+head-octets head place size long digit front middle high low =
+    pieces head long
+    ∙ ap₂ (λ (f : List ℕ) (m : List ℕ). placed f (slice_index head 18) m (slice_index head 23) (slice_index head 24)) front middle
+    ∙ ap₂ (λ (h : ℕ) (l : ℕ). placed (codes "H261CONF" ++ 1 ∷ 1 ∷ codes "C" ++ 9 ∷ codes "place ") (slice_index head 18) (codes " 0P" ++ 0 ∷ []) h l) high low
+    ∙ ap (λ (d : ℕ). placed (codes "H261CONF" ++ 1 ∷ 1 ∷ codes "C" ++ 9 ∷ codes "place ") d (codes " 0P" ++ 0 ∷ []) (size / 256) (size % 256)) digit
 
--- an octet of the packet
-packet-octet : (file : List ℕ) (i : ℕ) → i < 835 → slice_index (take 835 (drop 25 file)) i ≡ slice_index file (25 + i)
-packet-octet file i below = get_or-take 835 (drop 25 file) i 0 below ∙ get_or-drop 25 file i 0
-
-pub outline-of-frame : (file : List ℕ) (place : Quad) → length file ≡ 863 → slice_index file 18 ≡ 48 + number_of place → IsFramed file
-    → IsOutline file place (take 835 (drop 25 file)) (slice_index file 861)
-outline-of-frame file place long digit framed = record {
-  octets_are = octets-are file place long digit framed;
-  packet_is = record {
-    long = length-take-le 835 (drop 25 file) (omega (arith, length-drop 25 file));
-    version = packet-octet file 0 (omega arith) ∙ framed.version;
-    marker = omega (arith, packet-octet file 1 (omega arith), framed.marker);
-    no_sbit = omega (arith, packet-octet file 12 (omega arith), framed.no_sbit);
-  };
-  step_is = framed.step;
+pub head-of-places : (head : List ℕ) (place : Quad) (high low : ℕ) → length head ≡ 25 → slice_index head 18 ≡ 48 + number_of place
+    → take 18 (drop 0 head) ≡ codes "H261CONF" ++ 1 ∷ 1 ∷ codes "C" ++ 9 ∷ codes "place " → take 4 (drop 19 head) ≡ codes " 0P" ++ 0 ∷ []
+    → high ≡ slice_index head 23 → low ≡ slice_index head 24 → high < 256 → low < 256 → 16 ≤ 256 * high + low → IsHead head place (256 * high + low)
+head-of-places head place high low long digit front middle high_is low_is high_fits low_fits large = record {
+  octets_are = head-octets head place (256 * high + low) long digit front middle (omega arith) (omega arith);
+  size_is = (large, omega arith);
 }
 
--- what stands at a place within the packet, and behind it
-in-packet : (packet rest : List ℕ) (i : ℕ) → length packet ≡ 835 → i < 835 → slice_index (packet ++ rest) i ≡ slice_index packet i
-in-packet packet rest i long below = get_or_append_left packet rest 0 i (omega arith)
+-- two heads of the same octets say the same size
+pub same-size : (head : List ℕ) (place place' : Quad) (size size' : ℕ) → IsHead head place size → head ≡ head_octets place' size' → size ≡ size'
+same-size head place place' size size' is same =
+    let octets : head_octets place size ≡ head_octets place' size' = sym is.octets_are ∙ same in
+    let high : size / 256 ≡ size' / 256 = ap (λ (xs : List ℕ). slice_index xs 23) octets in
+    let low : size % 256 ≡ size' % 256 = ap (λ (xs : List ℕ). slice_index xs 24) octets in
+    omega arith
 
-behind-packet : (packet rest : List ℕ) (i : ℕ) → length packet ≡ 835 → slice_index (packet ++ rest) (835 + i) ≡ slice_index rest i
-behind-packet packet rest i long =
-    ap (λ (n : ℕ). slice_index (packet ++ rest) (n + i)) (sym long) ∙ get_or-append-add packet rest i 0
+-- ---- the file
 
-framed-octets : (place : Quad) (packet : List ℕ) (step : ℕ) → IsWholePacket packet → (0 < step) × (step ≤ 31)
-    → IsFramed (file_octets place packet step) × (slice_index (file_octets place packet step) 18 ≡ 48 + number_of place)
-framed-octets place packet step whole step_is =
-    let rest : List ℕ = 84 ∷ step ∷ 69 ∷ [] in (
-      record {
-        front = refl;
-        middle = refl;
-        version = in-packet packet rest 0 whole.long (omega arith) ∙ whole.version;
-        marker = omega (arith, in-packet packet rest 1 whole.long (omega arith), whole.marker);
-        no_sbit = omega (arith, in-packet packet rest 12 whole.long (omega arith), whole.no_sbit);
-        tick = behind-packet packet rest 0 whole.long;
-        step = (omega (arith, behind-packet packet rest 1 whole.long), omega (arith, behind-packet packet rest 1 whole.long));
-        end = behind-packet packet rest 2 whole.long;
-      },
-      refl,
-    )
+pub length-form : (file : List ℕ) (f : FirstForm) → IsFirstForm file f → length file ≡ 28 + length f.packet
+length-form file f form = ap length form.octets_are ∙ omega (arith, length-append f.packet (84 ∷ f.step ∷ 69 ∷ []))
 
-pub frame-of-outline : (file : List ℕ) (place : Quad) (packet : List ℕ) (step : ℕ) → IsOutline file place packet step
-    → IsFramed file × (slice_index file 18 ≡ 48 + number_of place)
-frame-of-outline file place packet step outline =
-    let P : List ℕ → Type 0 = λ f. IsFramed f × (slice_index f 18 ≡ 48 + number_of place) in
-    subst P (sym outline.octets_are) (framed-octets place packet step outline.packet_is outline.step_is)
+-- what stands behind its head is its rest
+pub rest-of-form : (place : Quad) (size : ℕ) (rest : List ℕ) (f : FirstForm) → IsFirstForm (head_octets place size ++ rest) f → IsRest rest f.packet f.step
+rest-of-form place size rest f form = record {
+  octets_are = ap (drop 25) form.octets_are;
+  packet_is = form.packet;
+  step_is = form.step;
+}
+
+pub length-rest : (rest packet : List ℕ) (step : ℕ) → IsRest rest packet step → length rest ≡ length packet + 3
+length-rest rest packet step is = ap length is.octets_are ∙ length-append packet (84 ∷ step ∷ 69 ∷ [])
+
+-- a rest has one packet
+pub one-packet : (rest packet packet' : List ℕ) (step step' : ℕ) → IsRest rest packet step → IsRest rest packet' step' → packet ≡ packet'
+one-packet rest packet packet' step step' is is' =
+    let long : length packet ≡ length packet' = omega (arith, length-rest rest packet step is, length-rest rest packet' step' is') in
+    sym (take_at packet (84 ∷ step ∷ 69 ∷ []) (length packet') long)
+    ∙ ap (take (length packet')) (sym is.octets_are ∙ is'.octets_are)
+    ∙ take_at packet' (84 ∷ step' ∷ 69 ∷ []) (length packet') refl
+
+-- a head before a rest is a file
+pub form-octets : (place : Quad) (rest packet : List ℕ) (step : ℕ) → IsRest rest packet step
+    → head_octets place (length rest - 3) ++ rest ≡ file_octets place packet step
+form-octets place rest packet step is =
+    ap₂ (λ (n : ℕ) (r : List ℕ). head_octets place n ++ r) (omega (arith, length-rest rest packet step is)) is.octets_are
+
+-- a front of the octets that is a file begins with their head
+pub head-of-front : (octets front behind head more : List ℕ) (f : FirstForm) → octets ≡ front ++ behind → octets ≡ head ++ more → length head ≡ 25
+    → IsFirstForm front f → IsHead head f.place (length f.packet)
+head-of-front octets front behind head more f split read long form = record {
+  octets_are =
+      sym (take_at head more 25 long) ∙ ap (take 25) (sym read ∙ split ∙ ap (λ (xs : List ℕ). xs ++ behind) form.octets_are);
+  size_is = (form.packet.headers, form.packet.fits);
+}

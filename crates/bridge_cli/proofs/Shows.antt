@@ -1,21 +1,63 @@
--- A CIF picture that shows a plain picture in one place, group by group.
-use Rattle.std.proofs.Common.{◌≡◌, ◌⊎◌, ℕ, zero, suc, ◌+◌, ◌-◌, ◌*◌, ◌<◌, ◌≤◌, ◌==◌, Bool, true, false, List, [], ◌∷◌, ◌++◌, length, flat_map, slice_index, slice_index_or, Option, None, Some, if◌then◌else◌, refl, sym, ◌∙◌, ap, ap₂, subst, inl, inr, arith, append-nil, length-append}
+-- A CIF picture that shows a QCIF picture in one place, group by group.
+use Rattle.std.proofs.Common.{◌≡◌, ◌⊎◌, ℕ, zero, suc, ◌+◌, ◌-◌, ◌*◌, ◌<◌, ◌≤◌, ◌==◌, Bool, true, false, List, [], ◌∷◌, ◌++◌, length, take, map, flat_map, slice_index, slice_index_or, Option, None, Some, if◌then◌else◌, refl, sym, ◌∙◌, ap, ap₂, subst, inl, inr, arith, append-nil, length-append}
 use Rattle.std.proofs.lemmas.Grind.{flat_map-append}
 use Rattle.std.proofs.lemmas.List.FromFn.{get_or-range_with_len}
 use borrow.Author.Tests.{eqb-true}
-use Rattle.h261_pic.specs.Coded.{Coding, coding, grown, next_number, group_of, macroblock_bits, Belongs, IsFinished}
-use Rattle.h261_pic.proofs.Grows.{bits-of-view, view-quant, no_group}
-use Rattle.h261_pic.proofs.PlainPictures.{length-plain-group}
+use Rattle.bridge_cli.specs.FirstForm.{most_bits}
+use Rattle.bridge_cli.specs.Shown.{index_in, group_shown, groups_shown}
+use Rattle.h261_pic.specs.Coded.{Coding, coding, grown, next_number, group_of, macroblock_bits, marks_in, placed, Belongs, IsFinished}
+use Rattle.h261_pic.proofs.Grows.{bits-of-view, placed-of-view, view-quant, no_group}
 use Rattle.h261_pic.proofs.Texts.{coding-with_group, length-views, length-text, length-group_text}
 use Rattle.pel_model.specs.declared.Format.TheVariants.{Qcif, Cif}
+use Rattle.pel_model.specs.declared.Mark.{Mark}
 use Rattle.pel_model.specs.declared.Quad.{Quad}
 use Rattle.pel_model.specs.declared.Quad.TheVariants.{One, Two, Three, Four}
-use Rattle.pel_model.specs.Plain.{PlainPicture, IsPlainPicture, plain_picture, plain_group}
+use Rattle.pel_model.specs.Marks.{macroblock_marks}
 use Rattle.pel_model.specs.Records.{Group, Picture}
 use Rattle.pel_model.specs.Regions.{number_in, renumbered, empty_group, shown_in}
 use Rattle.pel_model.specs.Text.{text, group_text, macroblocks_text}
-use Rattle.pel_model.specs.Valid.{group_numbers, group_count, limit}
-use Rattle.bridge_cli.specs.Shown.{index_in, group_shown, groups_shown}
+use Rattle.pel_model.specs.Valid.{group_numbers, group_count, limit, IsValid}
+
+-- ---- the three groups of a QCIF picture
+
+abbrev pub of_three : ℕ → (first second third : Group) → Picture
+of_three tr first second third = record { tr = tr; groups = renumbered 1 first ∷ renumbered 3 second ∷ renumbered 5 third ∷ [] }
+
+pub record HasThree (groups : List Group) : Type 0 where
+  pub first : Group
+  pub second : Group
+  pub third : Group
+  pub are : groups ≡ renumbered 1 first ∷ renumbered 3 second ∷ renumbered 5 third ∷ []
+
+has-number : (g : Group) (n : ℕ) → g.number ≡ n → g ≡ renumbered n g
+has-number g n is = ap (λ (k : ℕ). renumbered k g) is
+
+three-groups : (gs : List Group) → map (λ (g : Group). g.number) gs ≡ take (length gs) (1 ∷ 3 ∷ 5 ∷ []) → length gs ≡ 3 → HasThree gs
+three-groups [] numbers three = absurd (omega arith)
+three-groups (a ∷ []) numbers three = absurd (omega arith)
+three-groups (a ∷ b ∷ []) numbers three = absurd (omega arith)
+three-groups (a ∷ b ∷ c ∷ []) numbers three =
+    let one : a ≡ renumbered 1 a = has-number a 1 (ap (λ ns. slice_index ns 0) numbers) in
+    let two : b ≡ renumbered 3 b = has-number b 3 (ap (λ ns. slice_index ns 1) numbers) in
+    let last : c ≡ renumbered 5 c = has-number c 5 (ap (λ ns. slice_index ns 2) numbers) in
+    record {
+      first = a;
+      second = b;
+      third = c;
+      are = ap₂ (λ (g : Group) (h : Group). g ∷ h ∷ c ∷ []) one two ∙ ap (λ (g : Group). renumbered 1 a ∷ renumbered 3 b ∷ g ∷ []) last;
+    }
+three-groups (a ∷ b ∷ c ∷ d ∷ gs) numbers three = absurd (omega arith)
+
+pub valid-three : (p : Picture) → IsValid Qcif p → HasThree p.groups
+valid-three p valid = three-groups p.groups valid.so_far.numbers valid.whole
+
+-- what holds of all pictures of three groups holds of a valid one
+pub by-three : (P : Picture → Type 0) (p : Picture) → ((tr : ℕ) (a b c : Group) → P (of_three tr a b c)) → IsValid Qcif p → P p
+by-three P p all valid =
+    let three = valid-three p valid in
+    let is : record { tr = p.tr; groups = renumbered 1 three.first ∷ renumbered 3 three.second ∷ renumbered 5 three.third ∷ [] } ≡ p =
+    ap (λ (gs : List Group). record { tr = p.tr; groups = gs }) (sym three.are) in
+    subst P is (all p.tr three.first three.second three.third)
 
 -- ---- which group comes where
 
@@ -56,52 +98,71 @@ length-shown place picture zero = refl
 length-shown place picture (suc k) =
     length-append (groups_shown place picture k) (group_shown (index_in place (k + 1)) picture (k + 1) ∷ []) ∙ omega (arith, length-shown place picture k)
 
--- the text of a group, with any number
-length-renumbered : (n : ℕ) (g : Group) → length (group_text (renumbered n g)) ≡ length (group_text g)
-length-renumbered n g = length-group_text (renumbered n g) ∙ sym (length-group_text g)
+-- the lengths of groups' texts, added up
+total : List Group → ℕ
+total [] = 0
+total (g ∷ gs) = 26 + length (macroblocks_text None g.macroblocks) + total gs
 
-length-empty : (n : ℕ) → length (group_text (empty_group n)) ≡ 26
+length-groups : (gs : List Group) → length (flat_map group_text gs) ≡ total gs
+unfolding total
+length-groups [] = refl
+length-groups (g ∷ gs) =
+    omega (arith, length-append (group_text g) (flat_map group_text gs), length-group_text g, length-groups gs)
+
+-- a group of a picture is no longer than all of them
+group-within : (gs : List Group) (i : ℕ) → 26 + length (macroblocks_text None (slice_index_or gs i (empty_group 0)).macroblocks) ≤ 26 + total gs
+unfolding total macroblocks_text
+group-within [] i = omega arith
+group-within (g ∷ gs) zero = omega arith
+group-within (g ∷ gs) (suc i) = omega (arith, group-within gs i)
+
+group-fits : (o : Option ℕ) (p : Picture) (n : ℕ) → length (text Qcif p) ≤ most_bits → length (group_text (group_shown o p n)) ≤ most_bits
 unfolding macroblocks_text
-length-empty n = length-group_text (empty_group n)
+group-fits None p n short = omega (arith, length-group_text (empty_group n))
+group-fits (Some i) p n short =
+    omega (arith, length-group_text (renumbered n (slice_index_or p.groups i (empty_group 0))), group-within p.groups i, length-text Qcif p, length-groups p.groups)
 
-plain-at : (p : PlainPicture) (i : ℕ) → IsPlainPicture p → length (group_text (slice_index_or (plain_picture p).groups i (empty_group 0))) ≤ 2171
-plain-at p zero plain = omega (arith, length-plain-group 1 p.first plain.first)
-plain-at p (suc zero) plain = omega (arith, length-plain-group 3 p.second plain.second)
-plain-at p (suc (suc zero)) plain = omega (arith, length-plain-group 5 p.third plain.third)
-plain-at p (suc (suc (suc i))) plain = omega (arith, length-empty 0)
-
-group-fits : (o : Option ℕ) (p : PlainPicture) (n : ℕ) → IsPlainPicture p → length (group_text (group_shown o (plain_picture p) n)) ≤ 2171
-group-fits None p n plain = omega (arith, length-empty n)
-group-fits (Some i) p n plain =
-    omega (arith, length-renumbered n (slice_index_or (plain_picture p).groups i (empty_group 0)), plain-at p i plain)
-
-groups-fit : (place : Quad) (p : PlainPicture) (k : ℕ) → IsPlainPicture p → length (flat_map group_text (groups_shown place (plain_picture p) k)) ≤ 2171 * k
-groups-fit place p zero plain = omega arith
-groups-fit place p (suc k) plain =
-    let g : Group = group_shown (index_in place (k + 1)) (plain_picture p) (k + 1) in
-    let gs : List Group = groups_shown place (plain_picture p) k in
+groups-fit : (place : Quad) (p : Picture) (k : ℕ) → length (text Qcif p) ≤ most_bits → length (flat_map group_text (groups_shown place p k)) ≤ most_bits * k
+groups-fit place p zero short = omega arith
+groups-fit place p (suc k) short =
+    let g : Group = group_shown (index_in place (k + 1)) p (k + 1) in
+    let gs : List Group = groups_shown place p k in
     let long : length (flat_map group_text (gs ++ g ∷ [])) ≡ length (flat_map group_text gs) + length (group_text g) =
     ap length (flat_map-append group_text gs (g ∷ []) ∙ ap (λ t. flat_map group_text gs ++ t) (append-nil (group_text g)))
     ∙ length-append (flat_map group_text gs) (group_text g) in
-    omega (arith, groups-fit place p k plain, group-fits (index_in place (k + 1)) p (k + 1) plain)
+    omega (arith, groups-fit place p k short, group-fits (index_in place (k + 1)) p (k + 1) short)
 
 next-is : (place : Quad) (tr : ℕ) (picture : Picture) (k : ℕ) → k < 12 → next_number (coding Cif (shown_so_far place tr picture k)) ≡ k + 1
 next-is place tr picture k below =
-    ap (λ n. slice_index (group_numbers Cif) n) (length-views 32 (groups_shown place picture k) ∙ length-shown place picture k)
+    ap (λ n. slice_index (group_numbers Cif) n) (length-views 32 0 (groups_shown place picture k) ∙ length-shown place picture k)
     ∙ get_or-range_with_len 1 12 k 0 below ∙ omega arith
 
 -- all twelve are the picture that is shown
-pub all-shown : (place : Quad) (tr : ℕ) (p : PlainPicture) → shown_so_far place tr (plain_picture p) 12 ≡ shown_in place tr (plain_picture p)
-all-shown One tr p = refl
-all-shown Two tr p = refl
-all-shown Three tr p = refl
-all-shown Four tr p = refl
+all-of-three : (place : Quad) (tr tr' : ℕ) (a b c : Group) → shown_so_far place tr (of_three tr' a b c) 12 ≡ shown_in place tr (of_three tr' a b c)
+all-of-three One tr tr' a b c = refl
+all-of-three Two tr tr' a b c = refl
+all-of-three Three tr tr' a b c = refl
+all-of-three Four tr tr' a b c = refl
 
--- the text of the picture that is shown
-pub text-fits : (place : Quad) (tr : ℕ) (p : PlainPicture) → IsPlainPicture p → length (text Cif (shown_in place tr (plain_picture p))) ≤ 30000
-text-fits place tr p plain =
-    subst (λ (q : Picture). length (text Cif q) ≤ 30000) (all-shown place tr p)
-    (omega (arith, length-text Cif (shown_so_far place tr (plain_picture p) 12), groups-fit place p 12 plain))
+pub all-shown : (place : Quad) (tr : ℕ) (p : Picture) → IsValid Qcif p → shown_so_far place tr p 12 ≡ shown_in place tr p
+all-shown place tr p valid = by-three (λ q. shown_so_far place tr q 12 ≡ shown_in place tr q) p (all-of-three place tr) valid
+
+-- its text has the sender's bits and nine headers of groups
+total-shown : (place : Quad) (tr tr' : ℕ) (a b c : Group) → total (shown_in place tr (of_three tr' a b c)).groups ≡ total (of_three tr' a b c).groups + 234
+unfolding total macroblocks_text
+total-shown One tr tr' a b c = omega arith
+total-shown Two tr tr' a b c = omega arith
+total-shown Three tr tr' a b c = omega arith
+total-shown Four tr tr' a b c = omega arith
+
+pub text-shown : (place : Quad) (tr : ℕ) (p : Picture) → IsValid Qcif p → length (text Cif (shown_in place tr p)) ≡ length (text Qcif p) + 234
+text-shown place tr p valid =
+    by-three (λ q. length (text Cif (shown_in place tr q)) ≡ length (text Qcif q) + 234) p
+    (λ tr' a b c.
+    let q : Picture = of_three tr' a b c in
+    let s : Picture = shown_in place tr q in
+    length-text Cif s ∙ omega (arith, length-groups s.groups, total-shown place tr tr' a b c, length-text Qcif q, length-groups q.groups))
+    valid
 
 -- ---- the next group
 
@@ -110,10 +171,10 @@ pub record MayGrow (whole : Coding) : Type 0 where
   pub begun : 0 < length whole.bits
   pub next : length whole.groups < group_count whole.format
 
-may-grow : (place : Quad) (tr : ℕ) (p : PlainPicture) (k : ℕ) → k < 12 → MayGrow (coding Cif (shown_so_far place tr (plain_picture p) k))
+pub may-grow : (place : Quad) (tr : ℕ) (p : Picture) (k : ℕ) → k < 12 → MayGrow (coding Cif (shown_so_far place tr p k))
 may-grow place tr p k below = record {
-  begun = omega (arith, length-text Cif (shown_so_far place tr (plain_picture p) k));
-  next = omega (arith, length-views 32 (groups_shown place (plain_picture p) k), length-shown place (plain_picture p) k);
+  begun = omega (arith, length-text Cif (shown_so_far place tr p k));
+  next = omega (arith, length-views 32 0 (groups_shown place p k), length-shown place p k);
 }
 
 -- what is asked of the picture whose group is copied
@@ -123,15 +184,16 @@ pub record MayCopy (picture whole : Coding) (i : ℕ) : Type 0 where
   pub belongs : Belongs picture.format (group_of picture i).number whole.format (next_number whole)
   pub room : length whole.bits + (group_of picture i).len + 26 * (group_count whole.format - length whole.groups) ≤ limit whole.format
 
--- the group of a plain picture, by its place in it
-plain-belongs : (p : PlainPicture) (place : Quad) (number i : ℕ) → IndexIs place number i → Belongs Qcif (group_of (coding Qcif (plain_picture p)) i).number Cif number
+-- where a group of a picture of three groups belongs
+three-belongs : (tr : ℕ) (a b c : Group) (place : Quad) (number i : ℕ) → IndexIs place number i
+    → Belongs Qcif (group_of (coding Qcif (of_three tr a b c)) i).number Cif number
 unfolding IndexIs
-plain-belongs p place number i (inl is) =
-    subst (λ j. Belongs Qcif (group_of (coding Qcif (plain_picture p)) j).number Cif number) (sym is.0) (place, is.1)
-plain-belongs p place number i (inr (inl is)) =
-    subst (λ j. Belongs Qcif (group_of (coding Qcif (plain_picture p)) j).number Cif number) (sym is.0) (place, is.1)
-plain-belongs p place number i (inr (inr is)) =
-    subst (λ j. Belongs Qcif (group_of (coding Qcif (plain_picture p)) j).number Cif number) (sym is.0) (place, is.1)
+three-belongs tr a b c place number i (inl is) =
+    subst (λ j. Belongs Qcif (group_of (coding Qcif (of_three tr a b c)) j).number Cif number) (sym is.0) (place, is.1)
+three-belongs tr a b c place number i (inr (inl is)) =
+    subst (λ j. Belongs Qcif (group_of (coding Qcif (of_three tr a b c)) j).number Cif number) (sym is.0) (place, is.1)
+three-belongs tr a b c place number i (inr (inr is)) =
+    subst (λ j. Belongs Qcif (group_of (coding Qcif (of_three tr a b c)) j).number Cif number) (sym is.0) (place, is.1)
 
 index-below : (place : Quad) (number i : ℕ) → IndexIs place number i → i < 3
 unfolding IndexIs
@@ -139,98 +201,117 @@ index-below place number i (inl is) = omega (arith, is.0)
 index-below place number i (inr (inl is)) = omega (arith, is.0)
 index-below place number i (inr (inr is)) = omega (arith, is.0)
 
-plain-len : (p : PlainPicture) (i : ℕ) → IsPlainPicture p → i < 3 → (group_of (coding Qcif (plain_picture p)) i).len ≤ 2145
-plain-len p zero plain below = omega (arith, length-plain-group 1 p.first plain.first, length-group_text (plain_group 1 p.first))
-plain-len p (suc zero) plain below = omega (arith, length-plain-group 3 p.second plain.second, length-group_text (plain_group 3 p.second))
-plain-len p (suc (suc zero)) plain below = omega (arith, length-plain-group 5 p.third plain.third, length-group_text (plain_group 5 p.third))
-plain-len p (suc (suc (suc i))) plain below = absurd (omega arith)
+three-len : (tr : ℕ) (a b c : Group) (i : ℕ) → i < 3 → (group_of (coding Qcif (of_three tr a b c)) i).len ≤ total (of_three tr a b c).groups
+unfolding total
+three-len tr a b c zero below = omega arith
+three-len tr a b c (suc zero) below = omega arith
+three-len tr a b c (suc (suc zero)) below = omega arith
+three-len tr a b c (suc (suc (suc i))) below = absurd (omega arith)
 
-may-copy : (place : Quad) (tr : ℕ) (p : PlainPicture) (k i : ℕ) → IsPlainPicture p → k < 12 → index_in place (k + 1) ≡ Some i
-    → MayCopy (coding Qcif (plain_picture p)) (coding Cif (shown_so_far place tr (plain_picture p) k)) i
-may-copy place tr p k i plain below is =
+abbrev MayCopyNext : Quad → ℕ → (k i : ℕ) → Picture → Type 0
+MayCopyNext place tr k i p =
+    k < 12 → index_in place (k + 1) ≡ Some i → length (text Qcif p) ≤ most_bits → MayCopy (coding Qcif p) (coding Cif (shown_so_far place tr p k)) i
+
+may-copy-three : (place : Quad) (tr k i tr' : ℕ) (a b c : Group) → MayCopyNext place tr k i (of_three tr' a b c)
+may-copy-three place tr k i tr' a b c below is short =
+    let p : Picture = of_three tr' a b c in
     let index : IndexIs place (k + 1) i = index-is place (k + 1) i is in
     let small : i < 3 = index-below place (k + 1) i index in
-    let whole : Coding = coding Cif (shown_so_far place tr (plain_picture p) k) in
-    let count : length whole.groups ≡ k = length-views 32 (groups_shown place (plain_picture p) k) ∙ length-shown place (plain_picture p) k in
+    let whole : Coding = coding Cif (shown_so_far place tr p k) in
+    let count : length whole.groups ≡ k = length-views 32 0 (groups_shown place p k) ∙ length-shown place p k in
     record {
-      finished = (omega (arith, length-text Qcif (plain_picture p)), refl);
+      finished = (omega (arith, length-text Qcif p), refl);
       there = small;
-      belongs = subst (λ n. Belongs Qcif (group_of (coding Qcif (plain_picture p)) i).number Cif n) (sym (next-is place tr (plain_picture p) k below))
-          (plain-belongs p place (k + 1) i index);
-      room = omega (arith, length-text Cif (shown_so_far place tr (plain_picture p) k), groups-fit place p k plain, plain-len p i plain small);
+      belongs = subst (λ n. Belongs Qcif (group_of (coding Qcif p) i).number Cif n) (sym (next-is place tr p k below)) (three-belongs tr' a b c place (k + 1) i index);
+      room = omega (arith, length-text Cif (shown_so_far place tr p k), groups-fit place p k short, three-len tr' a b c i small, length-text Qcif p, length-groups p.groups);
     }
+
+may-copy : (place : Quad) (tr : ℕ) (p : Picture) (k i : ℕ) → IsValid Qcif p → MayCopyNext place tr k i p
+may-copy place tr p k i valid = by-three (MayCopyNext place tr k i) p (may-copy-three place tr k i) valid
 
 number-shown : (o : Option ℕ) (picture : Picture) (n : ℕ) → (group_shown o picture n).number ≡ n
 number-shown None picture n = refl
 number-shown (Some i) picture n = refl
 
+-- what is to be written as group `number`
+record IsNext (g : Group) (number quant : ℕ) (bits : List Bool) (marks : List Mark) : Type 0 where
+  quant_is : quant ≡ g.quant
+  bits_are : bits ≡ macroblocks_text None g.macroblocks
+  marks_are : (at : ℕ) → placed at number marks ≡ macroblock_marks at number g.quant None g.macroblocks
+
 -- the picture has grown by the group that comes next
-grown-shown : (place : Quad) (tr : ℕ) (p : PlainPicture) (k : ℕ) (o : Option ℕ) (quant : ℕ) (bits : List Bool) → k < 12 → index_in place (k + 1) ≡ o
-    → quant ≡ (group_shown o (plain_picture p) (k + 1)).quant → bits ≡ macroblocks_text None (group_shown o (plain_picture p) (k + 1)).macroblocks
-    → grown (coding Cif (shown_so_far place tr (plain_picture p) k)) quant bits ≡ coding Cif (shown_so_far place tr (plain_picture p) (suc k))
-grown-shown place tr p k o quant bits below is quant_is bits_are =
-    let q : Picture = shown_so_far place tr (plain_picture p) k in
-    let g : Group = group_shown (index_in place (k + 1)) (plain_picture p) (k + 1) in
-    let quant_same : quant ≡ g.quant = quant_is ∙ ap (λ (x : Option ℕ). (group_shown x (plain_picture p) (k + 1)).quant) (sym is) in
-    let bits_same : bits ≡ macroblocks_text None g.macroblocks = bits_are ∙ ap (λ (x : Option ℕ). macroblocks_text None (group_shown x (plain_picture p) (k + 1)).macroblocks) (sym is) in
-    ap₂ (λ (n : ℕ) (bs : List Bool). grown (coding Cif q) n bs) quant_same bits_same
-    ∙ coding-with_group Cif q g (number-shown (index_in place (k + 1)) (plain_picture p) (k + 1) ∙ sym (next-is place tr (plain_picture p) k below))
+grown-shown : (place : Quad) (tr : ℕ) (p : Picture) (k : ℕ) (o : Option ℕ) (quant : ℕ) (bits : List Bool) (marks : List Mark) → k < 12 → index_in place (k + 1) ≡ o
+    → IsNext (group_shown o p (k + 1)) (k + 1) quant bits marks
+    → grown (coding Cif (shown_so_far place tr p k)) quant bits marks ≡ coding Cif (shown_so_far place tr p (suc k))
+grown-shown place tr p k o quant bits marks below is next =
+    let q : Picture = shown_so_far place tr p k in
+    let g : Group = group_shown o p (k + 1) in
+    let number_is : g.number ≡ k + 1 = number-shown o p (k + 1) in
+    ap₂ (λ (n : ℕ) (bs : List Bool). grown (coding Cif q) n bs marks) next.quant_is next.bits_are
+    ∙ coding-with_group Cif q g marks (number_is ∙ sym (next-is place tr p k below))
+    (λ at. subst (λ (n : ℕ). placed at n marks ≡ macroblock_marks at n g.quant None g.macroblocks) (sym number_is) (next.marks_are at))
+    ∙ ap (λ (x : Option ℕ). coding Cif (record { tr = tr; groups = groups_shown place p k ++ group_shown x p (k + 1) ∷ [] })) (sym is)
 
-empty-shown : (place : Quad) (tr : ℕ) (p : PlainPicture) (k : ℕ) → k < 12 → index_in place (k + 1) ≡ None
-    → grown (coding Cif (shown_so_far place tr (plain_picture p) k)) 1 [] ≡ coding Cif (shown_so_far place tr (plain_picture p) (suc k))
+empty-shown : (place : Quad) (tr : ℕ) (p : Picture) (k : ℕ) → k < 12 → index_in place (k + 1) ≡ None
+    → grown (coding Cif (shown_so_far place tr p k)) 1 [] [] ≡ coding Cif (shown_so_far place tr p (suc k))
 unfolding macroblocks_text
-empty-shown place tr p k below is = grown-shown place tr p k None 1 [] below is refl refl
+empty-shown place tr p k below is =
+    grown-shown place tr p k None 1 [] [] below is (record { quant_is = refl; bits_are = refl; marks_are = λ at. refl })
 
--- the copied group of a plain picture
+-- the copied group of a picture
 same-default : (groups : List Group) (i : ℕ) (d e : Group) → i < length groups → slice_index_or groups i d ≡ slice_index_or groups i e
 same-default [] i d e below = absurd (omega arith)
 same-default (g ∷ gs) zero d e below = refl
 same-default (g ∷ gs) (suc i) d e below = same-default gs i d e (omega arith)
 
-copied-shown : (place : Quad) (tr : ℕ) (p : PlainPicture) (k i : ℕ) → k < 12 → index_in place (k + 1) ≡ Some i
-    → (let picture : Coding = coding Qcif (plain_picture p) in
-    grown (coding Cif (shown_so_far place tr (plain_picture p) k)) (group_of picture i).quant (macroblock_bits picture i) ≡ coding Cif (shown_so_far place tr (plain_picture p) (suc k)))
-copied-shown place tr p k i below is =
-    let there : i < length (plain_picture p).groups = index-below place (k + 1) i (index-is place (k + 1) i is) in
-    let same : slice_index_or (plain_picture p).groups i no_group ≡ slice_index_or (plain_picture p).groups i (empty_group 0) =
-    same-default (plain_picture p).groups i no_group (empty_group 0) there in
-    grown-shown place tr p k (Some i) (group_of (coding Qcif (plain_picture p)) i).quant (macroblock_bits (coding Qcif (plain_picture p)) i) below is
-    (view-quant 32 (plain_picture p).groups i there ∙ ap (λ (g : Group). g.quant) same)
-    (bits-of-view Qcif (plain_picture p) i there ∙ ap (λ (g : Group). macroblocks_text None g.macroblocks) same)
+copied-shown : (place : Quad) (tr : ℕ) (p : Picture) (k i : ℕ) → k < 12 → index_in place (k + 1) ≡ Some i → i < length p.groups
+    → (let picture : Coding = coding Qcif p in
+    grown (coding Cif (shown_so_far place tr p k)) (group_of picture i).quant (macroblock_bits picture i) (marks_in picture i) ≡ coding Cif (shown_so_far place tr p (suc k)))
+copied-shown place tr p k i below is there =
+    let same : slice_index_or p.groups i no_group ≡ slice_index_or p.groups i (empty_group 0) = same-default p.groups i no_group (empty_group 0) there in
+    grown-shown place tr p k (Some i) (group_of (coding Qcif p) i).quant (macroblock_bits (coding Qcif p) i) (marks_in (coding Qcif p) i) below is (record {
+      quant_is = view-quant 32 0 p.groups i there ∙ ap (λ (g : Group). g.quant) same;
+      bits_are = bits-of-view Qcif p i there ∙ ap (λ (g : Group). macroblocks_text None g.macroblocks) same;
+      marks_are =
+          λ at. placed-of-view Qcif p i at (k + 1) there ∙ ap (λ (g : Group). macroblock_marks at (k + 1) g.quant None g.macroblocks) same;
+    })
 
 -- ---- of any picture and any whole that are these
 
 -- what is known where the next group comes: the picture, and the groups written
 pub record Showing (place : Quad) (tr : ℕ) (picture whole : Coding) (k : ℕ) : Type 0 where
-  pub plain : PlainPicture
-  pub is_plain : IsPlainPicture plain
-  pub picture_is : picture ≡ coding Qcif (plain_picture plain)
-  pub whole_is : whole ≡ coding Cif (shown_so_far place tr (plain_picture plain) k)
+  pub sent : Picture
+  pub valid : IsValid Qcif sent
+  pub short : length picture.bits ≤ most_bits
+  pub picture_is : picture ≡ coding Qcif sent
+  pub whole_is : whole ≡ coding Cif (shown_so_far place tr sent k)
 
 pub showing-may-grow : (place : Quad) (tr : ℕ) (picture whole : Coding) (k : ℕ) → k < 12 → Showing place tr picture whole k → MayGrow whole
-showing-may-grow place tr picture whole k below s = subst MayGrow (sym s.whole_is) (may-grow place tr s.plain k below)
+showing-may-grow place tr picture whole k below s = subst MayGrow (sym s.whole_is) (may-grow place tr s.sent k below)
 
 pub showing-may-copy : (place : Quad) (tr : ℕ) (picture whole : Coding) (k n i : ℕ) → k < 12 → n ≡ k + 1 → index_in place n ≡ Some i → Showing place tr picture whole k
     → MayCopy picture whole i
 showing-may-copy place tr picture whole k n i below n_is is s =
+    let short : length (text Qcif s.sent) ≤ most_bits = subst (λ (c : Coding). length c.bits ≤ most_bits) s.picture_is s.short in
     subst (λ (c : Coding). MayCopy c whole i) (sym s.picture_is)
-    (subst (λ (c : Coding). MayCopy (coding Qcif (plain_picture s.plain)) c i) (sym s.whole_is)
-    (may-copy place tr s.plain k i s.is_plain below (ap (index_in place) (sym n_is) ∙ is)))
+    (subst (λ (c : Coding). MayCopy (coding Qcif s.sent) c i) (sym s.whole_is)
+    (may-copy place tr s.sent k i s.valid below (ap (index_in place) (sym n_is) ∙ is) short))
 
 suc-is : (k n : ℕ) → n ≡ k + 1 → suc k ≡ n
 suc-is k n is = omega arith
 
-pub showing-empty : (place : Quad) (tr : ℕ) (whole new : Coding) (k n : ℕ) (p : PlainPicture) → k < 12 → n ≡ k + 1 → index_in place n ≡ None
-    → whole ≡ coding Cif (shown_so_far place tr (plain_picture p) k) → new ≡ grown whole 1 [] → new ≡ coding Cif (shown_so_far place tr (plain_picture p) n)
+pub showing-empty : (place : Quad) (tr : ℕ) (whole new : Coding) (k n : ℕ) (p : Picture) → k < 12 → n ≡ k + 1 → index_in place n ≡ None
+    → whole ≡ coding Cif (shown_so_far place tr p k) → new ≡ grown whole 1 [] [] → new ≡ coding Cif (shown_so_far place tr p n)
 showing-empty place tr whole new k n p below n_is is whole_is new_is =
-    new_is ∙ ap (λ (c : Coding). grown c 1 []) whole_is ∙ empty-shown place tr p k below (ap (index_in place) (sym n_is) ∙ is)
-    ∙ ap (λ (m : ℕ). coding Cif (shown_so_far place tr (plain_picture p) m)) (suc-is k n n_is)
+    new_is ∙ ap (λ (c : Coding). grown c 1 [] []) whole_is ∙ empty-shown place tr p k below (ap (index_in place) (sym n_is) ∙ is)
+    ∙ ap (λ (m : ℕ). coding Cif (shown_so_far place tr p m)) (suc-is k n n_is)
 
-pub showing-copied : (place : Quad) (tr : ℕ) (picture whole new : Coding) (k n i : ℕ) (p : PlainPicture) → k < 12 → n ≡ k + 1 → index_in place n ≡ Some i
-    → picture ≡ coding Qcif (plain_picture p) → whole ≡ coding Cif (shown_so_far place tr (plain_picture p) k)
-    → new ≡ grown whole (group_of picture i).quant (macroblock_bits picture i) → new ≡ coding Cif (shown_so_far place tr (plain_picture p) n)
-showing-copied place tr picture whole new k n i p below n_is is picture_is whole_is new_is =
+pub showing-copied : (place : Quad) (tr : ℕ) (picture whole new : Coding) (k n i : ℕ) (p : Picture) → k < 12 → n ≡ k + 1 → index_in place n ≡ Some i → IsValid Qcif p
+    → picture ≡ coding Qcif p → whole ≡ coding Cif (shown_so_far place tr p k)
+    → new ≡ grown whole (group_of picture i).quant (macroblock_bits picture i) (marks_in picture i) → new ≡ coding Cif (shown_so_far place tr p n)
+showing-copied place tr picture whole new k n i p below n_is is valid picture_is whole_is new_is =
+    let here : index_in place (k + 1) ≡ Some i = ap (index_in place) (sym n_is) ∙ is in
     new_is
-    ∙ ap₂ (λ (c : Coding) (d : Coding). grown c (group_of d i).quant (macroblock_bits d i)) whole_is picture_is
-    ∙ copied-shown place tr p k i below (ap (index_in place) (sym n_is) ∙ is)
-    ∙ ap (λ (m : ℕ). coding Cif (shown_so_far place tr (plain_picture p) m)) (suc-is k n n_is)
+    ∙ ap₂ (λ (c : Coding) (d : Coding). grown c (group_of d i).quant (macroblock_bits d i) (marks_in d i)) whole_is picture_is
+    ∙ copied-shown place tr p k i below here (omega (arith, index-below place (k + 1) i (index-is place (k + 1) i here), valid.whole))
+    ∙ ap (λ (m : ℕ). coding Cif (shown_so_far place tr p m)) (suc-is k n n_is)

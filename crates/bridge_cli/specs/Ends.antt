@@ -41,9 +41,13 @@ IsUntouched before after = after ≡ before
 abbrev pub ReadsForm : Outside → Outside → FirstForm → Type 0
 ReadsForm before after f = (file : List ℕ) × Consumes before.left after.left file × IsFirstForm file f
 
--- 863 octets at most were read, the length of the form
+-- the longest file of the first form: 25 octets, a packet of 65,535, and 3
+abbrev pub most_octets : ℕ
+most_octets = 65563
+
+-- no more octets were read
 abbrev pub ReadsAtMostForm : Outside → Outside → Type 0
-ReadsAtMostForm before after = (taken : List ℕ) × (length taken ≤ 863) × Consumes before.left after.left taken
+ReadsAtMostForm before after = (taken : List ℕ) × (length taken ≤ most_octets) × Consumes before.left after.left taken
 
 -- nothing was written
 abbrev pub WritesNothing : Outside → Outside → Type 0

@@ -1,5 +1,6 @@
 pub mod Ends
 pub mod FirstForm
-pub mod Framed
 pub mod OnePacket
+pub mod Pieces
 pub mod Shown
+pub mod Taken

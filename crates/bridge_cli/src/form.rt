@@ -1,65 +1,72 @@
-//! The first form of a conference file.
+//! The first form of a conference file, in two pieces: its head, up to the packet, and its rest.
 #![tactic(auto)]
 
-ghost use Rattle.std.specs.Prelude.{◌≡◌, ℕ, ◌+◌, ◌-◌, ◌<◌, ◌≤◌, ◌↔◌, List, length, take, drop, slice_index, IsTrue, IfSome, IfNone, MatchOption};
+ghost use Rattle.std.specs.Prelude.{◌≡◌, ℕ, ◌+◌, ◌-◌, ◌<◌, ◌≤◌, ◌↔◌, List, [], ◌∷◌, length, take, drop, IsTrue, IfSome, IfNone, MatchOption};
 ghost use Rattle.pel_model.specs.declared.Quad.{Quad as Place};
 ghost use Rattle.pel_model.specs.Regions.{number_of};
-ghost use Rattle.bridge_cli.specs.FirstForm.{IsOutline};
-ghost use Rattle.bridge_cli.specs.Framed.{IsFramed};
+ghost use Rattle.bridge_cli.specs.FirstForm.{IsWholePacket};
+ghost use Rattle.bridge_cli.specs.Pieces.{IsHead, IsRest, IsPacketSize};
 
 use pel_model::Quad;
 
-/// The number of octets of a file of the first form.
-pub const FORM_OCTETS: usize = 863;
+/// The number of octets up to the packet.
+pub const HEAD_OCTETS: usize = 25;
 
-// What stands before the digit of the place, and behind it up to the packet.
+/// The number of octets of the entries behind the packet.
+pub const END_OCTETS: usize = 3;
+
+// The RTP header and the payload header.
+const HEADER_OCTETS: usize = 16;
+
+// What stands before the digit of the place, and behind it up to the packet's length.
 const FRONT: &[u8] = b"H261CONF\x01\x01C\x09place ";
 
-const MIDDLE: &[u8] = b" 0P\x00\x03\x43";
+const MIDDLE: &[u8] = b" 0P\x00";
 
-/// What a file of the first form says, but for its picture.
+/// What the head says.
 #[derive(Clone, Copy)]
-pub struct Outline<'a> {
+pub struct Head {
     /// The place in which the lane is shown.
     pub place: Quad,
-    /// The lane's RTP packet, of 835 octets.
+    /// The number of octets of the lane's packet.
+    pub size: usize,
+}
+
+/// What the rest says, but for the picture in the packet.
+#[derive(Clone, Copy)]
+pub struct Rest<'a> {
+    /// The lane's RTP packet.
     pub packet: &'a [u8],
     /// The tick's step, from 1 to 31.
     pub step: u8,
 }
 
-/// Reads a file of the first form, but for the picture in its packet.
-pub fn read_outline(file: &[u8]) -> Option<Outline<'_>>
-    requires { length file.now ≡ FORM_OCTETS }
-    ensures none { IfNone result ((place : Place) (packet : List ℕ) (step : ℕ) → IsOutline file.now place packet step → ⊥) }
-    ensures some { IfSome result (λ o. IsOutline file.now o.place o.packet.now o.step) }
+/// Reads the head of a file of the first form.
+pub fn read_head(head: &[u8]) -> Option<Head>
+    requires { length head.now ≡ HEAD_OCTETS }
+    ensures none { IfNone result ((place : Place) (size : ℕ) → IsHead head.now place size → ⊥) }
+    ensures some { IfSome result (λ h. IsHead head.now h.place h.size) }
 {
-    let place = place_of(file[18])?;
-    if !is_framed(file) {
+    let place = place_of(head[18])?;
+    let size = 256 * usize::from(head[23]) + usize::from(head[24]);
+    if size < HEADER_OCTETS || !stands_at(head, 0, FRONT) || !stands_at(head, 19, MIDDLE) {
         return None;
     }
-    Some(Outline {
-        place,
-        packet: &file[25..860],
-        step: file[861],
-    })
+    Some(Head { place, size })
 }
 
-// Whether the entries round the packet and the packet's fields are those of the form.
-fn is_framed(file: &[u8]) -> bool
-    requires { length file.now ≡ FORM_OCTETS }
-    ensures { IsTrue result ↔ IsFramed file.now }
+/// Reads the rest of a file of the first form, but for the picture in its packet.
+pub fn read_rest(rest: &[u8]) -> Option<Rest<'_>>
+    requires { IsPacketSize (length rest.now - END_OCTETS) }
+    ensures none { IfNone result ((packet : List ℕ) (step : ℕ) → IsRest rest.now packet step → ⊥) }
+    ensures some { IfSome result (λ r. IsRest rest.now r.packet.now r.step) }
 {
-    let step = file[861];
-    stands_at(file, 0, FRONT)
-        && stands_at(file, 19, MIDDLE)
-        && file[25] == 0x80
-        && file[26] >= 0x80
-        && file[37] < 32
-        && file[860] == b'T'
-        && 1 <= step
-        && step <= 31
-        && file[862] == b'E'
+    let (packet, end) = rest.split_at(rest.len() - END_OCTETS);
+    let step = step_of(end)?;
+    if !is_whole(packet) {
+        return None;
+    }
+    Some(Rest { packet, step })
 }
 
 // The place of a digit from 1 to 4.
@@ -75,10 +82,30 @@ fn place_of(digit: u8) -> Option<Quad>
     }
 }
 
-// Whether a piece stands at a place of the file.
-fn stands_at(file: &[u8], at: usize, piece: &[u8]) -> bool
-    requires { at + length piece.now ≤ length file.now }
-    ensures { IsTrue result ↔ (take (length piece.now) (drop at file.now) ≡ piece.now) }
+// Whether a piece stands at a place of the head.
+fn stands_at(head: &[u8], at: usize, piece: &[u8]) -> bool
+    requires { at + length piece.now ≤ length head.now }
+    ensures { IsTrue result ↔ (take (length piece.now) (drop at head.now) ≡ piece.now) }
 {
-    &file[at..at + piece.len()] == piece
+    &head[at..at + piece.len()] == piece
+}
+
+// The step of the tick, from the entries behind the packet.
+fn step_of(end: &[u8]) -> Option<u8>
+    ensures { MatchOption result
+        ((step : ℕ) → end.now ≡ 84 ∷ step ∷ 69 ∷ [] → (0 < step) × (step ≤ 31) → ⊥)
+        (λ step. (end.now ≡ 84 ∷ step ∷ 69 ∷ []) × (0 < step) × (step ≤ 31)) }
+{
+    match end {
+        [b'T', step, b'E'] if (1..=31).contains(step) => Some(*step),
+        _ => None,
+    }
+}
+
+// Whether a packet is whole: of version 2 with nothing behind its fixed header, with the marker bit and SBIT 0.
+fn is_whole(packet: &[u8]) -> bool
+    requires { IsPacketSize (length packet.now) }
+    ensures { IsTrue result ↔ IsWholePacket packet.now }
+{
+    packet[0] == 0x80 && packet[1] >= 0x80 && packet[12] < 32
 }

@@ -1,23 +1,31 @@
 //! The top call: the words that ask for a job, and the job itself over any source and any sinks.
 #![tactic(auto)]
 
-ghost use Rattle.std.specs.Prelude.{◌≡◌, ◌↔◌, ◌<◌, false, IfOk, IfNone, IfSome, length};
+ghost use Rattle.std.specs.Prelude.{◌≡◌, ◌↔◌, ◌-◌, ◌≤◌, ◌++◌, false, IsTrue, IfOk, IfNone, IfSome, length, vec_len};
 ghost use Rattle.pel_model.specs.declared.Format.TheVariants.{Qcif, Cif};
-ghost use Rattle.pel_model.specs.Plain.{plain_picture};
-ghost use Rattle.pel_model.specs.Regions.{shown_in};
+ghost use Rattle.pel_model.specs.Records.{Picture};
+ghost use Rattle.pel_model.specs.Refresh.{IsRefresh};
 ghost use Rattle.h261_pic.specs.Coded.{coding};
-ghost use Rattle.bridge_cli.specs.FirstForm.{FirstForm, IsFirstForm, packet_bits as bits_of_packet};
+ghost use Rattle.bridge_cli.specs.FirstForm.{FirstForm, IsFirstForm, most_bits, packet_bits as bits_of_packet};
 ghost use Rattle.bridge_cli.specs.Ends.{asks_replay as words_ask_replay, Ends};
+ghost use Rattle.bridge_cli.specs.Pieces.{IsPacketSize, head_octets};
+ghost use Rattle.bridge_cli.specs.Taken.{TakesAll, TakesForm, shown};
 
-use crate::form::{FORM_OCTETS, read_outline};
+use crate::form::{END_OCTETS, HEAD_OCTETS, Rest, read_head, read_rest};
 use crate::send::send;
 use crate::show::show;
 use crate::status::Status;
-use h261_pic::{Coded, plain};
+use h261_pic::{Coded, parse};
 use io_edge::{FillStop, Sink, Source, fill};
 use pel_bits::{Bits, NoMemory};
-use pel_model::Format;
+use pel_model::{Format, Quad};
 use std::alloc::Global;
+
+/// The most octets behind the head of a file: a packet of 65,535 octets and the entries behind it.
+const REST_OCTETS: usize = 65_538;
+
+/// The most bits of a picture whose composed picture fits one packet.
+const MOST_BITS: u32 = 10_838;
 
 /// Does the job that the words after the program's name ask for. The word `replay` reads a conference file from
 /// `input` and writes framed RTP packets to `output`. Nothing is written to `notes` yet.
@@ -39,10 +47,10 @@ pub fn run<S: Source, K: Sink, N: Sink>(
     if !asks_replay(words) {
         return Status::Usage;
     }
-    let Ok(mut pictures) = reserve(alloc) else {
+    let Ok(mut room) = reserve(alloc) else {
         return Status::NoMemory;
     };
-    replay(&mut pictures, input, output)
+    replay(&mut room, input, output)
 }
 
 // Whether the words are the one word `replay`.
@@ -55,6 +63,13 @@ fn asks_replay(words: &[String]) -> bool
     }
 }
 
+// The memory of a run: the octets of a file behind its head, and the pictures.
+#[derive(Drop)]
+struct Room {
+    rest: Vec<u8>,
+    pictures: Pictures,
+}
+
 // The sender's picture and the composed one.
 #[derive(Drop)]
 struct Pictures {
@@ -62,68 +77,100 @@ struct Pictures {
     whole: Coded,
 }
 
-fn reserve(alloc: Global) -> Result<Pictures, NoMemory>
-    ensures { IfOk result (λ p. (p.sent.format ≡ Qcif) × (p.whole.format ≡ Cif)) }
+fn reserve(alloc: Global) -> Result<Room, NoMemory>
+    ensures { IfOk result (λ room. (vec_len room.rest ≡ REST_OCTETS) × (room.pictures.sent.format ≡ Qcif) × (room.pictures.whole.format ≡ Cif)) }
 {
-    Ok(Pictures {
-        sent: Coded::reserve(alloc, Format::Qcif)?,
-        whole: Coded::reserve(alloc, Format::Cif)?,
+    Ok(Room {
+        rest: vec![in alloc; 0; REST_OCTETS]?,
+        pictures: Pictures {
+            sent: Coded::reserve(alloc, Format::Qcif)?,
+            whole: Coded::reserve(alloc, Format::Cif)?,
+        },
     })
 }
 
 // Reads a file of the first form and writes its picture.
-fn replay<S: Source, K: Sink>(pictures: &mut Pictures, input: &mut S, output: &mut K) -> Status
-    requires sent { pictures.old.sent.format ≡ Qcif }
-    requires whole { pictures.old.whole.format ≡ Cif }
+fn replay<S: Source, K: Sink>(room: &mut Room, input: &mut S, output: &mut K) -> Status
+    requires rest { vec_len room.old.rest ≡ REST_OCTETS }
+    requires sent { room.old.pictures.sent.format ≡ Qcif }
+    requires whole { room.old.pictures.whole.format ≡ Cif }
     ensures ends { Ends
         (record { left = S.left input.old; faults = S.faults input.old; written = K.written output.old; write_faults = K.faults output.old })
         (record { left = S.left input.new; faults = S.faults input.new; written = K.written output.new; write_faults = K.faults output.new })
         result }
     ensures asked { result ≡ Status.Usage → ⊥ }
 {
-    let mut file = [0; FORM_OCTETS];
-    match fill(input, &mut file, FORM_OCTETS as u64).stop {
-        FillStop::Full => {}
-        FillStop::Failing => return Status::ReadFault,
-        FillStop::AtEnd => return Status::Unsupported,
-        FillStop::Limited => unreachable!(),
-    }
-    let Some(step) = mix(&file, pictures) else {
-        return Status::Unsupported;
+    let step = match take_form(room, input) {
+        Ok(step) => step,
+        Err(status) => return status,
     };
-    match send(&pictures.whole, u32::from(step), output) {
+    match send(&room.pictures.whole, u32::from(step), output) {
         Ok(()) => Status::Done,
         Err(_failed) => Status::WriteFault,
     }
 }
 
-// Composes the picture of a file of the first form, and gives the step of its tick.
-fn mix(file: &[u8], pictures: &mut Pictures) -> Option<u8>
-    requires long { length file.now ≡ FORM_OCTETS }
+// Reads a file of the first form, composes its picture, and gives the step of its tick.
+fn take_form<S: Source>(room: &mut Room, input: &mut S) -> Result<u8, Status>
+    requires rest { vec_len room.old.rest ≡ REST_OCTETS }
+    requires sent { room.old.pictures.sent.format ≡ Qcif }
+    requires whole { room.old.pictures.whole.format ≡ Cif }
+    ensures { TakesForm (S.left input.old) (S.left input.new) (S.faults input.old) (S.faults input.new) room.new.pictures.whole result }
+{
+    let mut octets = [0; HEAD_OCTETS];
+    take_all(input, &mut octets)?;
+    let Some(head) = read_head(&octets) else {
+        return Err(Status::Unsupported);
+    };
+    let rest = &mut room.rest[..head.size + END_OCTETS];
+    take_all(input, rest)?;
+    mix(head.place, rest, &mut room.pictures).ok_or(Status::Unsupported)
+}
+
+// Fills a slice from the source.
+fn take_all<S: Source>(input: &mut S, slice: &mut [u8]) -> Result<(), Status>
+    ensures { TakesAll (S.left input.old) (S.left input.new) (S.faults input.old) (S.faults input.new) slice.new result }
+{
+    let len = slice.len() as u64;
+    match fill(input, slice, len).stop {
+        FillStop::Full => Ok(()),
+        FillStop::Failing => Err(Status::ReadFault),
+        FillStop::AtEnd => Err(Status::Unsupported),
+        FillStop::Limited => unreachable!(),
+    }
+}
+
+// Composes the picture of a file of the first form, from what its head and its rest say, and gives the step of its tick.
+fn mix(place: Quad, rest: &[u8], pictures: &mut Pictures) -> Option<u8>
+    requires size { IsPacketSize (length rest.now - END_OCTETS) }
     requires sent { pictures.old.sent.format ≡ Qcif }
     requires whole { pictures.old.whole.format ≡ Cif }
-    ensures none { IfNone result ((f : FirstForm) → IsFirstForm file.now f → ⊥) }
-    ensures some { IfSome result (λ step. (f : FirstForm) × IsFirstForm file.now f × (step ≡ f.step)
-        × (pictures.new.whole ≡ coding Cif (shown_in f.place f.step (plain_picture f.picture)))) }
+    ensures none { IfNone result ((f : FirstForm) → IsFirstForm (head_octets place (length rest.now - END_OCTETS) ++ rest.now) f → ⊥) }
+    ensures some { IfSome result (λ step. (f : FirstForm) × IsFirstForm (head_octets place (length rest.now - END_OCTETS) ++ rest.now) f
+        × (step ≡ f.step) × (pictures.new.whole ≡ shown f)) }
 {
-    let outline = read_outline(file)?;
-    if !plain(packet_bits(outline.packet), &mut pictures.sent) {
+    let Rest { packet, step } = read_rest(rest)?;
+    let parsed = parse(packet_bits(packet), Format::Qcif, &mut pictures.sent);
+    if parsed.is_err() || !may_be_shown(&pictures.sent) {
         return None;
     }
-    show(
-        &pictures.sent,
-        outline.place,
-        outline.step,
-        &mut pictures.whole,
-    );
-    Some(outline.step)
+    show(&pictures.sent, place, step, &mut pictures.whole);
+    Some(step)
 }
 
 // The bits of a packet behind its headers, without those that EBIT takes away.
 fn packet_bits(packet: &[u8]) -> Bits<'_>
-    requires { length packet.now ≡ 835 }
+    requires { IsPacketSize (length packet.now) }
     ensures { result ≡ bits_of_packet packet.now }
 {
     let ebit = u32::from(packet[12] / 4 % 8);
-    Bits::new(&packet[16..], 0, 6552 - ebit)
+    let payload = &packet[16..];
+    Bits::new(payload, 0, (8 * payload.len() as u32).saturating_sub(ebit))
+}
+
+// Whether a picture is a refresh whose composed picture fits one packet.
+fn may_be_shown(picture: &Coded) -> bool
+    ensures { (p : Picture) → picture.now ≡ coding Qcif p → (IsTrue result ↔ (IsRefresh Qcif p × (length picture.now.bits ≤ most_bits))) }
+{
+    picture.is_refresh() && picture.bits().len() <= MOST_BITS
 }

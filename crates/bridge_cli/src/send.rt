@@ -21,7 +21,7 @@ const TICKS: u32 = 3003;
 
 /// Writes a picture as one packet with its length before it.
 pub fn send<K: Sink>(picture: &Coded, total: u32, sink: &mut K) -> Result<(), Failed>
-    requires fits { length picture.now.bits ≤ 30000 }
+    requires fits { length picture.now.bits ≤ 11072 }
     requires early { total < 1000 }
     ensures bytes { PutsAll (K.written sink.old) (K.written sink.new) result (frame (one_packet (3003 * total) picture.now.bits)) }
     ensures cause { HasCause (K.faults sink.old) (K.faults sink.new) result }
@@ -47,7 +47,7 @@ fn put_both<K: Sink>(sink: &mut K, first: &[u8], second: &[u8]) -> Result<(), Fa
 
 // The payload header of so many bits in one packet.
 fn payload_header(len: u32) -> [u8; 4]
-    requires { len ≤ 30000 }
+    requires { len ≤ 11072 }
     ensures { result ≡ header_of_payload (whole len - len) }
 {
     let ebit = (8 - len % 8) % 8;

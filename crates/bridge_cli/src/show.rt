@@ -1,23 +1,26 @@
-//! A plain picture in one place of a CIF picture.
+//! A QCIF picture in one place of a CIF picture.
 #![tactic(auto)]
 
-ghost use Rattle.std.specs.Prelude.{◌≡◌, ◌<◌, ◌≤◌, []};
+ghost use Rattle.std.specs.Prelude.{◌≡◌, ◌<◌, ◌≤◌, [], length};
 ghost use Rattle.pel_model.specs.declared.Format.TheVariants.{Qcif, Cif};
-ghost use Rattle.pel_model.specs.Plain.{PlainPicture, IsPlainPicture, plain_picture};
+ghost use Rattle.pel_model.specs.Records.{Picture};
 ghost use Rattle.pel_model.specs.Regions.{shown_in};
 ghost use Rattle.h261_pic.specs.Coded.{coding};
+ghost use Rattle.pel_model.specs.Valid.{IsValid};
+ghost use Rattle.bridge_cli.specs.FirstForm.{most_bits};
 ghost use Rattle.bridge_cli.specs.Shown.{index_in};
 
 use h261_pic::Coded;
 use pel_model::Quad;
 
-/// Writes the CIF picture that shows a plain picture in one place, and nothing elsewhere.
+/// Writes the CIF picture that shows a QCIF picture in one place, and nothing elsewhere.
 pub fn show(picture: &Coded, place: Quad, tr: u8, whole: &mut Coded)
-    requires plain { (p : PlainPicture) × IsPlainPicture p × (picture.now ≡ coding Qcif (plain_picture p)) }
+    requires picture { (p : Picture) × IsValid Qcif p × (picture.now ≡ coding Qcif p) }
+    requires short { length picture.now.bits ≤ most_bits }
     requires cif { whole.old.format ≡ Cif }
     requires fits { tr < 32 }
-    ensures { (p : PlainPicture) → IsPlainPicture p → picture.now ≡ coding Qcif (plain_picture p)
-        → whole.new ≡ coding Cif (shown_in place tr (plain_picture p)) }
+    ensures { (p : Picture) → IsValid Qcif p → picture.now ≡ coding Qcif p
+        → whole.new ≡ coding Cif (shown_in place tr p) }
 {
     whole.start(tr);
     for number in 1..13 {

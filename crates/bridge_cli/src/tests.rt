@@ -19,34 +19,108 @@ fn push_field(bits: &mut Vec<bool>, value: u32, width: u32) -> Result<(), AllocE
     Ok(())
 }
 
-// A grey picture: TR 1, GQUANT 8, and each of 99 macroblocks is Intra with INTRADC 11111111 in its six blocks.
-fn grey(alloc: Global) -> Result<Vec<bool>, AllocError> {
+// A picture that is sent: TR 1, GQUANT 8, and each of its 99 macroblocks is Intra with INTRADC 11111111 in its six
+// blocks. Else it has what is told here.
+#[derive(Clone, Copy)]
+struct Sent {
+    // how many coefficients of run 0 and level 1 stand in its first blocks, 60 in each
+    coefficients: u32,
+    // whether it has spare bytes and stuffing, and seven zero bits behind it
+    padded: bool,
+    // whether the last macroblock is Inter, with one coefficient
+    last_inter: bool,
+}
+
+const GREY: Sent = Sent {
+    coefficients: 0,
+    padded: false,
+    last_inter: false,
+};
+
+// The bits of a picture that is sent.
+fn picture(alloc: Global, sent: Sent) -> Result<Vec<bool>, AllocError> {
     let mut bits = Vec::new(alloc);
-    for (value, width) in [(0x10, 20), (1, 5), (3, 6), (0, 1)] {
+    for (value, width) in [(0x10, 20), (1, 5), (3, 6)] {
         push_field(&mut bits, value, width)?;
     }
+    push_spares(&mut bits, sent.padded)?;
+    let mut coefficients = sent.coefficients;
     for group in [1, 3, 5] {
-        for (value, width) in [(1, 16), (group, 4), (8, 5), (0, 1)] {
+        for (value, width) in [(1, 16), (group, 4), (8, 5)] {
             push_field(&mut bits, value, width)?;
         }
-        for _ in 0..33 {
-            push_field(&mut bits, 0b10001, 5)?;
-            for _ in 0..6 {
-                push_field(&mut bits, 0b11_1111_1110, 10)?;
+        push_spares(&mut bits, sent.padded)?;
+        for address in 1..34 {
+            if sent.padded {
+                push_field(&mut bits, 0b000_0000_1111, 11)?;
+            }
+            if sent.last_inter && group == 5 && address == 33 {
+                push_field(&mut bits, 0b11_1010_1010, 10)?;
+            } else {
+                push_intra(&mut bits, &mut coefficients)?;
             }
         }
     }
-    push_field(&mut bits, 0, 7)?;
+    if sent.padded {
+        push_field(&mut bits, 0, 7)?;
+    }
     Ok(bits)
+}
+
+// Two spare bytes, or none, with the bits that tell it.
+fn push_spares(bits: &mut Vec<bool>, padded: bool) -> Result<(), AllocError> {
+    if padded {
+        push_field(bits, 0b1_0000_0000_1_1111_1111, 18)?;
+    }
+    push_field(bits, 0, 1)
+}
+
+// An Intra macroblock, whose blocks take up to 60 of the coefficients each.
+fn push_intra(bits: &mut Vec<bool>, coefficients: &mut u32) -> Result<(), AllocError> {
+    push_field(bits, 0b1_0001, 5)?;
+    for _ in 0..6 {
+        push_field(bits, 0b1111_1111, 8)?;
+        let here = (*coefficients).min(60);
+        *coefficients -= here;
+        for _ in 0..here {
+            push_field(bits, 0b110, 3)?;
+        }
+        push_field(bits, 0b10, 2)?;
+    }
+    Ok(())
+}
+
+// A packet with these bits and as many zeros behind them as EBIT tells. V is 1.
+fn packet(alloc: Global, bits: &[bool]) -> Result<Vec<u8>, AllocError> {
+    let ebit = (8 - bits.len() % 8) % 8;
+    let mut packet = Vec::new(alloc);
+    packet.extend_from_slice(b"\x80\x9f\0\0\0\0\0\0\0\0\0\0")?;
+    packet.push(4 * ebit as u8 + 1)?;
+    packet.extend_from_slice(b"\0\0\0")?;
+    for eight in bits.chunks(8) {
+        let mut octet = 0u8;
+        for bit in eight {
+            octet = octet.wrapping_mul(2) | u8::from(*bit);
+        }
+        packet.push(octet.wrapping_shl((8 - eight.len()) as u32))?;
+    }
+    Ok(packet)
 }
 
 // The conference file of one lane that sends the grey picture, shown in a place.
 fn conference(alloc: Global, place: &[u8]) -> Result<Vec<u8>, AllocError> {
-    conference_of(alloc, place, 1, 0)
+    let packet = packet(alloc, &picture(alloc, GREY)?)?;
+    conference_of(alloc, place, 1, 0, &packet)
 }
 
-// The same with so many lanes, and a packet of this one of them.
-fn conference_of(alloc: Global, place: &[u8], lanes: u8, lane: u8) -> Result<Vec<u8>, AllocError> {
+// A file of so many lanes, with this packet of this one of them.
+fn conference_of(
+    alloc: Global,
+    place: &[u8],
+    lanes: u8,
+    lane: u8,
+    packet: &[u8],
+) -> Result<Vec<u8>, AllocError> {
     let mut file = Vec::new(alloc);
     file.extend_from_slice(b"H261CONF\x01")?;
     file.push(lanes)?;
@@ -54,14 +128,9 @@ fn conference_of(alloc: Global, place: &[u8], lanes: u8, lane: u8) -> Result<Vec
     file.extend_from_slice(place)?;
     file.extend_from_slice(b" 0P")?;
     file.push(lane)?;
-    file.extend_from_slice(b"\x03\x43\x80\x9f\0\0\0\0\0\0\0\0\0\0\x1d\0\0\0")?;
-    for eight in grey(alloc)?.chunks(8) {
-        let mut octet = 0u8;
-        for bit in eight {
-            octet = octet.wrapping_mul(2) | u8::from(*bit);
-        }
-        file.push(octet)?;
-    }
+    file.push((packet.len() / 256 % 256) as u8)?;
+    file.push((packet.len() % 256) as u8)?;
+    file.extend_from_slice(packet)?;
     file.extend_from_slice(b"T\x01E")?;
     Ok(file)
 }
@@ -96,7 +165,7 @@ fn run_words(
 
 // Runs `replay` on a file, over a source and a sink that never fail.
 fn replay(alloc: Global, file: Vec<u8>) -> Result<Ended, Fail> {
-    let output = MemSink::reserve(alloc, 1000, Vec::new(alloc), 1000)?;
+    let output = MemSink::reserve(alloc, 2000, Vec::new(alloc), 1000)?;
     let input = MemSource::new(file, Vec::new(alloc), 1000);
     run_words(alloc, &["replay"], input, output)
 }
@@ -151,12 +220,76 @@ fn grey_bottom_right(rt: HostRuntime) -> Result<(), Fail> {
 #[test]
 fn two_lanes_are_unsupported(rt: HostRuntime) -> Result<(), Fail> {
     let alloc = rt.alloc();
+    let packet = packet(alloc, &picture(alloc, GREY)?)?;
     for (lanes, lane) in [(2, 0), (2, 1), (1, 1), (1, 2)] {
-        let ended = replay(alloc, conference_of(alloc, b"1", lanes, lane)?)?;
+        let ended = replay(alloc, conference_of(alloc, b"1", lanes, lane, &packet)?)?;
         assert_eq!(rt;
             (ended.status, ended.written.len()),
             (Status::Unsupported, 0),
             "{lanes} lanes, packet of lane {lane}"
+        );
+    }
+    Ok(())
+}
+
+#[test]
+fn other_refreshes(rt: HostRuntime) -> Result<(), Fail> {
+    let alloc = rt.alloc();
+    let padded = Sent {
+        padded: true,
+        ..GREY
+    };
+    let longest = Sent {
+        coefficients: 1431,
+        ..GREY
+    };
+    // the bits of a picture and the octets of its packet; the octets that are written, and their digest
+    let rows = [
+        (padded, 7713, 981, 866, 4_176_692_136),
+        (longest, 10_838, 1371, 1402, 1_448_768_474),
+    ];
+    for (sent, bits, octets, length, want) in rows {
+        let picture = picture(alloc, sent)?;
+        let packet = packet(alloc, &picture)?;
+        assert_eq!(rt; (picture.len(), packet.len()), (bits, octets));
+        let ended = replay(alloc, conference_of(alloc, b"1", 1, 0, &packet)?)?;
+        assert_eq!(rt;
+            (ended.status, ended.written.len(), digest(&ended.written)),
+            (Status::Done, length, want)
+        );
+    }
+    Ok(())
+}
+
+#[test]
+fn what_is_no_refresh_of_one_packet_is_unsupported(rt: HostRuntime) -> Result<(), Fail> {
+    let alloc = rt.alloc();
+    let too_long = Sent {
+        coefficients: 1432,
+        ..GREY
+    };
+    let last_inter = Sent {
+        last_inter: true,
+        ..GREY
+    };
+    // the picture, and how many octets of its packet are sent
+    let rows = [
+        (too_long, 1372),
+        (last_inter, 828),
+        (GREY, 834),
+        (GREY, 16),
+        (GREY, 15),
+        (GREY, 0),
+    ];
+    for (sent, octets) in rows {
+        let mut packet = packet(alloc, &picture(alloc, sent)?)?;
+        packet.truncate(octets);
+        assert_eq!(rt; packet.len(), octets);
+        let ended = replay(alloc, conference_of(alloc, b"1", 1, 0, &packet)?)?;
+        assert_eq!(rt;
+            (ended.status, ended.written.len()),
+            (Status::Unsupported, 0),
+            "{octets} octets"
         );
     }
     Ok(())

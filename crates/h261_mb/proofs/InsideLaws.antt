@@ -1,62 +1,29 @@
 -- Elements inside a macroblock.
-use Rattle.std.proofs.Common.{◌≡◌, ℕ, ◌≤◌, ◌||◌, Bool, true, false, cond, List, [], ◌∷◌, ◌++◌, length, drop, map, flat_map, ℤ, Option, Some, None, refl, ◌∙◌, ap, inr}
-use Rattle.std.specs.List.{list_any}
+use Rattle.std.proofs.Common.{◌≡◌, ℕ, ◌≤◌, false, List, [], ◌∷◌, ◌++◌, length, drop, map, flat_map, ℤ, Option, Some, None, refl, sym, ◌∙◌, ap, subst, inr}
 use Rattle.std.proofs.lemmas.List.{drop-append-le}
 use Rattle.pel_model.specs.declared.MbKind.{MbKind}
-use Rattle.pel_model.specs.Codes.{has_vector, has_cbp}
-use Rattle.pel_model.specs.Records.{Across, Down, Coefficient, Block}
-use Rattle.pel_model.specs.Elements.{dc_elements, coefficient_elements, block_elements}
+use Rattle.pel_model.specs.Records.{Coefficient, Block}
+use Rattle.pel_model.specs.Elements.{AreInside, dc_elements, coefficient_elements, block_elements, mquant_elements, vector_elements, cbp_elements}
 use Rattle.pel_model.specs.Walk.{after}
-use Rattle.pel_model.specs.Grammar.{Element, Mba, Mtype, Mvd, Cbp, Dc, Tcoeff, Eob, slot, may_end}
+use Rattle.pel_model.specs.Grammar.{Element, Mba, Mtype, Dc, Tcoeff, slot, may_end}
 use Rattle.pel_model.proofs.Walks.{after-append}
-use Rattle.h261_mb.specs.Inside.{opens, AreInside, StaysInside, IsMacroblockSoFar}
-use Rattle.h261_mb.specs.Macroblocks.{mquant_elements, vector_elements, cbp_elements}
-
-pub inside-append : (xs ys : List Element) → AreInside xs → AreInside ys → AreInside (xs ++ ys)
-inside-append [] ys here there = there
-inside-append (x ∷ xs) ys here there = both (opens x) (list_any opens xs) (list_any opens (xs ++ ys)) here (λ (rest : AreInside xs). inside-append xs ys rest there)
-  where
-    both : (a b c : Bool) → (a || b) ≡ false → (b ≡ false → c ≡ false) → (a || c) ≡ false
-    both true b c h next = absurd cc
-    both false b c h next = next h
+use Rattle.pel_model.proofs.InsideElements.{inside-append, inside-block-so-far, inside-block, inside-mquant, inside-vector, inside-cbp}
+use Rattle.h261_mb.specs.Inside.{StaysInside, IsMacroblockSoFar}
 
 -- ---- the elements of the parts
 
-inside-coefficients : (cs : List Coefficient) → AreInside (map Tcoeff cs)
-inside-coefficients [] = refl
-inside-coefficients (c ∷ cs) = inside-coefficients cs
-
-inside-dc : (dc : Option ℕ) → AreInside (dc_elements dc)
-inside-dc None = refl
-inside-dc (Some n) = refl
-
-inside-block-so-far : (b : Block) → AreInside (coefficient_elements b)
-inside-block-so-far b = inside-append (dc_elements b.dc) (map Tcoeff b.coefficients) (inside-dc b.dc) (inside-coefficients b.coefficients)
-
-inside-block : (b : Block) → AreInside (block_elements b)
-inside-block b = inside-append (coefficient_elements b) (Eob ∷ []) (inside-block-so-far b) refl
-
 pub inside-blocks : (bs : List Block) → AreInside (flat_map block_elements bs)
-inside-blocks [] = refl
+inside-blocks [] = tt
 inside-blocks (b ∷ bs) = inside-append (block_elements b) (flat_map block_elements bs) (inside-block b) (inside-blocks bs)
 
-inside-mquant : (mquant : Option ℕ) → AreInside (mquant_elements mquant)
-inside-mquant None = refl
-inside-mquant (Some q) = refl
-
 pub inside-head : (es : List Element) (d : ℕ) (k : MbKind) (mquant : Option ℕ) → es ≡ Mba d ∷ Mtype k ∷ mquant_elements mquant → AreInside (drop 1 es)
-inside-head es d k mquant is = ap (λ (es : List Element). list_any opens (drop 1 es)) is ∙ inside-mquant mquant
+inside-head es d k mquant is = subst (λ (es : List Element). AreInside (drop 1 es)) (sym is) (inside-mquant mquant)
 
-inside-if : (has : Bool) (e f : List Element) → AreInside e → AreInside f → AreInside (cond has e f)
-inside-if true e f he hf = he
-inside-if false e f he hf = hf
+pub inside-read_vector : (es : List Element) (k : MbKind) (across down : ℤ × ℤ) → es ≡ vector_elements k across down → AreInside es
+inside-read_vector es k across down is = subst AreInside (sym is) (inside-vector k across down)
 
-pub inside-vector : (es : List Element) (k : MbKind) (across down : ℤ × ℤ) → es ≡ vector_elements k across down → AreInside es
-inside-vector es k across down is =
-    ap (list_any opens) is ∙ inside-if (has_vector k) (Mvd Across across ∷ Mvd Down down ∷ []) [] refl refl
-
-pub inside-cbp : (es : List Element) (k : MbKind) (n : ℕ) → es ≡ cbp_elements k n → AreInside es
-inside-cbp es k n is = ap (list_any opens) is ∙ inside-if (has_cbp k) (Cbp n ∷ []) [] refl refl
+pub inside-read_cbp : (es : List Element) (k : MbKind) (n : ℕ) → es ≡ cbp_elements k n → AreInside es
+inside-read_cbp es k n is = subst AreInside (sym is) (inside-cbp k n)
 
 -- ---- where a fault is met
 
@@ -82,4 +49,4 @@ stays_later before xs ys here there = (inside-append xs ys here there.0, still b
 -- a head, and more that stay inside
 pub so_far_later : (before xs ys : List Element) → 1 ≤ length xs → AreInside (drop 1 xs) → StaysInside (after before xs) ys → IsMacroblockSoFar before (xs ++ ys)
 so_far_later before xs ys some here there =
-    (ap (list_any opens) (drop-append-le 1 xs ys some) ∙ inside-append (drop 1 xs) ys here there.0, inr (still before xs ys there.1))
+    (subst AreInside (sym (drop-append-le 1 xs ys some)) (inside-append (drop 1 xs) ys here there.0), inr (still before xs ys there.1))

@@ -3,11 +3,10 @@ use Rattle.std.proofs.Common.{◌≡◌, ℕ, ◌-◌, Bool, true, false, cond, 
 use Rattle.pel_model.specs.declared.MbKind.{MbKind}
 use Rattle.pel_model.specs.Codes.{has_cbp}
 use Rattle.pel_model.specs.Records.{Across, Down, Coefficient, Block}
-use Rattle.pel_model.specs.Elements.{dc_elements, coefficient_elements, block_elements}
+use Rattle.pel_model.specs.Elements.{dc_elements, coefficient_elements, block_elements, cbp_elements}
 use Rattle.pel_model.specs.Walk.{after}
 use Rattle.pel_model.specs.Grammar.{Element, Cbp, Dc, Tcoeff, Eob, slot, block_slot, kind, blocks, group, address, quant, vector}
 use Rattle.pel_model.proofs.Walks.{after-append}
-use Rattle.h261_mb.specs.Macroblocks.{cbp_elements}
 use Rattle.h261_mb.specs.State.{Say}
 
 -- all that elements say of the last macroblock but its blocks

@@ -4,9 +4,8 @@ use Rattle.std.proofs.lemmas.List.Sums.{sum_by-cons}
 use Rattle.pel_model.specs.Bits.{number}
 use Rattle.pel_model.specs.Records.{Block, Macroblock}
 use Rattle.pel_model.specs.Text.{coded_block_pattern}
-use Rattle.pel_model.specs.Elements.{block_elements}
+use Rattle.pel_model.specs.Elements.{block_elements, mquant_elements, vector_elements, cbp_elements, blocks_elements, macroblock_elements}
 use Rattle.pel_model.specs.Grammar.{Element, Mba, Mtype}
-use Rattle.h261_mb.specs.Macroblocks.{mquant_elements, vector_elements, cbp_elements, blocks_elements, macroblock_elements}
 
 abbrev pub placed : List Bool → List Block → List (Option Block)
 placed [] bs = []

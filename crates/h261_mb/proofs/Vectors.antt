@@ -11,7 +11,7 @@ use Rattle.pel_model.specs.Records.{Axis}
 use Rattle.pel_model.specs.Valid.{side as side_of}
 use Rattle.pel_model.specs.Valid.{corner}
 use Rattle.pel_model.specs.Walk.{Good, Bad, read}
-use Rattle.pel_model.specs.Grammar.{Element, Mvd, AtMvd, slot, vector, group, address, table_rows, faults, first_why, stays_within, next, in_range, moved}
+use Rattle.pel_model.specs.Grammar.{Element, Mvd, AtMvd, slot, vector, group, address, table_rows, faults, first_why, stays_within, next, in_range, component_from}
 use Rattle.h261_mb.proofs.Slots.{good, at_fault, at-mvd}
 use Rattle.h261_mb.specs.State.{IsNear}
 
@@ -19,10 +19,10 @@ near_by : (z : ℤ) → in_range z ≡ true → IsNear z
 near_by (pos n) h = (omega (arith, ints, ltb-true n 16 h), omega (arith, ints, ltb-true n 16 h))
 near_by (negsuc n) h = (omega (arith, ints, ltb-true n 15 h), omega (arith, ints, ltb-true n 15 h))
 
-pub first_value : (last : ℤ) (v : ℤ × ℤ) → in_range (last +ℤ v.0) ≡ true → moved last v ≡ last +ℤ v.0
+pub first_value : (last : ℤ) (v : ℤ × ℤ) → in_range (last +ℤ v.0) ≡ true → component_from last v ≡ last +ℤ v.0
 first_value last v h = ap (λ (b : Bool). cond b (last +ℤ v.0) (last +ℤ v.1)) h
 
-pub second_value : (last : ℤ) (v : ℤ × ℤ) → in_range (last +ℤ v.0) ≡ false → moved last v ≡ last +ℤ v.1
+pub second_value : (last : ℤ) (v : ℤ × ℤ) → in_range (last +ℤ v.0) ≡ false → component_from last v ≡ last +ℤ v.1
 second_value last v h = ap (λ (b : Bool). cond b (last +ℤ v.0) (last +ℤ v.1)) h
 
 pub near : (z : ℤ) → in_range z ≡ true → IsNear z
@@ -60,14 +60,14 @@ pick_none true m is = absurd cc
 pick_none false m is = refl
 
 -- what the code chose is the component, where `given` is the predictor as the code passes it on
-pub is_chosen : (last given : ℤ) (v : ℤ × ℤ) (component : ℤ) → given ≡ last → Some component ≡ cond (in_range (moved given v)) (Some (moved given v)) None → (in_range (moved last v) ≡ true) × (moved last v ≡ component)
+pub is_chosen : (last given : ℤ) (v : ℤ × ℤ) (component : ℤ) → given ≡ last → Some component ≡ cond (in_range (component_from given v)) (Some (component_from given v)) None → (in_range (component_from last v) ≡ true) × (component_from last v ≡ component)
 is_chosen last given v component same is =
-    let told = pick_some (in_range (moved given v)) (moved given v) component is in
-    (ap (λ (z : ℤ). in_range (moved z v)) (sym same) ∙ told.0, ap (λ (z : ℤ). moved z v) (sym same) ∙ told.1)
+    let told = pick_some (in_range (component_from given v)) (component_from given v) component is in
+    (ap (λ (z : ℤ). in_range (component_from z v)) (sym same) ∙ told.0, ap (λ (z : ℤ). component_from z v) (sym same) ∙ told.1)
 
-pub is_none : (last given : ℤ) (v : ℤ × ℤ) → given ≡ last → None ≡ cond (in_range (moved given v)) (Some (moved given v)) None → in_range (moved last v) ≡ false
+pub is_none : (last given : ℤ) (v : ℤ × ℤ) → given ≡ last → None ≡ cond (in_range (component_from given v)) (Some (component_from given v)) None → in_range (component_from last v) ≡ false
 is_none last given v same is =
-    ap (λ (z : ℤ). in_range (moved z v)) (sym same) ∙ pick_none (in_range (moved given v)) (moved given v) is
+    ap (λ (z : ℤ). in_range (component_from z v)) (sym same) ∙ pick_none (in_range (component_from given v)) (component_from given v) is
 
 -- ---- what stands where MVD is due
 
@@ -75,28 +75,28 @@ abbrev why_of : ℕ → ℕ → ℤ → Option Why
 why_of side first m = cond (not (in_range m)) (Some BadVector) (cond (not (stays_within side first m)) (Some VectorOutside) None)
 
 module _ (format : Format) (before : List Element) (r : List Bool × ℕ) (axis : Axis) (last : ℤ) (first side : ℕ) (v : ℤ × ℤ) (n : ℕ) (due : slot before ≡ AtMvd axis) (vector_is : vector axis before ≡ last) (side_is : side_of format axis ≡ side) (corner_is : corner axis (group before) (address before) ≡ first) (is : read (table_rows mvd_table (Mvd axis)) r.0 ≡ Good (Mvd axis v) n) where
-  judged_by : first_why (faults format before (Mvd axis v)) ≡ why_of side first (moved last v)
+  judged_by : first_why (faults format before (Mvd axis v)) ≡ why_of side first (component_from last v)
   judged_by =
-      ap (λ (p : ℤ). why_of (side_of format axis) (corner axis (group before) (address before)) (moved p v)) vector_is
-      ∙ (ap (λ (s : ℕ). why_of s (corner axis (group before) (address before)) (moved last v)) side_is
-      ∙ ap (λ (x : ℕ). why_of side x (moved last v)) corner_is)
+      ap (λ (p : ℤ). why_of (side_of format axis) (corner axis (group before) (address before)) (component_from p v)) vector_is
+      ∙ (ap (λ (s : ℕ). why_of s (corner axis (group before) (address before)) (component_from last v)) side_is
+      ∙ ap (λ (x : ℕ). why_of side x (component_from last v)) corner_is)
 
-  pub mvd-good : in_range (moved last v) ≡ true → stays_within side first (moved last v) ≡ true → next format before r ≡ Good (Mvd axis v) n
+  pub mvd-good : in_range (component_from last v) ≡ true → stays_within side first (component_from last v) ≡ true → next format before r ≡ Good (Mvd axis v) n
   mvd-good near inside =
       good format before r (AtMvd axis) (read (table_rows mvd_table (Mvd axis)) r.0) due (at-mvd axis r.0) (Mvd axis v) n is
       (judged_by
-      ∙ (ap (λ (b : Bool). cond (not b) (Some BadVector) (cond (not (stays_within side first (moved last v))) (Some VectorOutside) None)) near
+      ∙ (ap (λ (b : Bool). cond (not b) (Some BadVector) (cond (not (stays_within side first (component_from last v))) (Some VectorOutside) None)) near
       ∙ ap (λ (b : Bool). cond (not b) (Some VectorOutside) None) inside))
 
-  pub mvd-outside : in_range (moved last v) ≡ true → stays_within side first (moved last v) ≡ false → next format before r ≡ Bad VectorOutside
+  pub mvd-outside : in_range (component_from last v) ≡ true → stays_within side first (component_from last v) ≡ false → next format before r ≡ Bad VectorOutside
   mvd-outside near outside =
       at_fault format before r (AtMvd axis) (read (table_rows mvd_table (Mvd axis)) r.0) due (at-mvd axis r.0) (Mvd axis v) n VectorOutside is
       (judged_by
-      ∙ (ap (λ (b : Bool). cond (not b) (Some BadVector) (cond (not (stays_within side first (moved last v))) (Some VectorOutside) None)) near
+      ∙ (ap (λ (b : Bool). cond (not b) (Some BadVector) (cond (not (stays_within side first (component_from last v))) (Some VectorOutside) None)) near
       ∙ ap (λ (b : Bool). cond (not b) (Some VectorOutside) None) outside))
 
-  pub mvd-bad : in_range (moved last v) ≡ false → next format before r ≡ Bad BadVector
+  pub mvd-bad : in_range (component_from last v) ≡ false → next format before r ≡ Bad BadVector
   mvd-bad far =
       at_fault format before r (AtMvd axis) (read (table_rows mvd_table (Mvd axis)) r.0) due (at-mvd axis r.0) (Mvd axis v) n BadVector is
       (judged_by
-      ∙ ap (λ (b : Bool). cond (not b) (Some BadVector) (cond (not (stays_within side first (moved last v))) (Some VectorOutside) None)) far)
+      ∙ ap (λ (b : Bool). cond (not b) (Some BadVector) (cond (not (stays_within side first (component_from last v))) (Some VectorOutside) None)) far)

@@ -1,18 +1,8 @@
 -- A macroblock as far as it was read, where a fault is met.
-use Rattle.std.specs.Prelude.{◌≡◌, Bool, true, false, List, [], drop, ◌⊎◌}
-use Rattle.std.specs.List.{list_any}
+use Rattle.std.specs.Prelude.{◌≡◌, false, List, [], drop, ◌⊎◌}
 use Rattle.pel_model.specs.Walk.{after}
-use Rattle.pel_model.specs.Grammar.{Element, Gbsc, Stuffing, Mba, slot, may_end}
-
--- a group, stuffing or a macroblock begins
-abbrev pub opens : Element → Bool
-opens Gbsc = true
-opens Stuffing = true
-opens (Mba n) = true
-opens _ = false
-
-abbrev pub AreInside : List Element → Type 0
-AreInside es = list_any opens es ≡ false
+use Rattle.pel_model.specs.Elements.{AreInside}
+use Rattle.pel_model.specs.Grammar.{Element, slot, may_end}
 
 -- behind the MBA of a macroblock: nothing else begins, and the macroblock is not whole
 abbrev pub StaysInside : List Element → List Element → Type 0

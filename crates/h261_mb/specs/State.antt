@@ -7,7 +7,7 @@ use Rattle.pel_model.specs.Walk.{after}
 use Rattle.pel_model.specs.Grammar.{Element, slot, AtMacroblock, vector_slot, cbp_slot, kind, blocks, group, address, quant, vector}
 use Rattle.h261_mb.specs.declared.state.MbState.{MbState}
 use Rattle.h261_mb.specs.declared.state.Head.{Head}
-use Rattle.h261_mb.specs.Macroblocks.{macroblock_elements}
+use Rattle.pel_model.specs.Elements.{macroblock_elements}
 
 -- ---- what the code asks of a state
 

@@ -11,7 +11,7 @@ ghost use Rattle.pel_model.specs.Elements.{block_elements};
 ghost use Rattle.pel_model.specs.Grammar.{Element, Cbp, slot, AtMacroblock, AtCbp, block_slot, cbp_slot, kind as kind_before, blocks as blocks_before, next};
 ghost use Rattle.pel_model.specs.Walk.{after, Takes, Walked};
 ghost use Rattle.h261_mb.specs.Inside.{StaysInside};
-ghost use Rattle.h261_mb.specs.Macroblocks.{cbp_elements};
+ghost use Rattle.pel_model.specs.Elements.{cbp_elements};
 
 use crate::kinds::{has_cbp, is_intra};
 use h261_block::scan_block;

@@ -6,10 +6,10 @@ ghost use Rattle.pel_model.specs.declared.Format.{Format};
 ghost use Rattle.pel_model.specs.declared.Why.{Why as Reason};
 ghost use Rattle.pel_model.specs.declared.Why.TheVariants.{NoCode};
 ghost use Rattle.pel_model.specs.Codes.{has_mquant as mquant_by_table, has_vector as vector_by_table};
-ghost use Rattle.pel_model.specs.Grammar.{Element, Mba, Mtype, Mquant, Stuffing, mba_rows, slot, AtMacroblock, AtMtype, AtMquant, vector_slot, address as address_before, starts_anew as anew, next};
+ghost use Rattle.pel_model.specs.Grammar.{Element, Mba, Mtype, Mquant, Stuffing, mba_rows, slot, AtMacroblock, AtMtype, AtMquant, vector_slot, address as address_before, resets_predictor as anew, next};
 ghost use Rattle.pel_model.specs.Walk.{Good, Bad, read, after, Takes, Walked};
 ghost use Rattle.h261_mb.specs.Inside.{StaysInside, IsMacroblockSoFar};
-ghost use Rattle.h261_mb.specs.Macroblocks.{mquant_elements};
+ghost use Rattle.pel_model.specs.Elements.{mquant_elements};
 ghost use Rattle.h261_mb.specs.State.{IsReady, IsNear, Stands, IsBegun};
 
 use crate::kinds::{has_mquant, has_vector};

@@ -5,10 +5,10 @@ ghost use Rattle.std.specs.Prelude.{◌≡◌, ℕ, ◌<◌, ◌≤◌, ℤ, neg
 ghost use Rattle.pel_model.specs.declared.Format.{Format as PictureFormat};
 ghost use Rattle.pel_model.specs.Valid.{side as side_of, corner};
 ghost use Rattle.pel_model.specs.Records.{Axis, Across, Down};
-ghost use Rattle.pel_model.specs.Grammar.{Element, Mvd, slot, AtMvd, group as group_before, address as address_before, vector as vector_before, moved, in_range as is_in_range, is_group, stays_within as stays, next};
+ghost use Rattle.pel_model.specs.Grammar.{Element, Mvd, slot, AtMvd, group as group_before, address as address_before, vector as vector_before, component_from, in_range as is_in_range, is_group, stays_within as stays, next};
 ghost use Rattle.pel_model.specs.Walk.{after, Walked};
 ghost use Rattle.h261_mb.specs.Inside.{StaysInside};
-ghost use Rattle.h261_mb.specs.Macroblocks.{vector_elements};
+ghost use Rattle.pel_model.specs.Elements.{vector_elements};
 ghost use Rattle.h261_mb.specs.State.{IsNear, IsBegun, IsMoved};
 
 use crate::kinds::has_vector;
@@ -54,7 +54,7 @@ fn read_vector(
     ensures walk { (before : List Element) → slot before ≡ AtMvd Across → group_before before ≡ group → address_before before ≡ head.now.address →
         vector_before Across before ≡ head.now.h → vector_before Down before ≡ head.now.v →
         Walked (next format) before
-        (λ vector es new. (across : ℤ × ℤ) × (down : ℤ × ℤ) × (es ≡ Mvd Across across ∷ Mvd Down down ∷ []) × (moved head.now.h across ≡ vector.0) × (moved head.now.v down ≡ vector.1))
+        (λ vector es new. (across : ℤ × ℤ) × (down : ℤ × ℤ) × (es ≡ Mvd Across across ∷ Mvd Down down ∷ []) × (component_from head.now.h across ≡ vector.0) × (component_from head.now.v down ≡ vector.1))
         (StaysInside before) result r.old r.new }
     ensures near { IfOk result (λ vector. IsNear vector.0 × IsNear vector.1) }
     ensures onward { IfOk result (λ _. r.old.1 ≤ r.new.1) }
@@ -70,7 +70,7 @@ fn take_component(r: &mut Reader<'_>, last: i8, first: u32, side: u32) -> Result
     requires first { first ≤ 1000 }
     ensures walk { (format : PictureFormat) (before : List Element) (axis : Axis) → slot before ≡ AtMvd axis → vector_before axis before ≡ last →
         side_of format axis ≡ side → corner axis (group_before before) (address_before before) ≡ first →
-        Walked (next format) before (λ component es new. (values : ℤ × ℤ) × (es ≡ Mvd axis values ∷ []) × (moved last values ≡ component)) (StaysInside before) result r.old r.new }
+        Walked (next format) before (λ component es new. (values : ℤ × ℤ) × (es ≡ Mvd axis values ∷ []) × (component_from last values ≡ component)) (StaysInside before) result r.old r.new }
     ensures near { IfOk result (λ component. IsNear component) }
     ensures onward { IfOk result (λ _. r.old.1 ≤ r.new.1) }
 {
@@ -101,7 +101,7 @@ fn take_component(r: &mut Reader<'_>, last: i8, first: u32, side: u32) -> Result
 fn component(last: i8, values: (i8, i8)) -> Option<i8>
     requires near { IsNear last }
     requires values { (negsuc 29 ≤ℤ values.0) × (values.0 ≤ℤ pos 30) × (negsuc 29 ≤ℤ values.1) × (values.1 ≤ℤ pos 30) }
-    ensures value { result ≡ cond (is_in_range (moved last values)) (Some (moved last values)) None }
+    ensures value { result ≡ cond (is_in_range (component_from last values)) (Some (component_from last values)) None }
     ensures near { IfSome result IsNear }
 {
     let first = last + values.0;

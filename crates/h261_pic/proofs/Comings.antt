@@ -13,7 +13,8 @@ use Rattle.pel_model.specs.Grammar.{Element, Gbsc, Stuffing, Slot, slot, AtGroup
 use Rattle.pel_model.proofs.Steps.{judge, next-at, judged-good, judged-none}
 use Rattle.vlc_codes.proofs.WordLaws.{either_way, and_left, and_right, begins_length, begins_longer, cause-cut}
 use Rattle.h261_mb.proofs.Words.{read_front}
-use Rattle.h261_pic.proofs.HeaderSteps.{begins_front, front_begins, not_less, is_false, is_number, is_other}
+use Rattle.picture_laws.proofs.Basics.{not_less, not_same}
+use Rattle.h261_pic.proofs.HeaderSteps.{begins_front, front_begins, is_false, is_number}
 
 -- ---- bits that are all 0
 
@@ -21,7 +22,7 @@ pub ones : (left : List Bool) → (bits.number left == 0) ≡ not (list_any (λ 
 unfolding bits.number
 ones [] = refl
 ones (false ∷ left) = ap (λ (n : ℕ). n == 0) (zero-add (bits.number left)) ∙ ones left
-ones (true ∷ left) = is_other (2 ^ length left + bits.number left) 0 (λ zero_is. absurd (omega (arith, pow_pos (length left))))
+ones (true ∷ left) = not_same (2 ^ length left + bits.number left) 0 (λ zero_is. absurd (omega (arith, pow_pos (length left))))
 
 -- ---- the list of words
 
@@ -62,7 +63,7 @@ module _ (left : List Bool) where
   whole : (row : Row Element) (why : Why) → row.tail ≡ 0 → begins row.code left ≡ true → whole_word row left ≡ Bad why → ⊥
   whole row why no_tail here bad =
       is_good _ _ why (nat_lt (length left) (length row.code + row.tail))
-      (not_less (length left) (length row.code + row.tail) (nat_lt (length left) (length row.code + row.tail)) refl (omega (arith, no_tail, begins_length row.code left here))) bad
+      (not_less (length left) (length row.code + row.tail) (omega (arith, no_tail, begins_length row.code left here))) bad
 
   -- no word is found where none is read
   none_found : (all rows : List (Row Element)) (why : Why) → list_all (λ (row : Row Element). row.tail == 0) rows ≡ true → word_at all left (front rows) ≡ Bad why → front rows ≡ None
@@ -120,7 +121,7 @@ module _ (left : List Bool) where
     pub group-good : 16 ≤ length left → take 16 left ≡ take 16 group_start_code → read union left ≡ Good Gbsc 16
     group-good long same =
         at_code true (begins_front group_start_code left same)
-        ∙ ap (λ (short : Bool). if short then Bad Cut else Good Gbsc 16) (not_less (length left) 16 (nat_lt (length left) 16) refl long)
+        ∙ ap (λ (short : Bool). if short then Bad Cut else Good Gbsc 16) (not_less (length left) 16 long)
 
     pub group-cut : (k : ℕ) → k ≡ length left → k < 16 → take k left ≡ take k group_start_code → read union left ≡ Bad Cut
     group-cut k len short same =

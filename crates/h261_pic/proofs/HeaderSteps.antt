@@ -1,6 +1,5 @@
 -- What stands at the slots of a header: a start code, and fields of a width.
 use Rattle.std.proofs.Common.{◌≡◌, ◌≢◌, ℕ, ◌+◌, ◌-◌, ◌*◌, ◌/◌, ◌^◌, ◌≤◌, ◌<◌, ◌==◌, ◌||◌, Bool, true, false, cond, List, [], ◌∷◌, ◌++◌, length, take, Some, None, nat_lt, min, if◌then◌else◌, refl, sym, ◌∙◌, ap, subst, arith, div-lt_iff_lt-mul, pow_pos, pow-add, length-take}
-use Rattle.std.proofs.lemmas.Bool.{ltb-true, eqb-true}
 use Rattle.std.proofs.lemmas.List.{take_all, take-append-le}
 use Rattle.pel_bits.specs.Reading.{zeros}
 use Rattle.pel_bits.specs.Bits as bits
@@ -13,6 +12,7 @@ use Rattle.pel_model.specs.Codes.{begins, picture_start_code}
 use Rattle.pel_model.specs.Walk.{Good, Bad, read, word_at}
 use Rattle.pel_model.specs.Grammar.{Element, Psc, Tr, Ptype, Gn, Gquant, Slot, slot, AtPsc, AtTr, AtPtype, AtGn, AtGquant, at_slot, or_no_start, rows, word_row, field_rows, faults, first_why, next}
 use Rattle.pel_model.proofs.Steps.{judge, next-at, judged-good, judged-bad, judged-none, field-good, field-cut}
+use Rattle.picture_laws.proofs.Basics.{not_less}
 use Rattle.vlc_codes.proofs.WordLaws.{begins_length, begins_longer, cause-cut, cause-none}
 use Rattle.h261_pic.specs.HeaderElements.{Layer, OfPicture, OfGroup, FieldOf, flag_of, spare_of, flag_slot, spare_slot}
 
@@ -61,13 +61,6 @@ pub at-spare : (layer : Layer) → FieldOf (spare_slot layer) 8 (spare_of layer)
 unfolding rows
 at-spare OfPicture = ((λ left. refl), (λ format before n. refl))
 at-spare OfGroup = ((λ left. refl), (λ format before n. refl))
-
-is_other_by : (n m : ℕ) (same : Bool) → (n == m) ≡ same → n ≢ m → same ≡ false
-is_other_by n m true is h = absurd (h (eqb-true n m is))
-is_other_by n m false is h = refl
-
-pub is_other : (n m : ℕ) → n ≢ m → (n == m) ≡ false
-is_other n m h = is_other_by n m (n == m) refl h
 
 -- the bits that were peeked at
 pub peeked : (left : List Bool) (n k : ℕ) → k ≤ length left → n ≡ bits.number (take k (left ++ zeros k)) → n ≡ bits.number (take k left)
@@ -134,10 +127,6 @@ at-psc left = refl
 found : (left : List Bool) (here : Bool) → begins picture_start_code left ≡ here → read (word_row picture_start_code Psc ∷ []) left ≡ word_at (word_row picture_start_code Psc ∷ []) left (cond here (Some (word_row picture_start_code Psc)) None)
 found left here is = ap (λ (b : Bool). word_at (word_row picture_start_code Psc ∷ []) left (cond b (Some (word_row picture_start_code Psc)) None)) is
 
-pub not_less : (a b : ℕ) (less : Bool) → nat_lt a b ≡ less → b ≤ a → less ≡ false
-not_less a b true is h = absurd (omega (arith, ltb-true a b is))
-not_less a b false is h = refl
-
 pub is_false : (b : Bool) → (b ≡ true → ⊥) → b ≡ false
 is_false true h = absurd (h refl)
 is_false false h = refl
@@ -148,7 +137,7 @@ or_none b is = ap (λ (c : Bool). c || false) is
 module _ (format : Format) (before : List Element) (r : List Bool × ℕ) (due : slot before ≡ AtPsc) where
   pub start-good : 20 ≤ length r.0 → take 20 r.0 ≡ take 20 picture_start_code → next format before r ≡ Good Psc 20
   start-good long same =
-      let whole : nat_lt (length r.0) 20 ≡ false = not_less (length r.0) 20 (nat_lt (length r.0) 20) refl long in
+      let whole : nat_lt (length r.0) 20 ≡ false = not_less (length r.0) 20 long in
       let word : read (word_row picture_start_code Psc ∷ []) r.0 ≡ Good Psc 20 =
       found r.0 true (begins_front picture_start_code r.0 same) ∙ ap (λ (short : Bool). if short then Bad Cut else Good Psc 20) whole in
       next-at format before r AtPsc due

@@ -1,8 +1,9 @@
 -- A valid picture stays valid when it gets its next group, and a group stays valid where it may stand.
-use Rattle.std.proofs.Common.{◌≡◌, ℕ, suc, ◌+◌, ◌%◌, ◌<◌, ◌≤◌, Bool, true, false, List, [], ◌∷◌, ◌++◌, length, take, slice_index, slice_index_or, refl, sym, ◌∙◌, ap, ap₂, subst, ℤ, pos, negsuc, All, MatchBool, IsSomeAnd, arith, length-append}
-use Rattle.std.proofs.lemmas.List.{take_more, get_or-map, get_or-take, map-append, length-map}
-use Rattle.std.proofs.lemmas.List.Elements.{All-push, All-cons, All-nil, All-map}
-use Rattle.h261_pic.specs.Coded.{Belongs, with_group}
+use Rattle.std.proofs.Common.{◌≡◌, ℕ, ◌%◌, ◌<◌, Bool, true, false, List, [], ◌∷◌, ◌++◌, length, take, slice_index, slice_index_or, refl, sym, ◌∙◌, ap, ap₂, subst, ℤ, pos, negsuc, MatchBool, arith, length-append}
+use Rattle.std.proofs.lemmas.List.{take_more, get_or-map, get_or-take, map-append}
+use Rattle.std.proofs.lemmas.List.Elements.{All-push}
+use Rattle.picture_laws.specs.SoFar.{with_group}
+use Rattle.h261_pic.specs.Coded.{Belongs}
 use Rattle.pel_model.specs.declared.Format.{Format}
 use Rattle.pel_model.specs.declared.Format.TheVariants.{Qcif, Cif}
 use Rattle.pel_model.specs.declared.Quad.{Quad}
@@ -10,8 +11,7 @@ use Rattle.pel_model.specs.declared.Quad.TheVariants.{One, Two, Three, Four}
 use Rattle.pel_model.specs.Codes.{has_vector}
 use Rattle.pel_model.specs.Records.{Axis, Across, Down, Macroblock, Group, Picture, component}
 use Rattle.pel_model.specs.Regions.{number_in, renumbered, below}
-use Rattle.pel_model.specs.Plain.{PlainGroup, IsPlainGroup, plain_block, plain_macroblock, plain_macroblocks, plain_group}
-use Rattle.pel_model.specs.Valid.{side, corner, StaysWithin, ComponentFits, IsValidDc, IsValidCoefficient, IsIntraBlock, AddressesRise, IsValidMacroblock, IsValidGroup, IsValidSoFar, group_numbers, group_count}
+use Rattle.pel_model.specs.Valid.{side, corner, StaysWithin, ComponentFits, IsValidMacroblock, IsValidGroup, IsValidSoFar, group_numbers, group_count}
 
 -- a vector that stays in the QCIF picture stays in the CIF picture
 within_place : (axis : Axis) (place : Quad) (number address : ℕ) (c : ℤ) → number % 2 ≡ 1
@@ -91,41 +91,4 @@ valid-with_group format p g valid group below number_is = record {
       ∙ sym (take_more (group_numbers format) (length p.groups) 0 below)
       ∙ ap (λ n. take n (group_numbers format)) (sym (length-append p.groups (g ∷ [])));
   groups = All-push (IsValidGroup format) p.groups g valid.groups group;
-}
-
--- ---- plain pictures are valid
-
-valid_plain_block : (dc : ℕ) → IsValidDc dc → IsSomeAnd (plain_block dc) IsIntraBlock
-valid_plain_block dc valid = (valid, (All-nil IsValidCoefficient, omega arith))
-
-valid_plain_macroblock : (number address : ℕ) (dcs : List ℕ) → length dcs ≡ 6 → All IsValidDc dcs
-    → IsValidMacroblock Qcif number (plain_macroblock address dcs)
-valid_plain_macroblock number address dcs six valid = record {
-  mquant = refl;
-  across = refl;
-  down = refl;
-  six = length-map dcs plain_block ∙ six;
-  blocks = All-map (λ b. IsSomeAnd b IsIntraBlock) plain_block dcs (λ k d l. valid_plain_block (slice_index_or dcs k d) (valid k d l));
-}
-
-abbrev AreSix : List ℕ → Type 0
-AreSix dcs = (length dcs ≡ 6) × All IsValidDc dcs
-
-valid_plain_macroblocks : (number last : ℕ) (levels : List (List ℕ)) → All AreSix levels
-    → All (IsValidMacroblock Qcif number) (plain_macroblocks last levels)
-valid_plain_macroblocks number last [] six = All-nil (IsValidMacroblock Qcif number)
-valid_plain_macroblocks number last (dcs ∷ levels) six =
-    All-cons (IsValidMacroblock Qcif number) (plain_macroblock (last + 1) dcs) (plain_macroblocks (last + 1) levels)
-    (valid_plain_macroblock number (last + 1) dcs ((six 0 dcs (omega arith)).0) ((six 0 dcs (omega arith)).1))
-    (valid_plain_macroblocks number (last + 1) levels (λ k d l. six (suc k) d (omega arith)))
-
-plain_addresses_rise : (last : ℕ) (levels : List (List ℕ)) → last + length levels ≤ 33 → AddressesRise last (plain_macroblocks last levels)
-plain_addresses_rise last [] fits = tt
-plain_addresses_rise last (dcs ∷ levels) fits = (omega arith, omega arith, plain_addresses_rise (last + 1) levels (omega arith))
-
-pub valid_plain_group : (number : ℕ) (g : PlainGroup) → IsPlainGroup g → IsValidGroup Qcif (plain_group number g)
-valid_plain_group number g plain = record {
-  quant = plain.quant;
-  addresses = plain_addresses_rise 0 g.levels (omega (arith, plain.whole));
-  macroblocks = valid_plain_macroblocks number 0 g.levels plain.levels;
 }

@@ -1,12 +1,14 @@
 -- What contracts see of a coded picture: its format, its TR, the bits of its strict text (H.261, 4.2) as far as it
--- was written, and where the macroblock bits of each of its groups stand.
-use Rattle.std.specs.Prelude.{◌≡◌, ℕ, ◌+◌, ◌<◌, Bool, List, [], ◌∷◌, ◌++◌, length, take, drop, slice_index, slice_index_or, None}
+-- was written, where the macroblocks of each of its groups stand, and the marks of all macroblocks.
+use Rattle.std.specs.Prelude.{◌≡◌, ℕ, zero, suc, ◌+◌, ◌<◌, Bool, List, [], ◌∷◌, ◌++◌, length, take, drop, flat_map, slice_index, slice_index_or, None}
 use Rattle.h261_pic.specs.declared.coded.GroupView.{GroupView}
 use Rattle.pel_model.specs.declared.Format.{Format}
 use Rattle.pel_model.specs.declared.Format.TheVariants.{Qcif, Cif}
+use Rattle.pel_model.specs.declared.Mark.{Mark}
 use Rattle.pel_model.specs.declared.Quad.{Quad}
+use Rattle.pel_model.specs.Marks.{macroblock_marks, marks_of}
 use Rattle.pel_model.specs.Records.{Macroblock, Group, Picture}
-use Rattle.pel_model.specs.Text.{text, group_header, group_text, macroblocks_text}
+use Rattle.pel_model.specs.Text.{text, picture_header_length, group_header, group_header_length, group_text, macroblocks_text}
 use Rattle.pel_model.specs.Regions.{number_in}
 use Rattle.pel_model.specs.Valid.{group_numbers, group_count, IsValidGroup, IsValidSoFar}
 
@@ -15,22 +17,28 @@ pub record Coding : Type 0 where
   pub tr : ℕ
   pub bits : List Bool
   pub groups : List GroupView
+  pub marks : List Mark
 
 -- nothing was written yet
 abbrev pub nothing : Format → Coding
-nothing format = record { format = format; tr = 0; bits = []; groups = [] }
+nothing format = record { format = format; tr = 0; bits = []; groups = []; marks = [] }
 
--- where the macroblock bits of these groups stand, if the first header begins at this place
-abbrev pub views : ℕ → List Group → List GroupView
-views at [] = []
-views at (g ∷ gs) =
-    record { number = g.number; quant = g.quant; from = at + 26; len = length (macroblocks_text None g.macroblocks) }
-    ∷ views (at + length (group_text g)) gs
+-- where the macroblocks of these groups stand, if the first header begins at `at` and so many marks come before
+abbrev pub views : (at before : ℕ) → List Group → List GroupView
+views at before [] = []
+views at before (g ∷ gs) =
+    record { number = g.number; quant = g.quant; from = at + group_header_length; len = length (macroblocks_text None g.macroblocks); first_mark = before; marks = length g.macroblocks }
+    ∷ views (at + length (group_text g)) (before + length g.macroblocks) gs
 
--- the strict text of this picture was written; a picture header has 32 bits
+-- the strict text of this picture was written
 abbrev pub coding : Format → Picture → Coding
-coding format picture =
-    record { format = format; tr = picture.tr; bits = text format picture; groups = views 32 picture.groups }
+coding format picture = record {
+  format = format;
+  tr = picture.tr;
+  bits = text format picture;
+  groups = views picture_header_length 0 picture.groups;
+  marks = marks_of picture;
+}
 
 -- all its groups were written
 abbrev pub IsFinished : Coding → Type 0
@@ -40,23 +48,37 @@ IsFinished coded = (0 < length coded.bits) × (length coded.groups ≡ group_cou
 abbrev pub next_number : Coding → ℕ
 next_number coded = slice_index (group_numbers coded.format) (length coded.groups)
 
--- one of its groups, and the macroblock bits of it
+-- one of its groups, the macroblock bits of it, and their marks
 abbrev pub group_of : Coding → ℕ → GroupView
-group_of coded i = slice_index_or coded.groups i (record { number = 0; quant = 0; from = 0; len = 0 })
+group_of coded i = slice_index_or coded.groups i (record { number = 0; quant = 0; from = 0; len = 0; first_mark = 0; marks = 0 })
 
 abbrev pub macroblock_bits : Coding → ℕ → List Bool
 macroblock_bits coded i = take (group_of coded i).len (drop (group_of coded i).from coded.bits)
 
--- a picture with one more group
-abbrev pub with_group : Picture → Group → Picture
-with_group picture g = record picture { groups = picture.groups ++ g ∷ [] }
+abbrev pub marks_in : Coding → ℕ → List Mark
+marks_in coded i = take (group_of coded i).marks (drop (group_of coded i).first_mark coded.marks)
 
--- one more group was written, with this quantiser and these macroblock bits
-abbrev pub grown : Coding → ℕ → List Bool → Coding
-grown coded quant bits = record coded {
+-- the bits that stand at these marks
+abbrev pub bits_at : List Bool → List Mark → List Bool
+bits_at bits marks = flat_map (λ (m : Mark). take m.len (drop m.at bits)) marks
+
+-- the marks of these macroblocks when they stand one behind another from `at` on, in a group with this number
+abbrev pub placed : (at number : ℕ) → List Mark → List Mark
+placed at number [] = []
+placed at number (m ∷ ms) = record m { at = at; group = number } ∷ placed (at + m.len) number ms
+
+-- one more group was written, with this quantiser and these macroblock bits, whose macroblocks had these marks
+abbrev pub grown : Coding → ℕ → List Bool → List Mark → Coding
+grown coded quant bits marks = record coded {
   bits = coded.bits ++ group_header (next_number coded) quant ++ bits;
-  groups = coded.groups ++ record { number = next_number coded; quant = quant; from = length coded.bits + 26; len = length bits } ∷ [];
+  groups = coded.groups ++ record { number = next_number coded; quant = quant; from = length coded.bits + group_header_length; len = length bits; first_mark = length coded.marks; marks = length marks } ∷ [];
+  marks = coded.marks ++ placed (length coded.bits + group_header_length) (next_number coded) marks;
 }
+
+-- so many groups with quantiser 1 and no macroblocks were written
+abbrev pub emptied : ℕ → Coding → Coding
+emptied zero coded = coded
+emptied (suc n) coded = grown (emptied n coded) 1 [] []
 
 -- group `from` of a picture of one format may stand as group `to` of a picture of another: the same group of the same
 -- format, or a QCIF group in one of the places of a CIF picture
@@ -71,7 +93,7 @@ abbrev pub HasPicture : Coding → Type 0
 HasPicture coded =
     ∥ ((picture : Picture) × (coded ≡ coding coded.format picture) × IsValidSoFar coded.format picture) ∥₁
 
--- these are the macroblock bits of a valid group
-abbrev pub IsGroupText : Format → (number quant : ℕ) → List Bool → Type 0
-IsGroupText format number quant bits =
-    ∥ ((macroblocks : List Macroblock) × (bits ≡ macroblocks_text None macroblocks) × IsValidGroup format (record { number = number; quant = quant; macroblocks = macroblocks })) ∥₁
+-- these are the macroblock bits of a valid group, and the marks of its macroblocks, wherever they stood
+abbrev pub IsGroupText : Format → (number quant : ℕ) → List Bool → List Mark → Type 0
+IsGroupText format number quant bits marks =
+    ∥ ((macroblocks : List Macroblock) × (bits ≡ macroblocks_text None macroblocks) × ((at : ℕ) → placed at number marks ≡ macroblock_marks at number quant None macroblocks) × IsValidGroup format (record { number = number; quant = quant; macroblocks = macroblocks })) ∥₁

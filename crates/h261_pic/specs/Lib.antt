@@ -1,5 +1,6 @@
 pub mod Coded
-pub mod PlainForm
 pub mod Sound
 pub mod HeaderElements
 pub mod Comes
+pub mod Reached
+pub mod ReadGroup

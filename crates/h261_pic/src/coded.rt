@@ -1,20 +1,26 @@
-//! A picture's strict text, as far as it was written, and where the macroblock bits of its groups stand.
+//! A picture's strict text, as far as it was written, where the macroblocks of its groups stand, and their marks.
 #![tactic(auto)]
 
-ghost use Rattle.std.specs.Prelude.{◌≡◌, ℕ, ◌+◌, ◌-◌, ◌*◌, ◌<◌, ◌≤◌, ◌↔◌, [], ◌++◌, length, IsTrue, IfOk, slice_get, slice_index};
+ghost use Rattle.std.specs.Prelude.{◌≡◌, ℕ, ◌+◌, ◌-◌, ◌*◌, ◌^◌, ◌<◌, ◌≤◌, ◌↔◌, [], ◌++◌, length, All, IsTrue, IsFalse, IfOk, slice_get, slice_index};
 ghost use Rattle.pel_bits.specs.Bits.{bits};
 ghost use Rattle.pel_bits.specs.Buffer.{filled_up};
-ghost use Rattle.pel_model.specs.Text.{picture_header, group_header};
+ghost use Rattle.pel_model.specs.declared.Mark.{Mark as MarkOf};
+ghost use Rattle.pel_model.specs.Records.{Picture};
+ghost use Rattle.pel_model.specs.Refresh.{IsRefresh};
+ghost use Rattle.pel_model.specs.Text.{picture_header, group_header, group_header_length};
 ghost use Rattle.pel_model.specs.Valid.{group_numbers, group_count, limit};
-ghost use Rattle.h261_pic.specs.Coded.{Coding, nothing, coding, grown, next_number, group_of, macroblock_bits, Belongs, IsFinished, HasPicture, IsGroupText};
+ghost use Rattle.h261_pic.specs.Coded.{Coding, nothing, coding, grown, emptied, next_number, group_of, macroblock_bits, marks_in, bits_at, placed, Belongs, IsFinished, HasPicture, IsGroupText};
 
 use arrayvec::ArrayVec;
 use pel_bits::{BitBuf, Bits, NoMemory};
-use pel_model::Format;
+use pel_model::{Format, Mark};
 use std::alloc::Global;
 use std::marker::Model;
 
-/// Where the macroblock bits of a group of blocks stand in a picture's strict text.
+/// The most macroblocks that a picture has: 33 in each of 12 groups (H.261, 4.2.2).
+const MOST_MARKS: usize = 396;
+
+/// Where the macroblocks of a group of blocks stand in a picture's strict text.
 #[derive(Clone, Copy, Debug, Default, PartialEq, Eq)]
 pub struct GroupView {
     /// The group's number (GN).
@@ -25,15 +31,20 @@ pub struct GroupView {
     pub from: u32,
     /// The number of the macroblock bits.
     pub len: u32,
+    /// The place of its first macroblock's mark among the picture's marks, from 0 on.
+    pub first_mark: u16,
+    /// The number of its macroblocks, which is that of their marks.
+    pub marks: u16,
 }
 
-/// A coded picture of one format. Contracts see its format, its TR, its bits and its groups.
+/// A coded picture of one format. Contracts see its format, its TR, its bits, its groups and its marks.
 #[derive(Drop)]
 pub struct Coded {
     format: Format,
     tr: u8,
     text: BitBuf,
     groups: ArrayVec<GroupView, 12>,
+    marks: ArrayVec<Mark, MOST_MARKS>,
 }
 
 impl Model for Coded {
@@ -58,6 +69,7 @@ impl Coded {
             tr: 0,
             text: BitBuf::with_capacity(alloc, longest(format))?,
             groups: ArrayVec::new(),
+            marks: ArrayVec::new(),
         })
     }
 
@@ -98,7 +110,7 @@ impl Coded {
     pub fn valid_so_far(&self)
         ensures picture { 0 < length self.now.bits → HasPicture self.now }
         ensures within { length self.now.bits ≤ limit self.now.format }
-        ensures room { 0 < length self.now.bits → length self.now.bits + 26 * (group_count self.now.format - length self.now.groups) ≤ limit self.now.format }
+        ensures room { 0 < length self.now.bits → length self.now.bits + group_header_length * (group_count self.now.format - length self.now.groups) ≤ limit self.now.format }
     {
         // naming a field tells what is true of the fields
         let _text = &self.text;
@@ -111,7 +123,25 @@ impl Coded {
         self.text.octets()
     }
 
-    /// The place of a group, from 0 on.
+    /// The marks of all macroblocks, in the order in which they are sent. Their places count from the first bit of the
+    /// strict text.
+    pub fn marks(&self) -> &[Mark]
+        ensures { result.now ≡ self.now.marks }
+    {
+        self.marks.as_slice()
+    }
+
+    /// Whether this is a refresh: a QCIF picture that sends all its 99 macroblocks, each of them Intra (H.261, 3.2.1).
+    pub fn is_refresh(&self) -> bool
+        ensures refresh { (picture : Picture) → self.now ≡ coding self.now.format picture → (IsTrue result ↔ IsRefresh self.now.format picture) }
+        ensures empty { self.now.bits ≡ [] → IsFalse result }
+    {
+        self.format == Format::Qcif
+            && self.marks.len() == 99
+            && self.marks.iter().all(|mark| mark.intra)
+    }
+
+    /// The view of a group, from 0 on.
     pub fn group(&self, i: usize) -> GroupView
         requires { i < length self.now.groups }
         ensures { slice_get self.now.groups i ≡ Some result }
@@ -126,6 +156,7 @@ impl Coded {
         self.tr = 0;
         self.text.clear();
         self.groups.clear();
+        self.marks.clear();
     }
 
     /// Begins a picture of no groups.
@@ -136,6 +167,7 @@ impl Coded {
         self.tr = tr;
         self.text.clear();
         self.groups.clear();
+        self.marks.clear();
         push_picture_header(&mut self.text, self.format, tr);
     }
 
@@ -143,47 +175,99 @@ impl Coded {
     pub fn empty_group(&mut self)
         requires begun { 0 < length self.old.bits }
         requires next { length self.old.groups < group_count self.old.format }
-        ensures { self.new ≡ grown self.old 1 [] }
+        ensures { self.new ≡ grown self.old 1 [] [] }
     {
         self.valid_so_far();
-        self.add_group(1, Bits::new(&[], 0, 0));
+        self.add_group(1, &Bits::new(&[], 0, 0), &[]);
     }
 
-    /// Adds the next group with the quantiser and the macroblock bits of group `i` of another picture. It has to be
-    /// one where that group belongs, and to leave room for the headers of the groups behind it.
+    /// Adds the next group with the quantiser and the macroblocks of group `i` of another picture. It has to be one where
+    /// that group belongs, and to leave room for the headers of the groups behind it.
     pub fn copy_group(&mut self, from: &Coded, i: usize)
         requires begun { 0 < length self.old.bits }
         requires next { length self.old.groups < group_count self.old.format }
         requires finished { IsFinished from.now }
         requires there { i < length from.now.groups }
         requires belongs { Belongs from.now.format (group_of from.now i).number self.old.format (next_number self.old) }
-        requires room { length self.old.bits + (group_of from.now i).len + 26 * (group_count self.old.format - length self.old.groups) ≤ limit self.old.format }
-        ensures { self.new ≡ grown self.old (group_of from.now i).quant (macroblock_bits from.now i) }
+        requires room { length self.old.bits + (group_of from.now i).len + group_header_length * (group_count self.old.format - length self.old.groups) ≤ limit self.old.format }
+        ensures { self.new ≡ grown self.old (group_of from.now i).quant (macroblock_bits from.now i) (marks_in from.now i) }
     {
         let view = from.groups[i];
-        self.add_group(view.quant, from.text.bits().slice(view.from, view.len));
+        let first = usize::from(view.first_mark);
+        let marks = &from.marks[first..first + usize::from(view.marks)];
+        self.add_group(view.quant, &from.text.bits(), marks);
     }
 
-    // Adds the next group.
-    pub(crate) fn add_group(&mut self, quant: u8, bits: Bits<'_>)
+    // Adds groups with GQUANT 1 and no macroblocks, up to the one with this place, from 0 on.
+    pub(crate) fn leave_out(&mut self, place: usize)
+        requires begun { 0 < length self.old.bits }
+        requires there { place ≤ group_count self.old.format }
+        ensures { self.new ≡ emptied (place - length self.old.groups) self.old }
+    {
+        while self.groups.len() < place {
+            self.empty_group();
+        }
+    }
+
+    // Adds the next group, whose macroblocks stand in `source` at these marks.
+    pub(crate) fn add_group(&mut self, quant: u8, source: &Bits<'_>, marks: &[Mark])
         requires begun { 0 < length self.old.bits }
         requires next { length self.old.groups < group_count self.old.format }
-        requires room { length self.old.bits + length bits + 26 * (group_count self.old.format - length self.old.groups) ≤ limit self.old.format }
-        requires text { IsGroupText self.old.format (next_number self.old) quant bits }
-        ensures { self.new ≡ grown self.old quant bits.entry }
+        requires inside { All (λ (m : MarkOf). m.at + m.len ≤ length source.now) marks.now }
+        requires room { length self.old.bits + length (bits_at source.now marks.now) + group_header_length * (group_count self.old.format - length self.old.groups) ≤ limit self.old.format }
+        requires text { IsGroupText self.old.format (next_number self.old) quant (bits_at source.now marks.now) marks.now }
+        ensures { self.new ≡ grown self.old quant (bits_at source.now marks.now) marks.now }
     {
         let number = group_number(self.format, self.groups.len());
         push_group_header(&mut self.text, number, quant);
         let from = self.text.len();
-        let len = bits.len();
-        self.text.append(bits);
+        let first_mark = self.marks.len() as u16;
+        append_macroblocks(&mut self.text, &mut self.marks, number, source, marks);
         self.groups.push(GroupView {
             number,
             quant,
             from,
-            len,
+            len: self.text.len() - from,
+            first_mark,
+            marks: marks.len() as u16,
         });
     }
+}
+
+// Appends the macroblocks that stand in `source` at these marks, and their marks in the text. Those that stand one behind
+// another are copied as one run.
+fn append_macroblocks(
+    text: &mut BitBuf,
+    marks: &mut ArrayVec<Mark, MOST_MARKS>,
+    group: u8,
+    source: &Bits<'_>,
+    found: &[Mark],
+)
+    requires inside { All (λ (m : MarkOf). m.at + m.len ≤ length source.now) found.now }
+    requires room { length text.old.list + length (bits_at source.now found.now) ≤ text.old.capacity }
+    requires places { length marks.old.items + length found.now ≤ 396 }
+    requires small { text.old.capacity < 2 ^ 32 }
+    ensures text { text.new ≡ record text.old { list = text.old.list ++ bits_at source.now found.now } }
+    ensures marks { marks.new.items ≡ marks.old.items ++ placed (length text.old.list) group found.now }
+{
+    // asking for the length tells that the places in the source fit
+    let _len = source.len();
+    let mut from = 0;
+    let mut len = 0;
+    for mark in found {
+        if mark.at != from + len {
+            text.append(source.slice(from, len));
+            from = mark.at;
+            len = 0;
+        }
+        marks.push(Mark {
+            at: text.len() + len,
+            group,
+            ..*mark
+        });
+        len += mark.len;
+    }
+    text.append(source.slice(from, len));
 }
 
 // The greatest number of bits of a picture.

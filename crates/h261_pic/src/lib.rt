@@ -3,13 +3,15 @@
 
 mod coded;
 mod coming;
+mod group;
 mod input_headers;
-mod plain_pictures;
+mod limited;
+mod parser;
 
 pub use coded::{Coded, GroupView};
-pub use coming::{Coming, take_coming, take_group_or_end};
-pub use input_headers::{GroupHeader, read_group_header, read_picture_header};
-pub use plain_pictures::plain;
+pub use parser::parse;
 
 #[cfg(test)]
-mod tests;
+mod header_tests;
+#[cfg(test)]
+mod parser_tests;

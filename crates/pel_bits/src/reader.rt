@@ -51,6 +51,19 @@ impl<'a> Reader<'a> {
         }
     }
 
+    /// A reader at the same place whose bits end behind the next `count` of these.
+    pub fn first(&self, count: u32) -> Reader<'a>
+        requires { count ≤ length self.now.0 }
+        ensures { result ≡ (take count self.now.0, self.now.1) }
+    {
+        let place = self.place;
+        Reader {
+            bits: self.bits.slice(0, place + count),
+            place,
+            left: count,
+        }
+    }
+
     /// The number that the next `width` bits spell, or None where fewer are left, and then none is taken. At most
     /// 32 bits.
     #[inline]

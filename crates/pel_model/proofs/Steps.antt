@@ -1,11 +1,11 @@
 -- Steps of the grammar: a slot's words, fields of a width, and what is judged of an element.
-use Rattle.std.proofs.Common.{◌≡◌, ℕ, ◌+◌, ◌<◌, ◌≤◌, Bool, true, false, cond, List, [], ◌∷◌, length, take, Option, Some, None, nat_lt, if◌then◌else◌, refl, sym, ◌∙◌, ap, zero-add, arith}
+use Rattle.std.proofs.Common.{◌≡◌, ℕ, ◌<◌, ◌≤◌, Bool, true, false, List, length, take, Option, Some, None, nat_lt, if◌then◌else◌, refl, ◌∙◌, ap, zero-add, arith}
 use Rattle.std.proofs.lemmas.Bool.{ltb-true, lt-ltb}
 use Rattle.pel_model.specs.declared.Format.{Format}
 use Rattle.pel_model.specs.declared.Why.{Why}
 use Rattle.pel_model.specs.declared.Why.TheVariants.{Cut}
 use Rattle.pel_model.specs.Bits.{number}
-use Rattle.pel_model.specs.Walk.{Step, Good, Bad, Row, read, whole_word, judged, verdict}
+use Rattle.pel_model.specs.Walk.{Step, Good, Bad, read, judged, verdict}
 use Rattle.pel_model.specs.Grammar.{Element, Slot, slot, at_slot, faults, first_why, field_rows, next}
 
 -- what is judged of an element behind others

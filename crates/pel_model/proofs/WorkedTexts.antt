@@ -1,14 +1,13 @@
 -- Worked pictures: the strict texts of three records, bit by bit.
-use Rattle.std.specs.Prelude.{◌≡◌, ℕ, Bool, false, List, [], ◌∷◌, ◌++◌, length, replicate, Some, None, ℤ, pos, negsuc, codes, refl}
+use Rattle.std.specs.Prelude.{◌≡◌, ℕ, zero, suc, ◌+◌, Bool, false, List, [], ◌∷◌, ◌++◌, length, replicate, Option, Some, None, ℤ, pos, negsuc, codes, refl}
 use Rattle.pel_model.specs.declared.Format.TheVariants.{Qcif, Cif}
-use Rattle.pel_model.specs.declared.MbKind.TheVariants.{Inter, Mc}
+use Rattle.pel_model.specs.declared.MbKind.TheVariants.{Intra, Inter, Mc}
 use Rattle.pel_model.specs.declared.Quad.TheVariants.{Four}
 use Rattle.pel_model.specs.Bits.{field, number}
 use Rattle.pel_model.specs.Codes.{word, mba_table, mtype_table, mvd_table, cbp_table, tcoeff_table}
-use Rattle.pel_model.specs.Records.{Macroblock, Picture}
+use Rattle.pel_model.specs.Records.{Block, Macroblock, Group, Picture}
 use Rattle.pel_model.specs.Regions.{shown_in}
 use Rattle.pel_model.specs.Text.{text, picture_header, group_header, macroblocks_text, macroblock_text, block_text, coefficient_word}
-use Rattle.pel_model.specs.Plain.{PlainGroup, plain_picture}
 
 abbrev sent : ℕ → List Macroblock → Picture
 sent tr macroblocks =
@@ -46,12 +45,22 @@ pub turn_text : text Qcif turn
 unfolding picture_header group_header macroblocks_text macroblock_text block_text coefficient_word field number mba_table mtype_table mvd_table cbp_table tcoeff_table
 turn_text = refl
 
--- a plain picture of level 255 in all blocks has 6,545 bits; in a CIF picture with nothing elsewhere 6,779
-abbrev grey_group : PlainGroup
-grey_group = record { quant = 8; levels = replicate 33 (replicate 6 255) }
+-- a picture all of whose blocks have INTRADC 255 and no coefficient has 6,545 bits; in a CIF picture with nothing
+-- elsewhere it has 6,779
+abbrev grey_block : Option Block
+grey_block = Some (record { dc = Some 255; coefficients = [] })
+
+abbrev grey_macroblocks : (last more : ℕ) → List Macroblock
+grey_macroblocks last zero = []
+grey_macroblocks last (suc more) =
+    record { address = last + 1; kind = Intra; mquant = None; across = pos 0; down = pos 0; blocks = replicate 6 grey_block }
+    ∷ grey_macroblocks (last + 1) more
+
+abbrev grey_group : ℕ → Group
+grey_group number = record { number = number; quant = 8; macroblocks = grey_macroblocks 0 33 }
 
 abbrev grey : Picture
-grey = plain_picture (record { tr = 1; first = grey_group; second = grey_group; third = grey_group })
+grey = record { tr = 1; groups = grey_group 1 ∷ grey_group 3 ∷ grey_group 5 ∷ [] }
 
 pub grey_lengths : (length (text Qcif grey) ≡ 6545) × (length (text Cif (shown_in Four 1 grey)) ≡ 6779)
 unfolding picture_header group_header macroblocks_text macroblock_text block_text coefficient_word field number mba_table mtype_table mvd_table cbp_table tcoeff_table

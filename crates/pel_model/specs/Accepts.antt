@@ -3,7 +3,7 @@ use Rattle.std.specs.Prelude.{◌≡◌, ℕ, ◌+◌, ◌*◌, ◌≤◌, Bool,
 use Rattle.pel_model.specs.declared.Format.{Format}
 use Rattle.pel_model.specs.declared.Format.TheVariants.{Cif}
 use Rattle.pel_model.specs.Records.{Picture}
-use Rattle.pel_model.specs.Text.{text}
+use Rattle.pel_model.specs.Text.{group_header_length, text}
 use Rattle.pel_model.specs.Valid.{IsValid, limit}
 use Rattle.pel_model.specs.Spelling.{GroupForm, LeftOut, Sent, Form, sent_text, IsSpelling}
 
@@ -13,10 +13,10 @@ left_out [] = 0
 left_out (LeftOut ∷ forms) = left_out forms + 1
 left_out (Sent spares stuffings behind ∷ forms) = left_out forms
 
--- the length that the limit is set to: the bits without the zeros at the end, and 26 for each group left out, which
--- is the length of its header
+-- the length that the limit is set to: the bits without the zeros at the end, and the length of a header for each group
+-- left out
 abbrev pub counted_length : Format → Form → Picture → ℕ
-counted_length format form picture = length (sent_text format form picture) + 26 * left_out form.groups
+counted_length format form picture = length (sent_text format form picture) + group_header_length * left_out form.groups
 
 -- the bits are a valid picture in an input form within the limit
 pub record IsAccepted (format : Format) (form : Form) (bits : List Bool) (picture : Picture) : Type 0 where

@@ -9,6 +9,7 @@ use Rattle.pel_model.specs.declared.Why.{Why}
 use Rattle.pel_model.specs.declared.Why.TheVariants.{NoStart, WrongFormat, StillImage, NoCode, BadGroup, BadQuant, BadAddress, BadVector, VectorOutside, BadDc, BadLevel, TooMany, TooLong}
 use Rattle.pel_model.specs.Codes.{picture_start_code, group_start_code, mba_table, stuffing_word, mtype_table, mvd_table, cbp_table, tcoeff_table, first_one_word, later_one_word, escape_word, end_of_block_word, is_intra, has_mquant, has_vector, has_cbp}
 use Rattle.pel_model.specs.Records.{Axis, Across, Down, Coefficient}
+use Rattle.pel_model.specs.Text.{group_header_length}
 use Rattle.pel_model.specs.Valid.{side, corner, group_numbers, group_count, limit}
 use Rattle.pel_model.specs.Walk.{Step, Stop, Bad, Row, read, judged}
 
@@ -95,25 +96,25 @@ in_range (pos n) = nat_lt n 16
 in_range (negsuc n) = nat_lt n 15
 
 -- the predictor with that value of MVD's pair which gives -15 to 15
-abbrev pub moved : ℤ → ℤ × ℤ → ℤ
-moved predictor v = cond (in_range (predictor +ℤ v.0)) (predictor +ℤ v.0) (predictor +ℤ v.1)
+abbrev pub component_from : ℤ → ℤ × ℤ → ℤ
+component_from predictor v = cond (in_range (predictor +ℤ v.0)) (predictor +ℤ v.0) (predictor +ℤ v.1)
 
 abbrev pub same_axis : Axis → Axis → Bool
 same_axis Across Across = true
 same_axis Down Down = true
 same_axis _ _ = false
 
--- the vector before does not predict that of a macroblock with this difference and address
-abbrev pub starts_anew : ℕ → ℕ → Bool
-starts_anew difference at = not (difference == 1) || at == 1 || at == 12 || at == 23
+-- the vector before does not predict that of a macroblock with this difference of addresses and this address
+abbrev pub resets_predictor : ℕ → ℕ → Bool
+resets_predictor difference at = not (difference == 1) || at == 1 || at == 12 || at == 23
 
 -- a component of the last macroblock's vector, 0 where its kind has none; before its MVD the predictor
 abbrev pub vector : Axis → List Element → ℤ
 vector axis [] = pos 0
 vector axis (Gbsc ∷ before) = pos 0
-vector axis (Mba n ∷ before) = cond (starts_anew n (address before + n)) (pos 0) (vector axis before)
+vector axis (Mba n ∷ before) = cond (resets_predictor n (address before + n)) (pos 0) (vector axis before)
 vector axis (Mtype k ∷ before) = cond (has_vector k) (vector axis before) (pos 0)
-vector axis (Mvd a v ∷ before) = cond (same_axis a axis) (moved (vector axis before) v) (vector axis before)
+vector axis (Mvd a v ∷ before) = cond (same_axis a axis) (component_from (vector axis before) v) (vector axis before)
 vector axis (_ ∷ before) = vector axis before
 
 -- ---- what may stand behind these elements
@@ -250,8 +251,8 @@ faults format before (Gquant q) = (q == 0, BadQuant) ∷ []
 faults format before (Mquant q) = (q == 0, BadQuant) ∷ []
 faults format before (Mba n) = (nat_lt 33 (address before + n), BadAddress) ∷ []
 faults format before (Mvd axis v) =
-    (not (in_range (moved (vector axis before) v)), BadVector)
-    ∷ (not (stays_within (side format axis) (corner axis (group before) (address before)) (moved (vector axis before) v)), VectorOutside)
+    (not (in_range (component_from (vector axis before) v)), BadVector)
+    ∷ (not (stays_within (side format axis) (corner axis (group before) (address before)) (component_from (vector axis before) v)), VectorOutside)
     ∷ []
 faults format before (Dc n) = (n == 0 || n == 128, BadDc) ∷ []
 faults format before (Tcoeff c) =
@@ -288,9 +289,9 @@ next format before r = judged (λ e n. first_why (faults format before e)) (at_s
 
 -- ---- the limit of a picture
 
--- an element's end, and 26 bits for each group header not yet begun
+-- an element's end, and the bits of each group header not yet begun
 abbrev pub counted : Format → List Element → ℕ → ℕ
-counted format before end = end + 26 * (group_count format - begun before)
+counted format before end = end + group_header_length * (group_count format - begun before)
 
 -- what stands behind these elements in a picture; last of all conditions, no element ends past the limit
 unfoldable pub picture : Format → List Element → List Bool × ℕ → Step Element

@@ -3,9 +3,10 @@ pub mod Bits
 pub mod Codes
 pub mod Elements
 pub mod Grammar
-pub mod Plain
+pub mod Marks
 pub mod Plan
 pub mod Records
+pub mod Refresh
 pub mod Regions
 pub mod Spelling
 pub mod Text

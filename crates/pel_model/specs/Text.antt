@@ -112,6 +112,10 @@ macroblocks_text last (m ∷ ms) = macroblock_text last m ++ macroblocks_text (S
 unfoldable pub group_header : ℕ → ℕ → List Bool
 group_header number quant = group_start_code ++ field number 4 ++ field quant 5 ++ false ∷ []
 
+-- its length
+abbrev pub group_header_length : ℕ
+group_header_length = 26
+
 abbrev pub group_text : Group → List Bool
 group_text g = group_header g.number g.quant ++ macroblocks_text None g.macroblocks
 
@@ -123,6 +127,10 @@ picture_type Cif = word (codes "000111")
 -- PSC, TR, PTYPE, and a PEI of 0
 unfoldable pub picture_header : Format → ℕ → List Bool
 picture_header format tr = picture_start_code ++ field tr 5 ++ picture_type format ++ false ∷ []
+
+-- its length
+abbrev pub picture_header_length : ℕ
+picture_header_length = 32
 
 abbrev pub text : Format → Picture → List Bool
 text format picture = picture_header format picture.tr ++ flat_map group_text picture.groups

@@ -99,7 +99,7 @@ pub struct Fault {
 }
 
 /// Where a macroblock stands in the bits, and the state in which it leaves its group.
-#[derive(Clone, Copy, Debug, PartialEq, Eq)]
+#[derive(Clone, Copy, Debug, Default, PartialEq, Eq)]
 pub struct Mark {
     /// The place of the first bit.
     pub at: u32,

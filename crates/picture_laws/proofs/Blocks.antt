@@ -15,8 +15,7 @@ use Rattle.pel_model.specs.Valid.{IsLongLevel, IsValidCoefficient, IsIntraBlock,
 use Rattle.pel_model.specs.Walk.{after}
 use Rattle.pel_model.specs.Grammar.{Element, Dc, Tcoeff, Eob, Slot, AtDc, AtFirst, AtCoefficient, AtMacroblock, slot, kind, blocks, filled, group, address, vector, first_why, is_forbidden_level, block_slot}
 use Rattle.pel_model.proofs.Walks.{after-append}
-use Rattle.pel_model.specs.Elements.{dc_elements, block_elements}
-use Rattle.picture_laws.specs.Elements.{blocks_elements}
+use Rattle.pel_model.specs.Elements.{dc_elements, block_elements, blocks_elements}
 use Rattle.picture_laws.proofs.Basics.{not_less, not_same, not_equal}
 use Rattle.picture_laws.proofs.Slots.{one_at, Takes, IsSent, IsByteLevel}
 use Rattle.picture_laws.proofs.Chains.{Stands, Chain, word_in, words, chain-append, words-append}

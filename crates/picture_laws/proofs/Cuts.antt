@@ -6,13 +6,14 @@ use Rattle.std.proofs.lemmas.List.{length-append}
 use Rattle.pel_model.specs.declared.Format.{Format}
 use Rattle.pel_model.specs.declared.Why.{Why}
 use Rattle.pel_model.specs.declared.Why.TheVariants.{Cut, NoCode}
+use Rattle.pel_model.specs.Bits.{number}
 use Rattle.pel_model.specs.Codes.{begins, is_prefix_free}
 use Rattle.pel_model.specs.Valid.{group_count}
 use Rattle.pel_model.specs.Walk.{Step, Good, Stop, Bad, Row, skipped, after, Goes, read, word_at, judged}
 use Rattle.pel_model.specs.Grammar.{Element, Slot, AtPsc, AtTr, AtPtype, AtPei, AtPspare, AtGroup, AtGn, AtGquant, AtGei, AtGspare, AtMacroblock, AtMtype, AtMquant, AtMvd, AtCbp, AtDc, AtFirst, AtCoefficient, slot, begun, rows, faults, first_why, may_end, is_end, or_no_start, at_slot, next, picture}
 use Rattle.picture_laws.specs.Laws.{Leaves, GoodOverFirst, GoodOverAll, WithinTheLimit, PastTheLimit, TooLongAt, JudgedByTheLimit}
 use Rattle.picture_laws.proofs.Basics.{not_true}
-use Rattle.picture_laws.proofs.Rows.{Among, apart, begins_self, read-is, codes_of, find-row, take-drop-append, among-mapped}
+use Rattle.picture_laws.proofs.Rows.{Among, apart, begins_self, read-is, read-row, codes_of, find-row, take-drop-append, among-mapped}
 use Rattle.picture_laws.proofs.Slots.{Takes, rows_free}
 use Rattle.picture_laws.proofs.Chains.{word_in, words, next-is, next-good, goes-walk, walk-goes, judged_good, slot_good}
 use Rattle.picture_laws.proofs.Limits.{picture-good, picture-long, picture-stops, picture-bad}
@@ -123,6 +124,26 @@ cut_row rows row tail rest k free among long short = elim (either_way (nat_lt k 
       ∙ whole-cut row (row.code ++ take (k - length row.code) (tail ++ rest)) size)
 ]
 
+-- a word that does not end within the cut is cut, in any list of which no word is a front of another
+pub read-cut : {E : Type 0} (rows : List (Row E)) (bits : List Bool) (e : E) (n k : ℕ) → is_prefix_free (codes_of rows) ≡ true → read rows bits ≡ Good e n → k < n → read rows (take k bits) ≡ Bad Cut
+read-cut rows bits e n k free h short =
+    let w = read-is rows bits e n h in
+    ap (λ t. read rows (take k t)) w.front ∙ cut_row rows w.row w.tail (drop n bits) k free w.among w.long (omega (arith, w.size, short))
+
+-- and one that does is as before
+pub read-kept : {E : Type 0} (rows : List (Row E)) (bits : List Bool) (e : E) (n k : ℕ) → is_prefix_free (codes_of rows) ≡ true → read rows bits ≡ Good e n → n ≤ k → read rows (take k bits) ≡ Good e n
+read-kept rows bits e n k free h fits =
+    let w = read-is rows bits e n h in
+    let code = w.row.code in
+    let left = k - length code in
+    let front : take k bits ≡ code ++ (w.tail ++ take (left - length w.tail) (drop n bits)) =
+    ap (take k) w.front
+    ∙ (take-past code (w.tail ++ drop n bits) k (omega (arith, w.size, fits))
+    ∙ ap (λ t. code ++ t) (take-past w.tail (drop n bits) left (omega (arith, w.size, w.long, fits)))) in
+    ap (read rows) front
+    ∙ (read-row rows w.row w.tail (take (left - length w.tail) (drop n bits)) free w.among w.long
+    ∙ (ap (λ m. Good (w.row.make (number w.tail)) m) (sym w.size) ∙ ap (λ x. Good x n) (sym w.is)))
+
 or_cut : (s : Slot) (found : Step Element) → found ≡ Bad Cut → or_no_start s found ≡ Bad Cut
 or_cut AtPsc (Bad NoCode) h = absurd cc
 or_cut _ found h = h
@@ -197,15 +218,15 @@ within-the-limit format before r end (e ∷ es) k leaves inside goes within =
     let one = one_within format before r e goes.0 k leaves inside.0 goes.1 (omega (arith, w.place, within)) in
     (goes.0, one.0, within-the-limit format (e ∷ before) (skipped goes.0 r) end es (k - goes.0) one.1 inside.1 goes.2 (omega (arith, w.place, within)))
 
-same_good : {E : Type 0} (s : Step E) (x y : E) (n m : ℕ) → s ≡ Good x n → s ≡ Good y m → (x ≡ y) × (n ≡ m)
+pub same_good : {E : Type 0} (s : Step E) (x y : E) (n m : ℕ) → s ≡ Good x n → s ≡ Good y m → (x ≡ y) × (n ≡ m)
 same_good s x y n m p q = (cc, cc)
 
-bad_good : {E : Type 0} (s : Step E) (why : Why) (e : E) (n : ℕ) → s ≡ Bad why → s ≡ Good e n → ⊥
-bad_good s why e n bad good = cc
+pub bad_good : {E : Type 0} (s : Step E) (why : Why) → s ≡ Bad why → (e : E) (n : ℕ) → s ≡ Good e n → ⊥
+bad_good s why bad e n good = cc
 
 no_end_here : (format : Format) (before : List Element) (cut : List Bool × ℕ) → may_end (slot before) ≡ false → next format before cut ≡ Bad Cut → (es : List Element) (end : List Bool × ℕ) → Goes (next format) before cut es end → may_end (slot (after before es)) ≡ true → ⊥
 no_end_here format before cut no_ bad [] end goes may = false≢true (sym no_ ∙ may)
-no_end_here format before cut no_ bad (e ∷ es) end goes may = bad_good (next format before cut) Cut e goes.0 bad goes.1
+no_end_here format before cut no_ bad (e ∷ es) end goes may = bad_good (next format before cut) Cut bad e goes.0 goes.1
 
 no_end_later : (format : Format) (before : List Element) (cut : List Bool × ℕ) (e : Element) (n : ℕ) → may_end (slot before) ≡ false → next format before cut ≡ Good e n → ((es : List Element) (end : List Bool × ℕ) → Goes (next format) (e ∷ before) (skipped n cut) es end → may_end (slot (after (e ∷ before) es)) ≡ true → ⊥) → (es : List Element) (end : List Bool × ℕ) → Goes (next format) before cut es end → may_end (slot (after before es)) ≡ true → ⊥
 no_end_later format before cut e n no_ good rest [] end goes may = false≢true (sym no_ ∙ may)

@@ -14,10 +14,12 @@ use Rattle.pel_model.specs.Walk.{after, Goes}
 use Rattle.pel_model.specs.Grammar as grammar
 use Rattle.pel_model.specs.Grammar.{address, vector, Eob, Slot, quant, Cbp, Tcoeff, Element, Psc, Tr, Ptype, Gbsc, Gn, Gquant, Gei, Gspare, Stuffing, Mba, Mtype, AtGroup, AtGquant, AtMacroblock, slot, may_end, next}
 use Rattle.pel_model.proofs.Walks.{after-append}
+use Rattle.pel_model.proofs.InsideElements.{inside-right}
 use Rattle.picture_laws.specs.Laws.{StandInside}
-use Rattle.pel_model.specs.Elements.{dc_elements, block_elements}
-use Rattle.picture_laws.specs.Elements.{blocks_elements, mquant_elements, mvd_element, vector_elements, cbp_elements, macroblock_elements, macroblocks_elements, spare_elements, group_elements, groups_elements, header_elements}
-use Rattle.picture_laws.specs.SoFar.{IsBehind, last_of, group_of, IsGroupSoFar, AreInside, GroupBegins, StuffingJoins, IsJoined, MacroblockJoins, IsPictureSoFar, with_group, next_number, HeaderBegins, GroupIsLeftOut, GroupIsSent, PictureIsTold, PictureIsAccepted, InsideStands, quant_behind, in_effect}
+use Rattle.pel_model.specs.Elements.{dc_elements, block_elements, blocks_elements, mquant_elements, AreInside}
+use Rattle.picture_laws.specs.Elements.{mvd_element, vector_elements, cbp_elements, macroblock_elements, macroblocks_elements, spare_elements, group_elements, groups_elements, header_elements}
+use Rattle.picture_laws.specs.SoFar.{IsBehind, last_of, group_of, IsGroupSoFar, GroupBegins, StuffingJoins, IsJoined, MacroblockJoins, IsPictureSoFar, with_group, next_number, HeaderBegins, GroupIsLeftOut, GroupIsSent, PictureIsTold, PictureIsAccepted, InsideStands, in_effect}
+use Rattle.pel_model.specs.Marks.{quant_behind}
 use Rattle.picture_laws.proofs.Basics.{not_equal}
 use Rattle.picture_laws.proofs.Slots.{Takes, IsStep}
 use Rattle.picture_laws.proofs.Chains.{Chain, words, goes-walk}
@@ -32,31 +34,6 @@ use Rattle.picture_laws.proofs.ReadPictures.{walk-record, ReadsHeader, read_head
 use Rattle.vlc_codes.proofs.WordLaws.{either_way, if-true, if-false}
 
 -- ---- nothing more
-
-inside-right : (xs ys : List Element) → AreInside (xs ++ ys) → AreInside ys
-inside-right [] ys h = h
-inside-right (Gbsc ∷ xs) ys h = absurd h
-inside-right (Stuffing ∷ xs) ys h = absurd h
-inside-right (Mba n ∷ xs) ys h = absurd h
-inside-right (_ ∷ xs) ys h = inside-right xs ys h
-
-pub inside-append : (xs ys : List Element) → AreInside xs → AreInside ys → AreInside (xs ++ ys)
-inside-append [] ys h k = k
-inside-append (Gbsc ∷ xs) ys h k = absurd h
-inside-append (Stuffing ∷ xs) ys h k = absurd h
-inside-append (Mba n ∷ xs) ys h k = absurd h
-inside-append (_ ∷ xs) ys h k = inside-append xs ys h k
-
-pub inside-coefficients : (cs : List Coefficient) → AreInside (map Tcoeff cs)
-inside-coefficients [] = tt
-inside-coefficients (c ∷ cs) = inside-coefficients cs
-
-inside_dc : (dc : Option ℕ) → AreInside (dc_elements dc)
-inside_dc None = tt
-inside_dc (Some n) = tt
-
-pub inside-block : (b : Block) → AreInside (block_elements b)
-inside-block b = inside-append (dc_elements b.dc ++ map Tcoeff b.coefficients) (Eob ∷ []) (inside-append (dc_elements b.dc) (map Tcoeff b.coefficients) (inside_dc b.dc) (inside-coefficients b.coefficients)) tt
 
 -- where a macroblock or a group is due and none of these elements is one, there are none
 no_more : (format : Format) (before es : List Element) → slot before ≡ AtMacroblock → IsRest format before es → AreInside es → es ≡ []

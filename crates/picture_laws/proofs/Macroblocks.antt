@@ -13,10 +13,11 @@ use Rattle.pel_model.specs.Text.{address_of, predictor, mba_word, mtype_word, mq
 use Rattle.pel_model.specs.Valid.{IsQuantiser, side, corner, StaysWithin, ComponentFits, IsIntraBlock, IsCodedBlock, BlocksFit, IsValidMacroblock}
 use Rattle.pel_model.specs.Walk.{after}
 use Rattle.pel_model.specs.Grammar as grammar
-use Rattle.pel_model.specs.Grammar.{Element, Mba, Mtype, Mquant, Mvd, Cbp, Slot, AtMacroblock, AtMtype, AtMquant, AtMvd, AtCbp, slot, kind, blocks, group, address, vector, faults, first_why, block_slot, cbp_slot, vector_slot, ones, moved, in_range, stays_within}
+use Rattle.pel_model.specs.Grammar.{Element, Mba, Mtype, Mquant, Mvd, Cbp, Slot, AtMacroblock, AtMtype, AtMquant, AtMvd, AtCbp, slot, kind, blocks, group, address, vector, faults, first_why, block_slot, cbp_slot, vector_slot, ones, component_from, in_range, stays_within}
 use Rattle.pel_model.proofs.Walks.{after-append}
+use Rattle.pel_model.specs.Elements.{mquant_elements, blocks_elements}
 use Rattle.picture_laws.specs.SoFar.{IsBehind, IsLast}
-use Rattle.picture_laws.specs.Elements.{mquant_elements, pair_in, mvd_element, vector_elements, cbp_elements, blocks_elements, macroblock_elements}
+use Rattle.picture_laws.specs.Elements.{pair_in, mvd_element, vector_elements, cbp_elements, macroblock_elements}
 use Rattle.picture_laws.proofs.Slots.{word_at, Takes}
 use Rattle.picture_laws.proofs.Words.{number_below}
 use Rattle.std.proofs.lemmas.List.{length-map}
@@ -76,15 +77,15 @@ both_axes P a d Down = d
 abbrev IsFit : Format → ℕ → Axis → Macroblock → Type 0
 IsFit format number axis m = (nat_abs (component axis m) ≤ 15) × StaysWithin (side format axis) (corner axis number m.address) (component axis m)
 
-stands_mvd : (format : Format) (before : List Element) (number : ℕ) (axis : Axis) (last : Option Macroblock) (m : Macroblock) → IsLast last → slot before ≡ AtMvd axis → group before ≡ number → address before ≡ m.address → vector axis before ≡ predictor axis last m → IsFit format number axis m → Stands format before (mvd_element axis last m) × (word_in before (mvd_element axis last m) ≡ mvd_word axis last m) × (moved (vector axis before) (pair_in (component axis m -ℤ predictor axis last m) mvd_table) ≡ component axis m)
+stands_mvd : (format : Format) (before : List Element) (number : ℕ) (axis : Axis) (last : Option Macroblock) (m : Macroblock) → IsLast last → slot before ≡ AtMvd axis → group before ≡ number → address before ≡ m.address → vector axis before ≡ predictor axis last m → IsFit format number axis m → Stands format before (mvd_element axis last m) × (word_in before (mvd_element axis last m) ≡ mvd_word axis last m) × (component_from (vector axis before) (pair_in (component axis m -ℤ predictor axis last m) mvd_table) ≡ component axis m)
 stands_mvd format before number axis last m is at group_is address_is vector_is fit =
     let p : ℤ = predictor axis last m in
     let pair = pair-of axis (predictor axis last m) (component axis m) (predictor-small axis last m is) fit.0 in
-    let gives : moved (vector axis before) (pair_in (component axis m -ℤ predictor axis last m) mvd_table) ≡ component axis m = ap (λ p. moved p (pair_in (component axis m -ℤ predictor axis last m) mvd_table)) vector_is ∙ pair.gives in
-    let inside : in_range (moved (vector axis before) (pair_in (component axis m -ℤ predictor axis last m) mvd_table)) ≡ true = ap in_range gives ∙ in-range (component axis m) fit.0 in
-    let within : stays_within (side format axis) (corner axis (group before) (address before)) (moved (vector axis before) (pair_in (component axis m -ℤ predictor axis last m) mvd_table)) ≡ true =
-    ap (λ g. stays_within (side format axis) (corner axis g (address before)) (moved (vector axis before) (pair_in (component axis m -ℤ predictor axis last m) mvd_table))) group_is
-    ∙ (ap (λ a. stays_within (side format axis) (corner axis number a) (moved (vector axis before) (pair_in (component axis m -ℤ predictor axis last m) mvd_table))) address_is
+    let gives : component_from (vector axis before) (pair_in (component axis m -ℤ predictor axis last m) mvd_table) ≡ component axis m = ap (λ p. component_from p (pair_in (component axis m -ℤ predictor axis last m) mvd_table)) vector_is ∙ pair.gives in
+    let inside : in_range (component_from (vector axis before) (pair_in (component axis m -ℤ predictor axis last m) mvd_table)) ≡ true = ap in_range gives ∙ in-range (component axis m) fit.0 in
+    let within : stays_within (side format axis) (corner axis (group before) (address before)) (component_from (vector axis before) (pair_in (component axis m -ℤ predictor axis last m) mvd_table)) ≡ true =
+    ap (λ g. stays_within (side format axis) (corner axis g (address before)) (component_from (vector axis before) (pair_in (component axis m -ℤ predictor axis last m) mvd_table))) group_is
+    ∙ (ap (λ a. stays_within (side format axis) (corner axis number a) (component_from (vector axis before) (pair_in (component axis m -ℤ predictor axis last m) mvd_table))) address_is
     ∙ (ap (stays_within (side format axis) (corner axis number m.address)) gives ∙ stays (side format axis) (corner axis number m.address) (component axis m) fit.1)) in (
       record {
         takes = subst (λ s. Takes s (mvd_element axis last m)) (sym at) (pair.row, pair.among, ap (Mvd axis) (sym pair.is));
@@ -216,8 +217,8 @@ at-vector number last m before place rise at =
     let sum : address before + (m.address - address_of last) ≡ m.address = omega (arith, place.address_is, rise) in
     let predicts = λ (axis : Axis).
     ap (λ b. cond (has_vector m.kind) b (pos 0))
-    (ap (λ a. cond (grammar.starts_anew (m.address - address_of last) a) (pos 0) (vector axis before)) sum
-    ∙ (ap (λ z. cond (grammar.starts_anew (m.address - address_of last) m.address) (pos 0) z) (place.vector_is axis)
+    (ap (λ a. cond (grammar.resets_predictor (m.address - address_of last) a) (pos 0) (vector axis before)) sum
+    ∙ (ap (λ z. cond (grammar.resets_predictor (m.address - address_of last) m.address) (pos 0) z) (place.vector_is axis)
     ∙ sym (predicted axis last m place.last_is rise))) in
     record {
       at = at;

@@ -15,8 +15,8 @@ use Rattle.pel_model.specs.Accepts.{left_out}
 use Rattle.pel_model.specs.Walk.{Stop, start, after, Goes, judged, read}
 use Rattle.pel_model.specs.Grammar.{Element, Psc, Tr, Ptype, Pei, Pspare, Gbsc, Gei, Gspare, Stuffing, Cbp, Tcoeff, Eob, Slot, AtGroup, AtMacroblock, slot, begun, faults, first_why, is_group, may_end, is_end, or_no_start, rows, next}
 use Rattle.pel_model.proofs.Walks.{after-append}
-use Rattle.pel_model.specs.Elements.{dc_elements, block_elements}
-use Rattle.picture_laws.specs.Elements.{blocks_elements, mquant_elements, mvd_element, vector_elements, cbp_elements, macroblock_elements, macroblocks_elements, spare_elements, group_elements, groups_elements, header_elements, elements}
+use Rattle.pel_model.specs.Elements.{dc_elements, block_elements, blocks_elements, mquant_elements}
+use Rattle.picture_laws.specs.Elements.{mvd_element, vector_elements, cbp_elements, macroblock_elements, macroblocks_elements, spare_elements, group_elements, groups_elements, header_elements, elements}
 use Rattle.picture_laws.specs.Laws.{AcceptedIsRead}
 use Rattle.picture_laws.proofs.Slots.{psc}
 use Rattle.picture_laws.proofs.Words.{field-number, number_below}

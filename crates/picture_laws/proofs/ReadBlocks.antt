@@ -11,8 +11,7 @@ use Rattle.pel_model.specs.Valid.{IsValidCoefficient, IsValidDc}
 use Rattle.pel_model.specs.Walk.{after}
 use Rattle.pel_model.specs.Grammar.{Element, Dc, Tcoeff, Eob, Slot, AtDc, AtFirst, AtCoefficient, slot, kind, blocks, filled, is_forbidden_level, block_slot, may_end}
 use Rattle.pel_model.proofs.Walks.{after-append}
-use Rattle.pel_model.specs.Elements.{block_elements}
-use Rattle.picture_laws.specs.Elements.{blocks_elements}
+use Rattle.pel_model.specs.Elements.{block_elements, blocks_elements}
 use Rattle.picture_laws.proofs.Slots.{Takes, IsSent}
 use Rattle.picture_laws.proofs.Chains.{Stands, Chain, chain-right}
 use Rattle.picture_laws.proofs.Patterns.{trues}

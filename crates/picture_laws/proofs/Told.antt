@@ -11,10 +11,10 @@ use Rattle.pel_model.specs.Records.{Across, Down, Coefficient, Block, Macroblock
 use Rattle.pel_model.specs.Text.{address_of, predictor, coded_block_pattern}
 use Rattle.pel_model.specs.Valid.{IsQuantiser, ComponentFits, IsIntraBlock, IsCodedBlock, BlocksFit, IsValidMacroblock, AddressesRise, IsValidGroup, IsValid, group_numbers}
 use Rattle.pel_model.specs.Spelling.{GroupForm, LeftOut, Sent, Form, GroupsFit}
-use Rattle.pel_model.specs.Grammar.{Element, Psc, Tr, Ptype, Pei, Pspare, Gbsc, Gn, Gquant, Gei, Gspare, Stuffing, Mba, Mtype, Mquant, Mvd, Cbp, Dc, Tcoeff, Eob, moved}
-use Rattle.pel_model.specs.Elements.{block_elements}
+use Rattle.pel_model.specs.Grammar.{Element, Psc, Tr, Ptype, Pei, Pspare, Gbsc, Gn, Gquant, Gei, Gspare, Stuffing, Mba, Mtype, Mquant, Mvd, Cbp, Dc, Tcoeff, Eob, component_from}
+use Rattle.pel_model.specs.Elements.{block_elements, blocks_elements, mquant_elements}
 use Rattle.picture_laws.specs.SoFar.{IsLast}
-use Rattle.picture_laws.specs.Elements.{blocks_elements, mquant_elements, pair_in, mvd_element, vector_elements, cbp_elements, macroblock_elements, macroblocks_elements, spare_elements, group_elements, groups_elements, elements, Tells}
+use Rattle.picture_laws.specs.Elements.{pair_in, mvd_element, vector_elements, cbp_elements, macroblock_elements, macroblocks_elements, spare_elements, group_elements, groups_elements, elements, Tells}
 use Rattle.picture_laws.proofs.Words.{field-number}
 use Rattle.picture_laws.proofs.Vectors.{pair-of, predictor-small}
 use Rattle.picture_laws.proofs.Blocks.{all-head, all-tail}
@@ -81,7 +81,7 @@ mquant_again false None rest h = refl
 mquant_again false (Some q) rest h = absurd (false≢true (sym h))
 
 told_vector : Bool → ℤ → ℤ → List Element → ℤ × ℤ × List Element
-told_vector true p q (Mvd a v ∷ Mvd d w ∷ es) = (moved p v, moved q w, es)
+told_vector true p q (Mvd a v ∷ Mvd d w ∷ es) = (component_from p v, component_from q w, es)
 told_vector _ p q es = (pos 0, pos 0, es)
 
 vector_again : (format : Format) (number : ℕ) (last : Option Macroblock) (m : Macroblock) (rest : List Element) → IsLast last → ComponentFits format number Across m → ComponentFits format number Down m → told_vector (has_vector m.kind) (predictor Across last m) (predictor Down last m) (vector_elements last m ++ rest) ≡ (m.across, m.down, rest)
@@ -95,7 +95,7 @@ vector_again format number last m rest is across down =
           let pd = pair-of Down (predictor Down last m) m.down (predictor-small Down last m is) d.0 in
           ap (λ b. told_vector b (predictor Across last m) (predictor Down last m) (vector_elements last m ++ rest)) has
           ∙ (ap (λ t. told_vector true (predictor Across last m) (predictor Down last m) (t ++ rest)) (if-true (has_vector m.kind) (mvd_element Across last m ∷ mvd_element Down last m ∷ []) [] has)
-          ∙ (ap (λ (z : ℤ). (z, moved (predictor Down last m) (pair_in (m.down -ℤ predictor Down last m) mvd_table), rest)) pa.gives
+          ∙ (ap (λ (z : ℤ). (z, component_from (predictor Down last m) (pair_in (m.down -ℤ predictor Down last m) mvd_table), rest)) pa.gives
           ∙ ap (λ (z : ℤ). (m.across, z, rest)) pd.gives))
       | inr none ↦
           ap (λ b. told_vector b (predictor Across last m) (predictor Down last m) (vector_elements last m ++ rest)) none

@@ -9,7 +9,7 @@ use Rattle.pel_model.specs.Records.{Axis, Macroblock, component}
 use Rattle.pel_model.specs.Text.{word_of, address_of, predictor, starts_anew}
 use Rattle.pel_model.specs.Valid.{StaysWithin}
 use Rattle.pel_model.specs.Grammar as grammar
-use Rattle.pel_model.specs.Grammar.{Mvd, AtMvd, in_range, moved, stays_within}
+use Rattle.pel_model.specs.Grammar.{Mvd, AtMvd, in_range, component_from, stays_within}
 use Rattle.picture_laws.specs.SoFar.{IsLast, last_component}
 use Rattle.picture_laws.specs.Elements.{pair_in}
 use Rattle.picture_laws.proofs.Rows.{Among, among-all, among-left, among-right, among-mapped}
@@ -42,14 +42,14 @@ abbrev has_difference : ℤ → List Bool × (ℤ × ℤ) → Bool
 has_difference d row = int_eq row.1.0 d || int_eq row.1.1 d
 
 abbrev reaches : ℤ → ℤ → Bool
-reaches p c = list_any (has_difference (c -ℤ p)) mvd_table && int_eq (moved p (pair_in (c -ℤ p) mvd_table)) c
+reaches p c = list_any (has_difference (c -ℤ p)) mvd_table && int_eq (component_from p (pair_in (c -ℤ p) mvd_table)) c
 
 all_reached : list_all (λ p. list_all (reaches p) components) components ≡ true
 unfolding mvd_table
 all_reached = refl
 
 abbrev comes_back : ℤ → List Bool × (ℤ × ℤ) → Bool
-comes_back p row = same_pair (pair_in (moved p row.1 -ℤ p) mvd_table) row.1
+comes_back p row = same_pair (pair_in (component_from p row.1 -ℤ p) mvd_table) row.1
 
 all_back : list_all (λ p. list_all (comes_back p) mvd_table) components ≡ true
 unfolding mvd_table
@@ -70,7 +70,7 @@ pub record IsPairOf (axis : Axis) (p c : ℤ) : Type 0 where
   pub among : Among row mvd_table
   pub is : row.1 ≡ pair_in (c -ℤ p) mvd_table
   pub word : word_at (AtMvd axis) (Mvd axis (pair_in (c -ℤ p) mvd_table)) ≡ word_of (λ v. int_eq v.0 (c -ℤ p) || int_eq v.1 (c -ℤ p)) mvd_table
-  pub gives : moved p (pair_in (c -ℤ p) mvd_table) ≡ c
+  pub gives : component_from p (pair_in (c -ℤ p) mvd_table) ≡ c
 
 pub pair-of : (axis : Axis) (p c : ℤ) → nat_abs p ≤ 15 → nat_abs c ≤ 15 → IsPairOf axis p c
 pair-of axis p c small small' =
@@ -81,16 +81,16 @@ pair-of axis p c small small' =
       among = f.1;
       is = f.2;
       word = ap (λ v. word_of (λ w. same_pair w v) mvd_table) (sym f.2) ∙ (same_bits-true _ _ (among-all _ f.0 mvd_table mvd_words f.1) ∙ sym f.3);
-      gives = int_same (moved p (pair_in (c -ℤ p) mvd_table)) c (and_right _ _ all);
+      gives = int_same (component_from p (pair_in (c -ℤ p) mvd_table)) c (and_right _ _ all);
     }
 
 -- a pair that was read is that of the difference of what it gives
-pub pair-back : (p : ℤ) (row : List Bool × (ℤ × ℤ)) → nat_abs p ≤ 15 → Among row mvd_table → pair_in (moved p row.1 -ℤ p) mvd_table ≡ row.1
+pub pair-back : (p : ℤ) (row : List Bool × (ℤ × ℤ)) → nat_abs p ≤ 15 → Among row mvd_table → pair_in (component_from p row.1 -ℤ p) mvd_table ≡ row.1
 pair-back p row small among =
     let all = among-all (comes_back p) row mvd_table (among-all (λ p. list_all (comes_back p) mvd_table) p components all_back (among-components p small)) among in
-    let a : (pair_in (moved p row.1 -ℤ p) mvd_table).0 ≡ row.1.0 = int_same _ row.1.0 (and_left _ _ all) in
-    let b : (pair_in (moved p row.1 -ℤ p) mvd_table).1 ≡ row.1.1 = int_same _ row.1.1 (and_right _ _ all) in
-    ap (λ (x : ℤ). (x, (pair_in (moved p row.1 -ℤ p) mvd_table).1)) a ∙ ap (λ (y : ℤ). (row.1.0, y)) b
+    let a : (pair_in (component_from p row.1 -ℤ p) mvd_table).0 ≡ row.1.0 = int_same _ row.1.0 (and_left _ _ all) in
+    let b : (pair_in (component_from p row.1 -ℤ p) mvd_table).1 ≡ row.1.1 = int_same _ row.1.1 (and_right _ _ all) in
+    ap (λ (x : ℤ). (x, (pair_in (component_from p row.1 -ℤ p) mvd_table).1)) a ∙ ap (λ (y : ℤ). (row.1.0, y)) b
 
 -- ---- tests
 
@@ -133,8 +133,8 @@ same_test a b c d there back = elim (either_way (a == b)) [
 ]
 
 -- the vector before, or nothing, predicts
-pub predicted : (axis : Axis) (last : Option Macroblock) (m : Macroblock) → IsLast last → address_of last < m.address → predictor axis last m ≡ cond (grammar.starts_anew (m.address - address_of last) m.address) (pos 0) (last_component axis last)
-predicted axis None m is rise = sym (same_either (grammar.starts_anew (m.address - 0) m.address) (pos 0) refl)
+pub predicted : (axis : Axis) (last : Option Macroblock) (m : Macroblock) → IsLast last → address_of last < m.address → predictor axis last m ≡ cond (grammar.resets_predictor (m.address - address_of last) m.address) (pos 0) (last_component axis last)
+predicted axis None m is rise = sym (same_either (grammar.resets_predictor (m.address - 0) m.address) (pos 0) refl)
 predicted axis (Some l) m is rise = elim (either_way (has_vector l.kind)) [
   | inl has ↦
       let far : (m.address == 1) ≡ false = elim (either_way (m.address == 1)) [ inl one ↦ absurd (omega (arith, is.0, rise, eqb-true m.address 1 one)) | inr no_ ↦ no_ ] in
@@ -145,7 +145,7 @@ predicted axis (Some l) m is rise = elim (either_way (has_vector l.kind)) [
       ∙ ap (λ b. cond (not b || m.address == 1 || m.address == 12 || m.address == 23) (pos 0) (component axis l)) (sym next)))
   | inr none ↦
       same_either _ (component axis l) (is.2 axis none)
-      ∙ sym (same_either (grammar.starts_anew (m.address - l.address) m.address) (component axis l) (is.2 axis none))
+      ∙ sym (same_either (grammar.resets_predictor (m.address - l.address) m.address) (component axis l) (is.2 axis none))
 ]
 
 small_either : (b : Bool) (z : ℤ) → nat_abs z ≤ 15 → nat_abs (cond b (pos 0) z) ≤ 15

@@ -3,42 +3,35 @@ use Rattle.std.specs.Prelude.{◌≡◌, ℕ, ◌-◌, ◌%◌, ◌||◌, Bool, 
 use Rattle.std.specs.Ordering.{int_eq}
 use Rattle.pel_model.specs.declared.Format.{Format}
 use Rattle.pel_model.specs.Bits.{number}
-use Rattle.pel_model.specs.Codes.{mvd_table, has_vector, has_cbp}
-use Rattle.pel_model.specs.Records.{Axis, Across, Down, Block, Macroblock, Group, Picture, component}
+use Rattle.pel_model.specs.Codes.{mvd_table}
+use Rattle.pel_model.specs.Records.{Axis, Across, Down, Macroblock, Group, Picture, component}
 use Rattle.pel_model.specs.Text.{address_of, predictor, coded_block_pattern}
 use Rattle.pel_model.specs.Spelling.{FreeBits, GroupForm, LeftOut, Sent, Form, GroupsFit, type_text}
-use Rattle.pel_model.specs.Elements.{block_elements}
-use Rattle.pel_model.specs.Grammar.{Element, Psc, Tr, Ptype, Pei, Pspare, Gbsc, Gn, Gquant, Gei, Gspare, Stuffing, Mba, Mtype, Mquant, Mvd, Cbp}
+use Rattle.pel_model.specs.Elements as by_words
+use Rattle.pel_model.specs.Grammar.{Element, Psc, Tr, Ptype, Pei, Pspare, Gbsc, Gn, Gquant, Gei, Gspare, Stuffing, Mvd}
 
--- ---- blocks and macroblocks
-
-abbrev pub blocks_elements : List (Option Block) → List Element
-blocks_elements [] = []
-blocks_elements (None ∷ bs) = blocks_elements bs
-blocks_elements (Some b ∷ bs) = block_elements b ++ blocks_elements bs
-
-abbrev pub mquant_elements : Option ℕ → List Element
-mquant_elements None = []
-mquant_elements (Some q) = Mquant q ∷ []
+-- ---- macroblocks
 
 -- the pair of MVD's table that has this difference
 abbrev pub pair_in : ℤ → List (List Bool × (ℤ × ℤ)) → ℤ × ℤ
 pair_in d [] = (pos 0, pos 0)
 pair_in d (row ∷ rows) = if int_eq row.1.0 d || int_eq row.1.1 d then row.1 else pair_in d rows
 
+abbrev pub mvd_pair : Axis → Option Macroblock → Macroblock → ℤ × ℤ
+mvd_pair axis last m = pair_in (component axis m -ℤ predictor axis last m) mvd_table
+
 abbrev pub mvd_element : Axis → Option Macroblock → Macroblock → Element
-mvd_element axis last m = Mvd axis (pair_in (component axis m -ℤ predictor axis last m) mvd_table)
+mvd_element axis last m = Mvd axis (mvd_pair axis last m)
 
 abbrev pub vector_elements : Option Macroblock → Macroblock → List Element
-vector_elements last m = if has_vector m.kind then mvd_element Across last m ∷ mvd_element Down last m ∷ [] else []
+vector_elements last m = by_words.vector_elements m.kind (mvd_pair Across last m) (mvd_pair Down last m)
 
 abbrev pub cbp_elements : Macroblock → List Element
-cbp_elements m = if has_cbp m.kind then Cbp (coded_block_pattern m.blocks) ∷ [] else []
+cbp_elements m = by_words.cbp_elements m.kind (coded_block_pattern m.blocks)
 
 -- a macroblock behind the one that was sent before it in its group
 abbrev pub macroblock_elements : Option Macroblock → Macroblock → List Element
-macroblock_elements last m =
-    Mba (m.address - address_of last) ∷ (Mtype m.kind ∷ (mquant_elements m.mquant ++ (vector_elements last m ++ (cbp_elements m ++ blocks_elements m.blocks))))
+macroblock_elements last m = by_words.macroblock_elements (m.address - address_of last) (mvd_pair Across last m) (mvd_pair Down last m) m
 
 -- macroblocks, each with so many stuffings behind it
 abbrev pub macroblocks_elements : Option Macroblock → List ℕ → List Macroblock → List Element

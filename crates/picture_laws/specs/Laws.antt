@@ -5,7 +5,7 @@ use Rattle.pel_model.specs.declared.Format.TheVariants.{Qcif, Cif}
 use Rattle.pel_model.specs.declared.Why.{Why}
 use Rattle.pel_model.specs.declared.Why.TheVariants.{Cut, TooLong}
 use Rattle.pel_model.specs.Records.{Picture}
-use Rattle.pel_model.specs.Text.{text}
+use Rattle.pel_model.specs.Text.{group_header_length, text}
 use Rattle.pel_model.specs.Valid.{IsValid, group_count, limit}
 use Rattle.pel_model.specs.Spelling.{Spells}
 use Rattle.pel_model.specs.Accepts.{Accepts}
@@ -88,7 +88,7 @@ StandInside before (e ∷ es) = (may_end (slot before) ≡ false) × StandInside
 
 -- the k bits from a place on are those that the limit leaves
 abbrev pub Leaves : Format → List Element → ℕ → ℕ → Type 0
-Leaves format before place k = place + k + 26 * (group_count format - begun before) ≡ limit format
+Leaves format before place k = place + k + group_header_length * (group_count format - begun before) ≡ limit format
 
 -- good elements that end within the first k bits are good over these
 abbrev pub GoodOverFirst : Type 0

@@ -3,11 +3,13 @@ use Rattle.std.specs.Prelude.{◌≡◌, ℕ, ◌<◌, ◌≤◌, Bool, false, �
 use Rattle.pel_model.specs.declared.Format.{Format}
 use Rattle.pel_model.specs.Codes.{has_vector}
 use Rattle.pel_model.specs.Records.{Axis, Macroblock, Group, Picture, component}
+use Rattle.pel_model.specs.Marks.{quant_behind}
 use Rattle.pel_model.specs.Text.{address_of, macroblock_text, macroblocks_text}
 use Rattle.pel_model.specs.Valid.{IsValidGroup, IsValidSoFar, IsValid, group_numbers, group_count}
 use Rattle.pel_model.specs.Spelling.{FreeBits, GroupForm, Sent, GroupsFit}
 use Rattle.pel_model.specs.Accepts.{Accepts}
 use Rattle.pel_model.specs.Walk.{after, Goes, Reads}
+use Rattle.pel_model.specs.Elements.{AreInside}
 use Rattle.pel_model.specs.Grammar as grammar
 use Rattle.pel_model.specs.Grammar.{Element, Psc, Tr, Ptype, Gbsc, Gn, Gquant, Stuffing, Mba, slot, AtGroup, AtMacroblock, group, address, vector, next}
 use Rattle.picture_laws.specs.Laws.{StandInside}
@@ -41,11 +43,7 @@ abbrev pub last_of : Option Macroblock → List Macroblock → Option Macroblock
 last_of last [] = last
 last_of last (m ∷ ms) = last_of (Some m) ms
 
--- the quantiser in effect behind a macroblock, and behind these, where it was `quant` before (4.2.3.3)
-abbrev pub quant_behind : ℕ → Option ℕ → ℕ
-quant_behind quant None = quant
-quant_behind quant (Some mquant) = mquant
-
+-- the quantiser in effect behind these, where it was `quant` before (4.2.3.3)
 abbrev pub in_effect : ℕ → List Macroblock → ℕ
 in_effect quant [] = quant
 in_effect quant (m ∷ ms) = in_effect (quant_behind quant m.mquant) ms
@@ -66,15 +64,7 @@ pub record IsGroupSoFar (format : Format) (before : List Element) (number quant 
   pub place : IsBehind number (last_of None ms) (after before es)
   pub quant_is : grammar.quant (after before es) ≡ in_effect quant ms
 
--- no element of these is a word that may stand between macroblocks
-abbrev pub AreInside : List Element → Type 0
-AreInside [] = Unit {0}
-AreInside (Gbsc ∷ es) = ⊥
-AreInside (Stuffing ∷ es) = ⊥
-AreInside (Mba n ∷ es) = ⊥
-AreInside (_ ∷ es) = AreInside es
-
--- good elements of that kind stand at no place where an end can be
+-- good elements with none of which a group, stuffing or a macroblock begins stand at no place where an end can be
 abbrev pub InsideStands : Type 0
 InsideStands =
     (format : Format) (before : List Element) (r end : List Bool × ℕ) (es : List Element)

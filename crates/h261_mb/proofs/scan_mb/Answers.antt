@@ -12,9 +12,9 @@ use Rattle.h261_mb.specs.declared.state.MbState.{MbState}
 use Rattle.h261_mb.specs.State.{Stands, Say}
 use Rattle.h261_mb.proofs.Passing.{behind_cbp, behind_blocks, said_kind, say_again}
 use Rattle.h261_mb.proofs.Placing.{placed, length-placed, whole_elements}
-use Rattle.h261_mb.specs.Macroblocks.{mquant_elements}
+use Rattle.pel_model.specs.Elements.{mquant_elements}
 use Rattle.h261_mb.proofs.Steps.{fails_later}
-use Rattle.h261_mb.proofs.InsideLaws.{inside-head, inside-vector, inside-cbp, stays_later, so_far_later}
+use Rattle.h261_mb.proofs.InsideLaws.{inside-head, inside-read_vector, inside-read_cbp, stays_later, so_far_later}
 use Rattle.h261_mb.specs.Inside.{StaysInside, IsMacroblockSoFar}
 use Rattle.h261_mb.proofs.scan_mb.Goals as goal
 
@@ -46,7 +46,7 @@ returns-in_err-count-clause-walk c =
     let vector = c.in_ok-h.ensures.walk began head.2.2 in
     let moved = vector.2.3 in
     let bad = c.in_err-count.ensures.walk c.args.format (after began vector.0) moved.due moved.kind_is moved.blocks_are in
-    let later = fails_later next began (StaysInside began) c.read_head.new.r c.vector_after.new.r c.count_blocks.new.r vector.0 bad.0 _ vector.1 bad.1 (stays_later began vector.0 bad.0 (inside-vector vector.0 _ _ _ vector.2.2) bad.2) bad.3 bad.4 in
+    let later = fails_later next began (StaysInside began) c.read_head.new.r c.vector_after.new.r c.count_blocks.new.r vector.0 bad.0 _ vector.1 bad.1 (stays_later began vector.0 bad.0 (inside-read_vector vector.0 _ _ _ vector.2.2) bad.2) bad.3 bad.4 in
     fails_later next before (IsMacroblockSoFar before) c.args.r.now c.read_head.new.r c.count_blocks.new.r head.0 later.0 _ head.1 later.1 (so_far_later before head.0 later.0 (begins head.0 _ _ _ head.2.1) (inside-head head.0 _ _ _ head.2.1) later.2) later.3 later.4)
 
 pub returns-in_err-skip_blocks-clause-walk : goal.returns-in_err-skip_blocks-clause-walk
@@ -63,8 +63,8 @@ returns-in_err-skip_blocks-clause-walk c =
     let cbp = c.in_ok-count.ensures.walk c.args.format there moved.due moved.kind_is moved.blocks_are in
     let kind_is = said_kind there (after there cbp.0) kind (behind_cbp there kind (number cbp.2.0) cbp.0 cbp.2.3) moved.kind_is in
     let bad = c.in_err-skip_blocks.ensures.walk c.args.format (after there cbp.0) kind kind_is (sym c.is_intra-intra.ensures) cbp.2.4 cbp.2.5 in
-    let later = fails_later next there (StaysInside there) c.vector_after.new.r c.count_blocks.new.r c.skip_blocks.new.r cbp.0 bad.0 _ cbp.1 bad.1 (stays_later there cbp.0 bad.0 (inside-cbp cbp.0 kind (number cbp.2.0) cbp.2.3) bad.2) bad.3 bad.4 in
-    let last = fails_later next began (StaysInside began) c.read_head.new.r c.vector_after.new.r c.skip_blocks.new.r vector.0 later.0 _ vector.1 later.1 (stays_later began vector.0 later.0 (inside-vector vector.0 _ _ _ vector.2.2) later.2) later.3 later.4 in
+    let later = fails_later next there (StaysInside there) c.vector_after.new.r c.count_blocks.new.r c.skip_blocks.new.r cbp.0 bad.0 _ cbp.1 bad.1 (stays_later there cbp.0 bad.0 (inside-read_cbp cbp.0 kind (number cbp.2.0) cbp.2.3) bad.2) bad.3 bad.4 in
+    let last = fails_later next began (StaysInside began) c.read_head.new.r c.vector_after.new.r c.skip_blocks.new.r vector.0 later.0 _ vector.1 later.1 (stays_later began vector.0 later.0 (inside-read_vector vector.0 _ _ _ vector.2.2) later.2) later.3 later.4 in
     fails_later next before (IsMacroblockSoFar before) c.args.r.now c.read_head.new.r c.skip_blocks.new.r head.0 last.0 _ head.1 last.1 (so_far_later before head.0 last.0 (begins head.0 _ _ _ head.2.1) (inside-head head.0 _ _ _ head.2.1) last.2) last.3 last.4)
 
 pub returns-clause-walk : goal.returns-clause-walk

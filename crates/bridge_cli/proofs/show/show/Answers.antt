@@ -3,16 +3,15 @@ use Rattle.h261_pic.specs.Coded.{coding}
 use Rattle.bridge_cli.specs.Shown.{groups_shown}
 use Rattle.bridge_cli.proofs.Shows.{MayGrow, MayCopy, Showing, showing-may-grow, showing-may-copy, showing-empty, showing-copied, all-shown}
 use Rattle.pel_model.specs.declared.Format.TheVariants.{Cif}
-use Rattle.pel_model.specs.Plain.{plain_picture}
 use Rattle.bridge_cli.proofs.show.show.Goals as goal
 use Rattle.bridge_cli.proofs.show.show.Goals.{in-Some, in-None}
 
 -- what is known where a group is copied
 copies : (c : goal.After-copy_group-arg-1) → MayGrow c.loop-number.whole × MayCopy c.args.picture.now c.loop-number.whole c.in-Some.i
 copies c =
-    let plain = c.requires.plain in
+    let sent = c.requires.picture in
     let s : Showing c.args.place c.args.tr c.args.picture.now c.loop-number.whole (c.loop-number.number - 1) =
-    record { plain = plain.0; is_plain = plain.1; picture_is = plain.2; whole_is = c.loop-number.invariant plain.0 plain.1 plain.2 } in (
+    record { sent = sent.0; valid = sent.1; short = c.requires.short; picture_is = sent.2; whole_is = c.loop-number.invariant sent.0 sent.1 sent.2 } in (
       showing-may-grow c.args.place c.args.tr c.args.picture.now c.loop-number.whole (c.loop-number.number - 1) (omega arith) s,
       showing-may-copy c.args.place c.args.tr c.args.picture.now c.loop-number.whole (c.loop-number.number - 1) c.loop-number.number c.in-Some.i (omega arith) (omega arith)
           (sym c.group_in.ensures ∙ c.in-Some.is) s,
@@ -38,9 +37,9 @@ copy_group-requires-clause-room c = (copies c).1.room
 
 grows : (c : goal.After-empty_group-arg-1) → MayGrow c.loop-number.whole
 grows c =
-    let plain = c.requires.plain in
+    let sent = c.requires.picture in
     showing-may-grow c.args.place c.args.tr c.args.picture.now c.loop-number.whole (c.loop-number.number - 1) (omega arith)
-    (record { plain = plain.0; is_plain = plain.1; picture_is = plain.2; whole_is = c.loop-number.invariant plain.0 plain.1 plain.2 })
+    (record { sent = sent.0; valid = sent.1; short = c.requires.short; picture_is = sent.2; whole_is = c.loop-number.invariant sent.0 sent.1 sent.2 })
 
 pub empty_group-requires-clause-begun : goal.empty_group-requires-clause-begun
 empty_group-requires-clause-begun c = (grows c).begun
@@ -50,22 +49,22 @@ empty_group-requires-clause-next c = (grows c).next
 
 pub loop-number-preserved : goal.loop-number-preserved
 loop-number-preserved c =
-    λ p plain picture_is.
+    λ p valid picture_is.
     let n : ℕ = c.loop-number.number in
     let last : n ≡ n + 1 - 1 = omega arith in
-    let here = c.loop-number.invariant p plain picture_is in
-    subst (λ (m : ℕ). c.match-group_in.whole ≡ coding Cif (record { tr = c.args.tr; groups = groups_shown c.args.place (plain_picture p) m })) last
+    let here = c.loop-number.invariant p valid picture_is in
+    subst (λ (m : ℕ). c.match-group_in.whole ≡ coding Cif (record { tr = c.args.tr; groups = groups_shown c.args.place p m })) last
     (elim c.match-group_in.branch [
       | in-Some w ↦ w.whole-is ∙ showing-copied c.args.place c.args.tr c.args.picture.now c.loop-number.whole w.copy_group.new.self (n - 1) n w.in-Some.i p
-          (omega arith) (omega arith) (sym c.group_in.ensures ∙ w.in-Some.is) picture_is here w.copy_group.ensures
+          (omega arith) (omega arith) (sym c.group_in.ensures ∙ w.in-Some.is) valid picture_is here w.copy_group.ensures
       | in-None w ↦ w.whole-is ∙ showing-empty c.args.place c.args.tr c.loop-number.whole w.empty_group.new.self (n - 1) n p
           (omega arith) (omega arith) (sym c.group_in.ensures ∙ w.in-None.is) here w.empty_group.ensures
     ])
 
 pub returns : goal.returns
 returns c =
-    λ p plain picture_is.
+    λ p valid picture_is.
     let last : c.loop-number.number - 1 ≡ 12 = omega arith in
-    c.loop-number.invariant p plain picture_is
-    ∙ ap (λ (m : ℕ). coding Cif (record { tr = c.args.tr; groups = groups_shown c.args.place (plain_picture p) m })) last
-    ∙ ap (coding Cif) (all-shown c.args.place c.args.tr p)
+    c.loop-number.invariant p valid picture_is
+    ∙ ap (λ (m : ℕ). coding Cif (record { tr = c.args.tr; groups = groups_shown c.args.place p m })) last
+    ∙ ap (coding Cif) (all-shown c.args.place c.args.tr p valid)

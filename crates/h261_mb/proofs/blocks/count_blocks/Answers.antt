@@ -21,7 +21,7 @@ returns-in_err-take_pattern-clause-walk c =
     let coded = sym c.has_cbp.ensures ∙ c.if-has_cbp.true in
     let here = due ∙ cbp_due c.args.kind coded in
     let bad = c.in_err-take_pattern.ensures.taken format before here in
-    fails_here (next format) before (StaysInside before) c.args.r.now c.args.r.now c.take_pattern.new.r [] _ refl (refl, ap may_end here) bad.0 bad.1 bad.2)
+    fails_here (next format) before (StaysInside before) c.args.r.now c.args.r.now c.take_pattern.new.r [] _ refl (tt, ap may_end here) bad.0 bad.1 bad.2)
 
 pub returns-then-is_intra-clause-walk : goal.returns-then-is_intra-clause-walk
 returns-then-is_intra-clause-walk c = λ format before due kind_is to_come.

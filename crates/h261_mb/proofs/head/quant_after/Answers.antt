@@ -6,14 +6,14 @@ use Rattle.pel_model.specs.Codes.{has_mquant}
 use Rattle.pel_model.specs.Walk.{after, Takes, Walked}
 use Rattle.pel_model.specs.Grammar.{Element, Mtype, Mquant, slot, AtMquant, vector_slot, may_end, next}
 use Rattle.h261_mb.specs.Inside.{StaysInside}
-use Rattle.h261_mb.specs.Macroblocks.{mquant_elements}
+use Rattle.pel_model.specs.Elements.{mquant_elements}
 use Rattle.h261_mb.proofs.Steps.{fails_here}
 use Rattle.h261_mb.proofs.head.quant_after.Goals as goal
 
 taken : (format : Format) (before : List Element) (kind : MbKind) (last : ℕ) (old new : List Bool × ℕ) (result : Result ℕ Fault) → Takes Mquant (next format (Mtype kind ∷ before) old) result old new → slot (Mtype kind ∷ before) ≡ AtMquant → Walked (next format) (Mtype kind ∷ before) (λ quant es new. (mquant : Option ℕ) × (es ≡ mquant_elements mquant) × (quant ≡ unwrap_or mquant last) × (slot (after (Mtype kind ∷ before) es) ≡ vector_slot kind)) (StaysInside (Mtype kind ∷ before)) result old new
 taken format before kind last old new (Ok q) took due = (Mquant q ∷ [], took, (Some q, refl, refl, refl))
 taken format before kind last old new (Err f) took due =
-    fails_here (next format) (Mtype kind ∷ before) (StaysInside (Mtype kind ∷ before)) old old new [] f refl (refl, ap may_end due) took.0 took.1 took.2
+    fails_here (next format) (Mtype kind ∷ before) (StaysInside (Mtype kind ∷ before)) old old new [] f refl (tt, ap may_end due) took.0 took.1 took.2
 
 pub returns-then-has_mquant-clause-walk : goal.returns-then-has_mquant-clause-walk
 returns-then-has_mquant-clause-walk c = λ format before.

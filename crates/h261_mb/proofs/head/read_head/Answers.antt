@@ -15,7 +15,7 @@ returns-in_err-address-clause-walk c =
     let p = err_from_is_err_and c.from_residual.result c.from_residual.ensures.1 in
     rw (p.1, p.2) (λ format before number d n stands is.
     let took = c.in_err-address.ensures.taken format before d n stands.due stands.say.address_is is in
-    fails_here (next format) before (IsMacroblockSoFar before) c.args.r.now c.args.r.now c.take_address.new.r [] _ refl (refl, inl refl) took.0 took.1 took.2)
+    fails_here (next format) before (IsMacroblockSoFar before) c.args.r.now c.args.r.now c.take_address.new.r [] _ refl (tt, inl refl) took.0 took.1 took.2)
 
 pub returns-in_err-kind-clause-walk : goal.returns-in_err-kind-clause-walk
 returns-in_err-kind-clause-walk c =
@@ -24,7 +24,7 @@ returns-in_err-kind-clause-walk c =
     let took = c.in_ok-address.ensures.taken format before d n stands.due stands.say.address_is is in
     let mba = Mba (c.in_ok-address.address - c.args.state.now.address) in
     let bad = c.in_err-kind.ensures.taken format (mba ∷ before) refl in
-    fails_here (next format) before (IsMacroblockSoFar before) c.args.r.now c.take_address.new.r c.take_kind.new.r (mba ∷ []) _ took (refl, inr refl) bad.0 bad.1 bad.2)
+    fails_here (next format) before (IsMacroblockSoFar before) c.args.r.now c.take_address.new.r c.take_kind.new.r (mba ∷ []) _ took (tt, inr refl) bad.0 bad.1 bad.2)
 
 pub returns-in_err-quant-clause-walk : goal.returns-in_err-quant-clause-walk
 returns-in_err-quant-clause-walk c =

@@ -4,7 +4,7 @@ use Rattle.std.proofs.lemmas.Result.{err_from_is_err_and}
 use Rattle.pel_model.specs.Records.{Axis, Across, Down}
 use Rattle.pel_model.specs.Walk.{Goes}
 use Rattle.pel_model.specs.Valid.{corner}
-use Rattle.pel_model.specs.Grammar.{Element, Mvd, group, address, moved, next}
+use Rattle.pel_model.specs.Grammar.{Element, Mvd, group, address, component_from, next}
 use Rattle.h261_mb.proofs.Steps.{goes_first}
 use Rattle.h261_mb.proofs.vector.read_vector.Goals as goal
 
@@ -44,6 +44,6 @@ returns-clause-walk c = λ before due number_is address_is across_is down_is.
     let across = Mvd Across first.2.0 in
     let took = subst (λ (es : List Element). Goes next before c.args.r.now es c.take_component.new.r) first.2.1 first.1 in
     let later = c.in_ok-v.ensures.walk c.args.format (across ∷ before) Down refl (down_is ∙ sym v_is) (sym c.height.ensures) top in
-    let across_told = ap (λ (z : ℤ). moved z first.2.0) (sym h_is) ∙ (first.2.2 ∙ sym (to_z-of_z w8 c.in_ok-h.h (search rules))) in
-    let down_told = ap (λ (z : ℤ). moved z later.2.0) (sym v_is) ∙ (later.2.2 ∙ sym (to_z-of_z w8 c.in_ok-v.v (search rules))) in
+    let across_told = ap (λ (z : ℤ). component_from z first.2.0) (sym h_is) ∙ (first.2.2 ∙ sym (to_z-of_z w8 c.in_ok-h.h (search rules))) in
+    let down_told = ap (λ (z : ℤ). component_from z later.2.0) (sym v_is) ∙ (later.2.2 ∙ sym (to_z-of_z w8 c.in_ok-v.v (search rules))) in
     (across ∷ later.0, goes_first next before c.args.r.now c.take_component.new.r c.take_component-2.new.r across took.0 later.0 took.1 took.2 later.1, (first.2.0, later.2.0, ap (λ (es : List Element). across ∷ es) later.2.1, across_told, down_told))

@@ -14,7 +14,7 @@ returns-then-not-stays_within-clause-walk c = λ format before axis due vector_i
     let told = is_chosen c.args.last _ c.in-Ok.values c.in-Some.component (to_z-of_z w8 c.args.last c.ranges.last) (sym c.in-Some.is ∙ c.component.ensures.value) in
     let component_is = told.1 ∙ sym (to_z-of_z w8 c.in-Some.component (search rules)) in
     let outside = ap (stays_within c.args.side c.args.first) component_is ∙ (sym c.stays_within.ensures ∙ c.if-not-stays_within.true) in
-    ([], refl, (refl, ap may_end due), mvd-outside format before c.args.r.now axis c.args.last c.args.first c.args.side c.in-Ok.values word.0 due vector_is side_is corner_is word.1 told.0 outside, c.place-place.ensures)
+    ([], refl, (tt, ap may_end due), mvd-outside format before c.args.r.now axis c.args.last c.args.first c.args.side c.in-Ok.values word.0 due vector_is side_is corner_is word.1 told.0 outside, c.place-place.ensures)
 
 pub returns-else-not-stays_within-clause-walk : goal.returns-else-not-stays_within-clause-walk
 returns-else-not-stays_within-clause-walk c = λ format before axis due vector_is side_is corner_is.
@@ -34,9 +34,9 @@ pub returns-in-None-clause-walk : goal.returns-in-None-clause-walk
 returns-in-None-clause-walk c = λ format before axis due vector_is side_is corner_is.
     let word = rw c.copy-ahead.ensures at c.in-Ok.ensures.word axis in
     let far = is_none c.args.last _ c.in-Ok.values (to_z-of_z w8 c.args.last c.ranges.last) (sym c.in-None.is ∙ c.component.ensures.value) in
-    ([], refl, (refl, ap may_end due), mvd-bad format before c.args.r.now axis c.args.last c.args.first c.args.side c.in-Ok.values word.0 due vector_is side_is corner_is word.1 far, c.place-place.ensures)
+    ([], refl, (tt, ap may_end due), mvd-bad format before c.args.r.now axis c.args.last c.args.first c.args.side c.in-Ok.values word.0 due vector_is side_is corner_is word.1 far, c.place-place.ensures)
 
 pub returns-in-Err-clause-walk : goal.returns-in-Err-clause-walk
 returns-in-Err-clause-walk c = λ format before axis due vector_is side_is corner_is.
     let word = rw c.copy-ahead.ensures at c.in-Err.ensures.word axis in
-    ([], refl, (refl, ap may_end due), no_word format before c.args.r.now (AtMvd axis) (read (table_rows mvd_table (Mvd axis)) c.args.r.now.0) due (at-mvd axis c.args.r.now.0) c.in-Err.why word.0, c.place-place.ensures)
+    ([], refl, (tt, ap may_end due), no_word format before c.args.r.now (AtMvd axis) (read (table_rows mvd_table (Mvd axis)) c.args.r.now.0) due (at-mvd axis c.args.r.now.0) c.in-Err.why word.0, c.place-place.ensures)

@@ -4,9 +4,9 @@ use Rattle.pel_model.specs.declared.MbKind.{MbKind}
 use Rattle.pel_model.specs.Codes.{has_vector}
 use Rattle.pel_model.specs.Records.{Across, Down}
 use Rattle.pel_model.specs.Walk.{after}
-use Rattle.pel_model.specs.Grammar.{Element, Mvd, AtMvd, cbp_slot, moved, next}
+use Rattle.pel_model.specs.Grammar.{Element, Mvd, AtMvd, cbp_slot, component_from, next}
 use Rattle.h261_mb.specs.Inside.{StaysInside}
-use Rattle.h261_mb.specs.Macroblocks.{vector_elements}
+use Rattle.pel_model.specs.Elements.{vector_elements}
 use Rattle.h261_mb.specs.State.{IsMoved}
 use Rattle.h261_mb.proofs.Steps.{walked_as}
 use Rattle.h261_mb.proofs.vector.vector_after.Goals as goal
@@ -35,8 +35,8 @@ returns-then-has_vector-clause-walk c = λ before begun.
           number_is = begun.say.number_is;
           address_is = begun.say.address_is;
           quant_is = begun.say.quant_is;
-          across_is = ap (λ (z : ℤ). moved z told.0) begun.say.across_is ∙ told.3;
-          down_is = ap (λ (z : ℤ). moved z told.1) begun.say.down_is ∙ told.4;
+          across_is = ap (λ (z : ℤ). component_from z told.0) begun.say.across_is ∙ told.3;
+          down_is = ap (λ (z : ℤ). component_from z told.1) begun.say.down_is ∙ told.4;
         };
       }),
     )) walk

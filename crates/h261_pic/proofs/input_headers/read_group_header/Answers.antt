@@ -2,14 +2,14 @@ use Rattle.std.proofs.Common.{List, [], ◌∷◌, false, refl, ap}
 use Rattle.std.proofs.lemmas.Result.{err_from_is_err_and}
 use Rattle.pel_model.specs.Grammar.{Element, Gn, Gquant, Gei, next}
 use Rattle.h261_pic.specs.HeaderElements.{OfGroup, IsGroupHeaderSoFar}
-use Rattle.h261_pic.proofs.HeaderWalks.{goes_first, stops_behind}
+use Rattle.h261_mb.proofs.Steps.{goes_first, fails_here}
 use Rattle.h261_pic.proofs.input_headers.read_group_header.Goals as goal
 
 pub returns-in_err-number-clause-walk : goal.returns-in_err-number-clause-walk
 returns-in_err-number-clause-walk c = λ before due last.
     let p = err_from_is_err_and c.from_residual.result c.from_residual.ensures.1 in
     let took = c.in_err-number.ensures.taken before due last in
-    rw (p.1, p.2) (stops_behind (next c.args.format) before IsGroupHeaderSoFar c.args.r.now c.args.r.now c.take_number.new.r [] _ refl (0, 0, [], Gn 0, Gquant 0 ∷ Gei false ∷ [], refl) took.0 took.1 took.2)
+    rw (p.1, p.2) (fails_here (next c.args.format) before IsGroupHeaderSoFar c.args.r.now c.args.r.now c.take_number.new.r [] _ refl (0, 0, [], Gn 0, Gquant 0 ∷ Gei false ∷ [], refl) took.0 took.1 took.2)
 
 pub returns-in_err-quant-clause-walk : goal.returns-in_err-quant-clause-walk
 returns-in_err-quant-clause-walk c = λ before due last.
@@ -18,7 +18,7 @@ returns-in_err-quant-clause-walk c = λ before due last.
     let first = c.in_ok-number.ensures.taken before due last in
     let took = c.in_err-quant.ensures.taken c.args.format (Gn number ∷ before) refl in
     let walk = goes_first (next c.args.format) before c.args.r.now c.take_number.new.r c.take_number.new.r (Gn number) first.0 [] first.1 first.2 refl in
-    rw (p.1, p.2) (stops_behind (next c.args.format) before IsGroupHeaderSoFar c.args.r.now c.take_number.new.r c.take_quant.new.r (Gn number ∷ []) _ walk (number, 0, [], Gquant 0, Gei false ∷ [], refl) took.0 took.1 took.2)
+    rw (p.1, p.2) (fails_here (next c.args.format) before IsGroupHeaderSoFar c.args.r.now c.take_number.new.r c.take_quant.new.r (Gn number ∷ []) _ walk (number, 0, [], Gquant 0, Gei false ∷ [], refl) took.0 took.1 took.2)
 
 pub returns-in_err-pass_spares-clause-walk : goal.returns-in_err-pass_spares-clause-walk
 returns-in_err-pass_spares-clause-walk c = λ before due last.

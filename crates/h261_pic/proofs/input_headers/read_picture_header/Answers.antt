@@ -3,14 +3,14 @@ use Rattle.std.proofs.lemmas.Result.{err_from_is_err_and}
 use Rattle.pel_model.specs.Grammar.{Element, Psc, Tr, Ptype, Pei, AtTr, next}
 use Rattle.h261_pic.specs.HeaderElements.{OfPicture, IsPictureHeaderSoFar}
 use Rattle.h261_pic.proofs.HeaderSteps.{at-tr}
-use Rattle.h261_pic.proofs.HeaderWalks.{goes_first, stops_behind}
+use Rattle.h261_mb.proofs.Steps.{goes_first, fails_here}
 use Rattle.h261_pic.proofs.input_headers.read_picture_header.Goals as goal
 
 pub returns-in_err-take_start-clause-walk : goal.returns-in_err-take_start-clause-walk
 returns-in_err-take_start-clause-walk c = λ before due.
     let p = err_from_is_err_and c.from_residual.result c.from_residual.ensures.1 in
     let took = c.in_err-take_start.ensures c.args.format before due in
-    rw (p.1, p.2) (stops_behind (next c.args.format) before IsPictureHeaderSoFar c.args.r.now c.args.r.now c.take_start.new.r [] _ refl (0, 0, [], Psc, Tr 0 ∷ Ptype 0 ∷ Pei false ∷ [], refl) took.0 took.1 took.2)
+    rw (p.1, p.2) (fails_here (next c.args.format) before IsPictureHeaderSoFar c.args.r.now c.args.r.now c.take_start.new.r [] _ refl (0, 0, [], Psc, Tr 0 ∷ Ptype 0 ∷ Pei false ∷ [], refl) took.0 took.1 took.2)
 
 pub returns-in_err-tr-clause-walk : goal.returns-in_err-tr-clause-walk
 returns-in_err-tr-clause-walk c = λ before due.
@@ -18,7 +18,7 @@ returns-in_err-tr-clause-walk c = λ before due.
     let first = c.in_ok-take_start.ensures c.args.format before due in
     let took = c.in_err-tr.ensures.taken c.args.format (Psc ∷ before) AtTr Tr refl at-tr in
     let walk = goes_first (next c.args.format) before c.args.r.now c.take_start.new.r c.take_start.new.r Psc first.0 [] first.1 first.2 refl in
-    rw (p.1, p.2) (stops_behind (next c.args.format) before IsPictureHeaderSoFar c.args.r.now c.take_start.new.r c.take_field.new.r (Psc ∷ []) _ walk (0, 0, [], Tr 0, Ptype 0 ∷ Pei false ∷ [], refl) took.0 took.1 took.2)
+    rw (p.1, p.2) (fails_here (next c.args.format) before IsPictureHeaderSoFar c.args.r.now c.take_start.new.r c.take_field.new.r (Psc ∷ []) _ walk (0, 0, [], Tr 0, Ptype 0 ∷ Pei false ∷ [], refl) took.0 took.1 took.2)
 
 pub returns-in_err-take_type-clause-walk : goal.returns-in_err-take_type-clause-walk
 returns-in_err-take_type-clause-walk c = λ before due.
@@ -29,7 +29,7 @@ returns-in_err-take_type-clause-walk c = λ before due.
     let took = c.in_err-take_type.ensures.taken (Tr tr ∷ Psc ∷ before) refl in
     let more = goes_first (next c.args.format) (Psc ∷ before) c.take_start.new.r c.take_field.new.r c.take_field.new.r (Tr tr) second.0 [] second.1 second.2 refl in
     let walk = goes_first (next c.args.format) before c.args.r.now c.take_start.new.r c.take_field.new.r Psc first.0 (Tr tr ∷ []) first.1 first.2 more in
-    rw (p.1, p.2) (stops_behind (next c.args.format) before IsPictureHeaderSoFar c.args.r.now c.take_field.new.r c.take_type.new.r (Psc ∷ Tr tr ∷ []) _ walk (tr, 0, [], Ptype 0, Pei false ∷ [], refl) took.0 took.1 took.2)
+    rw (p.1, p.2) (fails_here (next c.args.format) before IsPictureHeaderSoFar c.args.r.now c.take_field.new.r c.take_type.new.r (Psc ∷ Tr tr ∷ []) _ walk (tr, 0, [], Ptype 0, Pei false ∷ [], refl) took.0 took.1 took.2)
 
 pub returns-in_err-pass_spares-clause-walk : goal.returns-in_err-pass_spares-clause-walk
 returns-in_err-pass_spares-clause-walk c = λ before due.

@@ -5,7 +5,8 @@ use Rattle.pel_model.specs.declared.Fault.{Fault}
 use Rattle.pel_model.specs.declared.Why.TheVariants.{BadQuant}
 use Rattle.pel_model.specs.Walk.{Bad}
 use Rattle.pel_model.specs.Grammar.{Gquant, AtGquant}
-use Rattle.h261_pic.proofs.HeaderSteps.{field-is-cut, field-is-good, field-is-bad, at-gquant, is_other}
+use Rattle.picture_laws.proofs.Basics.{not_same}
+use Rattle.h261_pic.proofs.HeaderSteps.{field-is-cut, field-is-good, field-is-bad, at-gquant}
 use Rattle.h261_pic.proofs.input_headers.take_quant.Goals as goal
 
 pub returns-in_err-quant-clause-taken : goal.returns-in_err-quant-clause-taken
@@ -24,4 +25,4 @@ pub returns-clause-taken : goal.returns-clause-taken
 returns-clause-taken c = λ format before due.
     let seen = c.in_ok-quant.ensures.value in
     let quant = c.in_ok-quant.field-0 in
-    (5, field-is-good format before c.args.r.now AtGquant 5 Gquant due at-gquant quant seen.0 seen.1 (ap (λ (b : Bool). cond b (Some BadQuant) None) (is_other quant 0 c.if-quant-eq0.false)), c.skip.ensures)
+    (5, field-is-good format before c.args.r.now AtGquant 5 Gquant due at-gquant quant seen.0 seen.1 (ap (λ (b : Bool). cond b (Some BadQuant) None) (not_same quant 0 c.if-quant-eq0.false)), c.skip.ensures)

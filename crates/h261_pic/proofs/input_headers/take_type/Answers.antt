@@ -5,7 +5,8 @@ use Rattle.pel_model.specs.declared.Fault.{Fault}
 use Rattle.pel_model.specs.declared.Why.TheVariants.{WrongFormat, StillImage}
 use Rattle.pel_model.specs.Walk.{Bad}
 use Rattle.pel_model.specs.Grammar.{Ptype, AtPtype, first_why}
-use Rattle.h261_pic.proofs.HeaderSteps.{field-is-cut, field-is-good, field-is-bad, at-ptype, is_other}
+use Rattle.picture_laws.proofs.Basics.{not_same}
+use Rattle.h261_pic.proofs.HeaderSteps.{field-is-cut, field-is-good, field-is-bad, at-ptype}
 use Rattle.h261_pic.proofs.input_headers.take_type.Goals as goal
 
 pub returns-in_err-ptype : goal.returns-in_err-ptype
@@ -41,5 +42,5 @@ returns c =
       taken = λ before due.
           let seen = c.in_ok-ptype.ensures.value in
           let ptype = c.in_ok-ptype.ptype in
-          (6, field-is-good c.args.format before c.args.r.now AtPtype 6 Ptype due at-ptype ptype seen.0 seen.1 (ap (λ (b : Bool). first_why ((not b, WrongFormat) ∷ (ptype / 2 % 2 == 0, StillImage) ∷ [])) (sym c.names.ensures ∙ c.if-not-names.false) ∙ ap (λ (b : Bool). cond b (Some StillImage) None) (is_other (ptype / 2 % 2) 0 c.if-ptype-eq0.false)), c.skip.ensures);
+          (6, field-is-good c.args.format before c.args.r.now AtPtype 6 Ptype due at-ptype ptype seen.0 seen.1 (ap (λ (b : Bool). first_why ((not b, WrongFormat) ∷ (ptype / 2 % 2 == 0, StillImage) ∷ [])) (sym c.names.ensures ∙ c.if-not-names.false) ∙ ap (λ (b : Bool). cond b (Some StillImage) None) (not_same (ptype / 2 % 2) 0 c.if-ptype-eq0.false)), c.skip.ensures);
     }

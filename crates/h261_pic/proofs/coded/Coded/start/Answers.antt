@@ -1,8 +1,7 @@
-use Rattle.std.proofs.Common.{◌≡◌, ◌≤◌, ◌+◌, ◌-◌, ◌*◌, ◌++◌, Bool, List, length, ap, ap₂, sym, subst, ◌∙◌, append-nil, arith}
-use Rattle.h261_pic.specs.declared.coded.GroupView.{GroupView}
+use Rattle.std.proofs.Common.{◌≡◌, ◌≤◌, ◌+◌, ◌-◌, ◌*◌, ◌++◌, [], length, ap, sym, subst, ◌∙◌, append-nil, arith}
 use Rattle.h261_pic.specs.Coded.{HasPicture}
 use Rattle.h261_pic.proofs.Grows.{started-picture, started-room}
-use Rattle.h261_pic.proofs.Texts.{length-picture_header}
+use Rattle.h261_pic.proofs.Texts.{same_coding, length-picture_header}
 use Rattle.pel_bits.specs.Buffer.{Buffer}
 use Rattle.pel_model.specs.Text.{picture_header}
 use Rattle.pel_model.specs.Valid.{group_count, limit}
@@ -25,9 +24,11 @@ invariant_of-self c =
       within = omega arith;
       groups = omega arith;
       room = λ _. fits;
+      marks = omega (arith, ap length c.clear-3.ensures);
       picture = λ _. subst HasPicture
-          (sym (ap₂ (λ (bs : List Bool) (vs : List GroupView). record { format = c.self.inside.format; tr = c.args.tr; bits = bs; groups = vs })
-          (list-is c ∙ sym (append-nil (picture_header c.self.inside.format c.args.tr))) c.clear-2.ensures))
+          (sym (same_coding c.self.inside.format c.args.tr c.push_picture_header.new.text.list (picture_header c.self.inside.format c.args.tr ++ [])
+          c.clear-2.new.self.items [] c.clear-3.new.self.items []
+          (list-is c ∙ sym (append-nil (picture_header c.self.inside.format c.args.tr))) c.clear-2.ensures c.clear-3.ensures))
           (started-picture c.self.inside.format c.args.tr c.requires);
       empty = λ none. absurd (omega (arith, is, ap length none, length-picture_header c.self.inside.format c.args.tr));
     }

@@ -1,0 +1,82 @@
+//! A picture in any input form, or its first fault.
+#![tactic(auto)]
+
+ghost use Rattle.std.specs.Prelude.{◌≡◌, ℕ, ◌<◌, true, slice_index, IfOk, IfErr, IsOk};
+ghost use Rattle.pel_model.specs.declared.Why.{Why as Reason};
+ghost use Rattle.pel_model.specs.Records.{Picture};
+ghost use Rattle.pel_model.specs.Accepts.{Accepts};
+ghost use Rattle.pel_model.specs.Grammar.{picture as picture_grammar, is_group as is_group_of};
+ghost use Rattle.pel_model.specs.Valid.{group_numbers, group_count};
+ghost use Rattle.pel_model.specs.Walk.{FirstFault};
+ghost use Rattle.h261_pic.specs.Coded.{nothing, coding};
+
+use crate::coded::Coded;
+use crate::group::read_group;
+use crate::limited::{group_follows, picture_header_within};
+use pel_bits::{Bits, Reader};
+use pel_model::{Fault, Format};
+
+/// Reads a picture of the format `want`. At Ok `into` has its strict text and the marks of that text. Else the first fault
+/// is told, of any of the reasons, and `into` is empty.
+///
+/// A sender may set the bits of the picture type that do not decide, send spare bytes and stuffing, leave out groups that
+/// have no macroblocks, and have up to seven zero bits behind the last element (H.261, 4.2).
+pub fn parse(bits: Bits<'_>, want: Format, into: &mut Coded) -> Result<(), Fault>
+    requires { into.old.format ≡ want }
+    ensures accepted { IfOk result (λ _. (picture : Picture) × Accepts want bits.entry picture × (into.new ≡ coding want picture)) }
+    ensures only { (picture : Picture) → Accepts want bits.entry picture → IsOk result × (into.new ≡ coding want picture) }
+    ensures refused { IfErr result (λ fault. FirstFault (picture_grammar want) bits.entry fault.place fault.why × (into.new ≡ nothing want)) }
+    ensures faults { (place : ℕ) (why : Reason) → FirstFault (picture_grammar want) bits.entry place why → result ≡ Err (record { place = place; why = why }) }
+{
+    let result = read_picture(&bits, want, into);
+    if result.is_err() {
+        into.clear();
+    }
+    result
+}
+
+// Reads the picture's header and its groups, and puts the strict text together.
+fn read_picture(bits: &Bits<'_>, format: Format, into: &mut Coded) -> Result<(), Fault>
+    requires { into.old.format ≡ format }
+    ensures format { into.new.format ≡ format }
+    ensures accepted { IfOk result (λ _. (picture : Picture) × Accepts format bits.now picture × (into.new ≡ coding format picture)) }
+    ensures refused { IfErr result (λ fault. FirstFault (picture_grammar format) bits.now fault.place fault.why) }
+{
+    let mut r = Reader::new(bits.slice(0, bits.len()));
+    into.start(picture_header_within(&mut r, format)?);
+    let mut another = group_follows(&mut r, format)?;
+    let mut last = 0;
+    let mut begun = 0;
+    while another {
+        begun += 1;
+        let group = read_group(&mut r, format, last, begun)?;
+        last = group.header.number;
+        into.leave_out(place_of(format, last));
+        into.add_group(group.header.quant, bits, &group.marks);
+        another = group.another;
+    }
+    into.leave_out(groups_of(format));
+    Ok(())
+}
+
+// The place of a group in the picture, from 0 on.
+fn place_of(format: Format, number: u8) -> usize
+    requires { is_group_of format number ≡ true }
+    ensures there { result < group_count format }
+    ensures number { slice_index (group_numbers format) result ≡ number }
+{
+    match format {
+        Format::Qcif => usize::from(number) / 2,
+        Format::Cif => usize::from(number) - 1,
+    }
+}
+
+// How many groups a picture has (H.261, 4.2.1).
+fn groups_of(format: Format) -> usize
+    ensures { result ≡ group_count format }
+{
+    match format {
+        Format::Qcif => 3,
+        Format::Cif => 12,
+    }
+}

@@ -1,0 +1,478 @@
+//! Pictures as senders may send them, and the first fault of others, with answers counted by hand from the code tables.
+
+ghost use Rattle.std.specs.Prelude.{◌≡◌, length, IfOk};
+ghost use Rattle.pel_model.specs.Valid.{group_count};
+
+use crate::{Coded, GroupView, parse};
+use pel_bits::{Bits, NoMemory};
+use pel_model::Format::{Cif, Qcif};
+use pel_model::Why::{
+    BadAddress, BadDc, BadGroup, BadLevel, BadQuant, BadVector, Cut, NoCode, NoStart, StillImage,
+    TooLong, TooMany, VectorOutside, WrongFormat,
+};
+use pel_model::{Fault, Format, Mark, Why};
+use std::alloc::{AllocError, Global};
+use std::test::Fail;
+
+/// The start code of a picture, TR 1, the picture type and a PEI of 0.
+const QCIF_HEADER: &str = "00000000000000010000 00001 000011 0";
+
+const CIF_HEADER: &str = "00000000000000010000 00001 000111 0";
+
+/// Headers of groups with GQUANT 8.
+const GROUP_1: &str = "0000000000000001 0001 01000 0";
+
+const GROUP_3: &str = "0000000000000001 0011 01000 0";
+
+const GROUP_5: &str = "0000000000000001 0101 01000 0";
+
+const STUFFING: &str = "00000001111";
+
+/// An escape of run 0 and level 16.
+const ESCAPE: &str = "000001 000000 00010000";
+
+/// Three macroblocks of group 1 with vectors: at address 11, and at 12, where a row begins, and 13.
+const TURN: [&str; 7] = [
+    QCIF_HEADER,
+    GROUP_1,
+    "00001010 000000001 0011 1",
+    "1 000000001 010 1",
+    "1 000000001 1 1",
+    GROUP_3,
+    GROUP_5,
+];
+
+// Digits put together as bits. What is no digit is passed over.
+#[derive(Drop)]
+struct Sent {
+    octets: Vec<u8>,
+    len: u32,
+}
+
+impl Sent {
+    fn of(alloc: Global, pieces: &[&str]) -> Result<Sent, AllocError> {
+        let mut sent = Sent {
+            octets: Vec::new(alloc),
+            len: 0,
+        };
+        for piece in pieces {
+            sent.put(piece)?;
+        }
+        Ok(sent)
+    }
+
+    fn put(&mut self, digits: &str) -> Result<(), AllocError> {
+        for digit in digits.bytes().filter(|digit| matches!(digit, b'0' | b'1')) {
+            if self.len % 8 == 0 {
+                self.octets.push(0)?;
+            }
+            if let Some(last) = self.octets.last_mut() {
+                *last |= (digit - b'0') << (7 - self.len % 8);
+            }
+            self.len = self.len.wrapping_add(1);
+        }
+        Ok(())
+    }
+
+    fn put_times(&mut self, digits: &str, times: u32) -> Result<(), AllocError> {
+        for _ in 0..times {
+            self.put(digits)?;
+        }
+        Ok(())
+    }
+
+    // The first bits, or all where there are not so many.
+    fn front(&self, len: u32) -> Bits<'_> {
+        let most = 8 * self.octets.len().min(100_000) as u32;
+        Bits::new(&self.octets, 0, len.min(self.len).min(most))
+    }
+
+    fn bits(&self) -> Bits<'_> {
+        self.front(self.len)
+    }
+}
+
+// The answer over a picture of its own.
+fn answer(alloc: Global, format: Format, bits: Bits<'_>) -> Result<Result<(), Fault>, NoMemory> {
+    let mut coded = Coded::reserve(alloc, format)?;
+    Ok(parse(bits, format, &mut coded))
+}
+
+// A picture that has to be good.
+fn parsed(alloc: Global, format: Format, bits: Bits<'_>) -> Result<Coded, Fail>
+    ensures format { IfOk result (λ coded. coded.format ≡ format) }
+    ensures groups { IfOk result (λ coded. length coded.groups ≡ group_count format) }
+{
+    let mut coded = Coded::reserve(alloc, format)?;
+    parse(bits, format, &mut coded)?;
+    Ok(coded)
+}
+
+// The mark of a macroblock of the picture `TURN`.
+fn turn_mark(group: u8, at: u32, len: u32, address: u8, h: i8) -> Mark {
+    Mark {
+        at,
+        len,
+        group,
+        address,
+        quant_after: 8,
+        h_after: h,
+        v_after: 0,
+        intra: false,
+    }
+}
+
+#[test]
+fn predictor_starts_anew(rt: HostRuntime) -> Result<(), Fail> {
+    let sent = Sent::of(rt.alloc(), &TURN)?;
+    let coded = parsed(rt.alloc(), Qcif, sent.bits())?;
+    let marks = [
+        turn_mark(1, 58, 22, 11, -2),
+        turn_mark(1, 80, 14, 12, 1),
+        turn_mark(1, 94, 12, 13, 1),
+    ];
+    assert_eq!(rt; coded.marks(), marks.as_slice());
+    assert_eq!(rt; coded.octets(), sent.octets.as_slice());
+    assert_eq!(rt;
+        (coded.tr(), coded.bits().len(), coded.is_refresh()),
+        (1, 158, false)
+    );
+    Ok(())
+}
+
+#[test]
+fn fronts_of_turn(rt: HostRuntime) -> Result<(), Fail> {
+    let sent = Sent::of(rt.alloc(), &TURN)?;
+    for len in 0..159_u32 {
+        let good = matches!(len, 32..=39 | 58..=62 | 80 | 94 | 106..=113 | 132..=139 | 158);
+        let want = if good { Ok(()) } else { Err(Cut) };
+        let got = answer(rt.alloc(), Qcif, sent.front(len))?;
+        assert_eq!(rt;
+            got.map_err(|fault| fault.why),
+            want,
+            "the first {len} bits"
+        );
+    }
+    Ok(())
+}
+
+#[test]
+fn vector_outside(rt: HostRuntime) -> Result<(), Fail> {
+    let outside = Fault {
+        place: 68,
+        why: VectorOutside,
+    };
+    for (across, want) in [("011", Err(outside)), ("010", Ok(()))] {
+        let pieces = [QCIF_HEADER, GROUP_1, "1", "000000001", across, "1"];
+        let sent = Sent::of(rt.alloc(), &pieces)?;
+        assert_eq!(rt; answer(rt.alloc(), Qcif, sent.bits())?, want);
+    }
+    Ok(())
+}
+
+// All but the last of 99 Intra macroblocks in groups 1, 3 and 5. Each block has INTRADC 11111111 and so many escapes.
+fn grey_but_one(alloc: Global, header: &str, escapes: u32) -> Result<Sent, AllocError> {
+    let mut sent = Sent::of(alloc, &[header])?;
+    for (group, macroblocks) in [(GROUP_1, 33), (GROUP_3, 33), (GROUP_5, 32)] {
+        sent.put(group)?;
+        for _ in 0..macroblocks {
+            sent.put("1 0001")?;
+            for _ in 0..6 {
+                sent.put("11111111")?;
+                sent.put_times(ESCAPE, escapes)?;
+                sent.put("10")?;
+            }
+        }
+    }
+    Ok(sent)
+}
+
+#[test]
+fn one_bit_over_the_limit(rt: HostRuntime) -> Result<(), Fail> {
+    let over = Fault {
+        place: 65_535,
+        why: TooLong,
+    };
+    for (last, len, want) in [
+        ("110 0110 0110 10", 65_536, Ok(())),
+        ("0110 0110 0110 10", 65_537, Err(over)),
+    ] {
+        let mut sent = grey_but_one(rt.alloc(), QCIF_HEADER, 5)?;
+        sent.put("1 0001 11111111")?;
+        sent.put_times(ESCAPE, 5)?;
+        sent.put("10 11111111")?;
+        sent.put_times(ESCAPE, 4)?;
+        sent.put("10 11111111 10 11111111 10 11111111 10 11111111")?;
+        sent.put(last)?;
+        assert_eq!(rt; sent.len, len);
+        assert_eq!(rt; answer(rt.alloc(), Qcif, sent.bits())?, want);
+    }
+    Ok(())
+}
+
+#[test]
+fn ninety_eight_intra(rt: HostRuntime) -> Result<(), Fail> {
+    assert!(rt; !Coded::reserve(rt.alloc(), Qcif)?.is_refresh());
+    let intra = "1 0001 1111111110 1111111110 1111111110 1111111110 1111111110 1111111110";
+    let inter = "1 1 1010 10 10";
+    for (format, header, last, want) in [
+        (Qcif, QCIF_HEADER, intra, true),
+        (Qcif, QCIF_HEADER, inter, false),
+        (Qcif, QCIF_HEADER, "", false),
+        (Cif, CIF_HEADER, intra, false),
+    ] {
+        let mut sent = grey_but_one(rt.alloc(), header, 0)?;
+        sent.put(last)?;
+        let coded = parsed(rt.alloc(), format, sent.bits())?;
+        assert_eq!(rt; coded.is_refresh(), want);
+    }
+    Ok(())
+}
+
+#[test]
+fn each_reason_once(rt: HostRuntime) -> Result<(), Fail> {
+    for (format, [header, group, rest], times, place, why) in [
+        (Qcif, ["", "", "00000000000000010001"], 1, 0, NoStart),
+        (Qcif, [CIF_HEADER, "", ""], 1, 25, WrongFormat),
+        (Cif, [QCIF_HEADER, "", ""], 1, 25, WrongFormat),
+        (
+            Qcif,
+            ["", "", "00000000000000010000 00001 000001 0"],
+            1,
+            25,
+            StillImage,
+        ),
+        (
+            Qcif,
+            [QCIF_HEADER, "", "0000000000000001 0010 01000 0"],
+            1,
+            48,
+            BadGroup,
+        ),
+        (Qcif, [QCIF_HEADER, GROUP_3, GROUP_1], 1, 74, BadGroup),
+        (
+            Cif,
+            [CIF_HEADER, "", "0000000000000001 1101 01000 0"],
+            1,
+            48,
+            BadGroup,
+        ),
+        (
+            Qcif,
+            [QCIF_HEADER, "", "0000000000000001 0001 00000 0"],
+            1,
+            52,
+            BadQuant,
+        ),
+        (Cif, [CIF_HEADER, GROUP_3, "1 00001 00000"], 1, 64, BadQuant),
+        // two groups are missing in QCIF, eleven in CIF, and a header has 26 bits
+        (
+            Qcif,
+            [QCIF_HEADER, GROUP_1, STUFFING],
+            5_948,
+            65_475,
+            TooLong,
+        ),
+        (
+            Cif,
+            [CIF_HEADER, GROUP_1, STUFFING],
+            23_801,
+            261_858,
+            TooLong,
+        ),
+        (Qcif, [QCIF_HEADER, "", "1"], 1, 32, NoCode),
+        (Cif, [CIF_HEADER, GROUP_1, "1 0000000000"], 1, 59, NoCode),
+        (Qcif, [QCIF_HEADER, "", "0000000000000001 00"], 1, 48, Cut),
+        (
+            Qcif,
+            [QCIF_HEADER, GROUP_1, "00000011000 000000001 1 1 1"],
+            1,
+            80,
+            BadAddress,
+        ),
+        (
+            Cif,
+            [CIF_HEADER, GROUP_5, "1 000000001 00000011001"],
+            1,
+            68,
+            BadVector,
+        ),
+        (
+            Qcif,
+            [QCIF_HEADER, GROUP_1, "00001010 000000001 010"],
+            1,
+            75,
+            VectorOutside,
+        ),
+        (
+            Qcif,
+            [QCIF_HEADER, GROUP_1, "1 0001 10000000"],
+            1,
+            63,
+            BadDc,
+        ),
+        (
+            Cif,
+            [
+                CIF_HEADER,
+                GROUP_5,
+                "1 0001 11111111 000001 000000 10000000",
+            ],
+            1,
+            71,
+            BadLevel,
+        ),
+        (
+            Qcif,
+            [
+                QCIF_HEADER,
+                GROUP_1,
+                "1 0001 11111111 000001 111111 00000001",
+            ],
+            1,
+            71,
+            TooMany,
+        ),
+    ] {
+        let mut sent = Sent::of(rt.alloc(), &[header, group])?;
+        sent.put_times(rest, times)?;
+        let fault = Fault { place, why };
+        assert_eq!(rt;
+            answer(rt.alloc(), format, sent.bits())?,
+            Err(fault),
+            "{why:?}"
+        );
+    }
+    Ok(())
+}
+
+#[test]
+fn one_stuffing_less_is_within_the_limit(rt: HostRuntime) -> Result<(), Fail> {
+    for (format, header, times) in [(Qcif, QCIF_HEADER, 5_947), (Cif, CIF_HEADER, 23_800)] {
+        let mut sent = Sent::of(rt.alloc(), &[header, GROUP_1])?;
+        sent.put_times(STUFFING, times)?;
+        assert_eq!(rt; answer(rt.alloc(), format, sent.bits())?, Ok(()));
+    }
+    Ok(())
+}
+
+#[test]
+fn what_a_sender_may_add(rt: HostRuntime) -> Result<(), Fail> {
+    // spare bytes, stuffing behind a header, a macroblock and a stuffing, no group 3, and zeros at the end
+    let sent = Sent::of(
+        rt.alloc(),
+        &[
+            "00000000000000010000 00001 110010 1 10101010 1 00000000 0",
+            "0000000000000001 0001 01000 1 00000001 0",
+            STUFFING,
+            "00001010 000000001 0011 1",
+            STUFFING,
+            STUFFING,
+            "1 000000001 010 1",
+            STUFFING,
+            "1 000000001 1 1",
+            STUFFING,
+            GROUP_5,
+            STUFFING,
+            "0000000",
+        ],
+    )?;
+    let strict = Sent::of(
+        rt.alloc(),
+        &[
+            QCIF_HEADER,
+            GROUP_1,
+            "00001010 000000001 0011 1",
+            "1 000000001 010 1",
+            "1 000000001 1 1",
+            "0000000000000001 0011 00001 0",
+            GROUP_5,
+        ],
+    )?;
+    let coded = parsed(rt.alloc(), Qcif, sent.bits())?;
+    assert_eq!(rt; coded.octets(), strict.octets.as_slice());
+    assert_eq!(rt; (coded.tr(), coded.bits().len()), (1, 158));
+    let marks = [
+        turn_mark(1, 58, 22, 11, -2),
+        turn_mark(1, 80, 14, 12, 1),
+        turn_mark(1, 94, 12, 13, 1),
+    ];
+    assert_eq!(rt; coded.marks(), marks.as_slice());
+    let views = [
+        view(1, 8, 58, 48, 0, 3),
+        view(3, 1, 132, 0, 3, 0),
+        view(5, 8, 158, 0, 3, 0),
+    ];
+    assert_eq!(rt; [coded.group(0), coded.group(1), coded.group(2)], views);
+    Ok(())
+}
+
+// The view of a group: its number and quantiser, and where its macroblocks and their marks stand.
+fn view(number: u8, quant: u8, from: u32, len: u32, first_mark: u16, marks: u16) -> GroupView {
+    GroupView {
+        number,
+        quant,
+        from,
+        len,
+        first_mark,
+        marks,
+    }
+}
+
+#[test]
+fn groups_copied_into_a_place(rt: HostRuntime) -> Result<(), Fail> {
+    let first = "00001010 000000001 0011 1";
+    let second = "1 000000001 1 1";
+    let sent = Sent::of(rt.alloc(), &[QCIF_HEADER, GROUP_1, first, GROUP_3, second])?;
+    let coded = parsed(rt.alloc(), Qcif, sent.bits())?;
+    let mut whole = Coded::reserve(rt.alloc(), Cif)?;
+    whole.start(1);
+    assert_eq!(rt; whole.bits().len(), 32);
+    whole.empty_group();
+    assert_eq!(rt; whole.bits().len(), 58);
+    let group = coded.group(0);
+    assert_eq!(rt; group.number, 1);
+    assert_eq!(rt; group.len, 22);
+    whole.copy_group(&coded, 0);
+    assert_eq!(rt; whole.bits().len(), 106);
+    whole.empty_group();
+    assert_eq!(rt; whole.bits().len(), 132);
+    let group = coded.group(1);
+    assert_eq!(rt; group.number, 3);
+    assert_eq!(rt; group.len, 12);
+    whole.copy_group(&coded, 1);
+    let text = Sent::of(
+        rt.alloc(),
+        &[
+            CIF_HEADER,
+            "0000000000000001 0001 00001 0",
+            "0000000000000001 0010 01000 0",
+            first,
+            "0000000000000001 0011 00001 0",
+            "0000000000000001 0100 01000 0",
+            second,
+        ],
+    )?;
+    assert_eq!(rt; whole.octets(), text.octets.as_slice());
+    let marks = [turn_mark(2, 84, 22, 11, -2), turn_mark(4, 158, 12, 1, 0)];
+    assert_eq!(rt; whole.marks(), marks.as_slice());
+    assert_eq!(rt; whole.group(3), view(4, 8, 158, 12, 1, 1));
+    Ok(())
+}
+
+#[test]
+fn a_fault_leaves_nothing(rt: HostRuntime) -> Result<(), Fail> {
+    let sent = Sent::of(rt.alloc(), &TURN)?;
+    let mut coded = parsed(rt.alloc(), Qcif, sent.bits())?;
+    let fault = Fault {
+        place: 132,
+        why: Cut,
+    };
+    assert_eq!(rt; parse(sent.front(140), Qcif, &mut coded), Err(fault));
+    assert!(rt; coded.is_empty());
+    assert_eq!(rt;
+        (coded.tr(), coded.octets().len(), coded.marks().len()),
+        (0, 0, 0)
+    );
+    Ok(())
+}

@@ -1,0 +1,16 @@
+-- Refreshes: pictures that a decoder shows alike whatever it showed before.
+use Rattle.std.specs.Prelude.{◌≡◌, ℕ, true, length, sum_by, All}
+use Rattle.pel_model.specs.declared.Format.{Format}
+use Rattle.pel_model.specs.declared.Format.TheVariants.{Qcif}
+use Rattle.pel_model.specs.Codes.{is_intra}
+use Rattle.pel_model.specs.Records.{Macroblock, Group, Picture}
+
+-- how many macroblocks are sent
+abbrev pub sent_macroblocks : Picture → ℕ
+sent_macroblocks picture = sum_by (λ (g : Group). length g.macroblocks) picture.groups
+
+-- a QCIF picture that sends all its 99 macroblocks, each of them Intra (H.261, 3.2.1)
+pub record IsRefresh (format : Format) (picture : Picture) : Type 0 where
+  pub qcif : format ≡ Qcif
+  pub all_sent : sent_macroblocks picture ≡ 99
+  pub all_intra : All (λ (g : Group). All (λ (m : Macroblock). is_intra m.kind ≡ true) g.macroblocks) picture.groups
