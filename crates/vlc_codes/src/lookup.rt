@@ -87,9 +87,8 @@ pub fn word_at(table: Table, r: &Reader<'_>, top: u32) -> Result<Cell, Why>
     Ok(cell)
 }
 
-// Why no word of the list stands at the reader's place.
-#[cold]
-#[inline(never)]
+// Why no word of the list stands at the reader's place. It is inlined so that no reader has to stand in memory for it.
+#[inline(always)]
 fn why_none(table: Table, r: &Reader<'_>) -> Why
     ensures { result ≡ cause (words table) r.now.0 }
 {
@@ -102,6 +101,8 @@ fn why_none(table: Table, r: &Reader<'_>) -> Why
 }
 
 // Whether the last `len` bits of `front` are the front of a word of the list.
+#[cold]
+#[inline(never)]
 fn begins_a_word(table: Table, front: u32, len: u32) -> bool
     requires short { len ≤ 16 }
     requires fits { front < 2 ^ len }

@@ -49,7 +49,7 @@ pub enum CoefRow {
 }
 
 // Takes a word of a list, and gives its place in it.
-#[inline]
+#[inline(always)]
 fn take_word(table: Table, r: &mut Reader<'_>) -> Result<u16, Why>
     ensures place { TakesPlace (words table) result r.old r.new }
     ensures inside { IfOk result (λ place. place < length (words table)) }
@@ -60,7 +60,7 @@ fn take_word(table: Table, r: &mut Reader<'_>) -> Result<u16, Why>
 }
 
 /// Takes a word of MBA (H.261, 4.2.3.1). Cut where what is left is the front of one, else NoCode.
-#[inline]
+#[inline(always)]
 pub fn mba(r: &mut Reader<'_>) -> Result<MbaRow, Why>
     ensures { TakesWord mba_element (read mba_rows r.old.0) result r.old r.new }
 {
@@ -73,7 +73,7 @@ pub fn mba(r: &mut Reader<'_>) -> Result<MbaRow, Why>
 }
 
 /// Takes a word of MTYPE (H.261, 4.2.3.2). Cut where what is left is the front of one, else NoCode.
-#[inline]
+#[inline(always)]
 pub fn mtype(r: &mut Reader<'_>) -> Result<MbKind, Why>
     ensures { TakesWord Mtype (read (table_rows mtype_table Mtype) r.old.0) result r.old r.new }
 {
@@ -83,7 +83,7 @@ pub fn mtype(r: &mut Reader<'_>) -> Result<MbKind, Why>
 
 /// Takes a word of MVD (H.261, 4.2.3.4) and gives the two differences that it stands for, which are equal where it
 /// stands for one. Cut where what is left is the front of a word, else NoCode.
-#[inline]
+#[inline(always)]
 pub fn mvd(r: &mut Reader<'_>) -> Result<(i8, i8), Why>
     ensures word { (axis : Axis) → TakesWord (Mvd axis) (read (table_rows mvd_table (Mvd axis)) r.old.0) result r.old r.new }
     ensures range { IfOk result (λ v. (negsuc 29 ≤ℤ v.0) × (v.0 ≤ℤ pos 30) × (negsuc 29 ≤ℤ v.1) × (v.1 ≤ℤ pos 30)) }
@@ -93,7 +93,7 @@ pub fn mvd(r: &mut Reader<'_>) -> Result<(i8, i8), Why>
 }
 
 /// Takes a word of CBP (H.261, 4.2.3.5). Cut where what is left is the front of one, else NoCode.
-#[inline]
+#[inline(always)]
 pub fn cbp(r: &mut Reader<'_>) -> Result<u8, Why>
     ensures { TakesWord Cbp (read (table_rows cbp_table Cbp) r.old.0) result r.old r.new }
 {
