@@ -8,7 +8,7 @@ def field(number, width):
     return format(number, f"0{width}b")
 
 
-def plain_picture(tr, quantiser, level):
+def grey_picture(tr, quantiser, level):
     """A QCIF picture of 99 Intra macroblocks whose blocks send nothing but this INTRADC, as digits 0 and 1."""
     block = field(level, 8) + "10"
     macroblock = "1" + "0001" + 6 * block
@@ -16,6 +16,23 @@ def plain_picture(tr, quantiser, level):
     for group in (1, 3, 5):
         bits += field(1, 16) + field(group, 4) + field(quantiser, 5) + "0" + 33 * macroblock
     return bits
+
+
+def striped_picture(tr, quantiser):
+    """A QCIF refresh with all that a sender may add: it is brighter to the right, and its blocks have one coefficient of
+    level 1. The freeze picture release is on, a spare byte stands behind each header, stuffing before each row of
+    macroblocks, and three zero bits at the end."""
+    stuffing = "00000001111"
+    spare = "1" + field(0xA5, 8) + "0"
+    bits = field(1 << 4, 20) + field(tr, 5) + "001011" + spare
+    for group in (1, 3, 5):
+        bits += field(1, 16) + field(group, 4) + field(quantiser, 5) + spare
+        for address in range(1, 34):
+            column = (address - 1) % 11
+            luminance = field(20 + 20 * column, 8) + "110" + "10"
+            colour = field(255, 8) + "10"
+            bits += (stuffing if column == 0 else "") + "1" + "0001" + 4 * luminance + 2 * colour
+    return bits + "000"
 
 
 def packet(bits):
@@ -40,6 +57,7 @@ def conference(place, rtp, step):
 
 if __name__ == "__main__":
     here = pathlib.Path(__file__).parent
-    grey = packet(plain_picture(tr=1, quantiser=8, level=255))
+    grey = packet(grey_picture(tr=1, quantiser=8, level=255))
     (here / "grey_top_left.conf").write_bytes(conference(1, grey, 1))
     (here / "grey_bottom_right.conf").write_bytes(conference(4, grey, 1))
+    (here / "striped_top_right.conf").write_bytes(conference(2, packet(striped_picture(tr=7, quantiser=6)), 3))

@@ -229,111 +229,115 @@ fn ninety_eight_intra(rt: HostRuntime) -> Result<(), Fail> {
     Ok(())
 }
 
+/// A header of a picture, one of a group, what stands behind them so many times, and the place and the reason of the
+/// first fault.
+const REASONS: [(Format, [&str; 3], u32, u32, Why); 20] = [
+    (Qcif, ["", "", "00000000000000010001"], 1, 0, NoStart),
+    (Qcif, [CIF_HEADER, "", ""], 1, 25, WrongFormat),
+    (Cif, [QCIF_HEADER, "", ""], 1, 25, WrongFormat),
+    (
+        Qcif,
+        ["", "", "00000000000000010000 00001 000001 0"],
+        1,
+        25,
+        StillImage,
+    ),
+    (
+        Qcif,
+        [QCIF_HEADER, "", "0000000000000001 0010 01000 0"],
+        1,
+        48,
+        BadGroup,
+    ),
+    (Qcif, [QCIF_HEADER, GROUP_3, GROUP_1], 1, 74, BadGroup),
+    (
+        Cif,
+        [CIF_HEADER, "", "0000000000000001 1101 01000 0"],
+        1,
+        48,
+        BadGroup,
+    ),
+    (
+        Qcif,
+        [QCIF_HEADER, "", "0000000000000001 0001 00000 0"],
+        1,
+        52,
+        BadQuant,
+    ),
+    (Cif, [CIF_HEADER, GROUP_3, "1 00001 00000"], 1, 64, BadQuant),
+    // two groups are missing in QCIF, eleven in CIF, and a header has 26 bits
+    (
+        Qcif,
+        [QCIF_HEADER, GROUP_1, STUFFING],
+        5_948,
+        65_475,
+        TooLong,
+    ),
+    (
+        Cif,
+        [CIF_HEADER, GROUP_1, STUFFING],
+        23_801,
+        261_858,
+        TooLong,
+    ),
+    (Qcif, [QCIF_HEADER, "", "1"], 1, 32, NoCode),
+    (Cif, [CIF_HEADER, GROUP_1, "1 0000000000"], 1, 59, NoCode),
+    (Qcif, [QCIF_HEADER, "", "0000000000000001 00"], 1, 48, Cut),
+    (
+        Qcif,
+        [QCIF_HEADER, GROUP_1, "00000011000 000000001 1 1 1"],
+        1,
+        80,
+        BadAddress,
+    ),
+    (
+        Cif,
+        [CIF_HEADER, GROUP_5, "1 000000001 00000011001"],
+        1,
+        68,
+        BadVector,
+    ),
+    (
+        Qcif,
+        [QCIF_HEADER, GROUP_1, "00001010 000000001 010"],
+        1,
+        75,
+        VectorOutside,
+    ),
+    (
+        Qcif,
+        [QCIF_HEADER, GROUP_1, "1 0001 10000000"],
+        1,
+        63,
+        BadDc,
+    ),
+    (
+        Cif,
+        [
+            CIF_HEADER,
+            GROUP_5,
+            "1 0001 11111111 000001 000000 10000000",
+        ],
+        1,
+        71,
+        BadLevel,
+    ),
+    (
+        Qcif,
+        [
+            QCIF_HEADER,
+            GROUP_1,
+            "1 0001 11111111 000001 111111 00000001",
+        ],
+        1,
+        71,
+        TooMany,
+    ),
+];
+
 #[test]
 fn each_reason_once(rt: HostRuntime) -> Result<(), Fail> {
-    for (format, [header, group, rest], times, place, why) in [
-        (Qcif, ["", "", "00000000000000010001"], 1, 0, NoStart),
-        (Qcif, [CIF_HEADER, "", ""], 1, 25, WrongFormat),
-        (Cif, [QCIF_HEADER, "", ""], 1, 25, WrongFormat),
-        (
-            Qcif,
-            ["", "", "00000000000000010000 00001 000001 0"],
-            1,
-            25,
-            StillImage,
-        ),
-        (
-            Qcif,
-            [QCIF_HEADER, "", "0000000000000001 0010 01000 0"],
-            1,
-            48,
-            BadGroup,
-        ),
-        (Qcif, [QCIF_HEADER, GROUP_3, GROUP_1], 1, 74, BadGroup),
-        (
-            Cif,
-            [CIF_HEADER, "", "0000000000000001 1101 01000 0"],
-            1,
-            48,
-            BadGroup,
-        ),
-        (
-            Qcif,
-            [QCIF_HEADER, "", "0000000000000001 0001 00000 0"],
-            1,
-            52,
-            BadQuant,
-        ),
-        (Cif, [CIF_HEADER, GROUP_3, "1 00001 00000"], 1, 64, BadQuant),
-        // two groups are missing in QCIF, eleven in CIF, and a header has 26 bits
-        (
-            Qcif,
-            [QCIF_HEADER, GROUP_1, STUFFING],
-            5_948,
-            65_475,
-            TooLong,
-        ),
-        (
-            Cif,
-            [CIF_HEADER, GROUP_1, STUFFING],
-            23_801,
-            261_858,
-            TooLong,
-        ),
-        (Qcif, [QCIF_HEADER, "", "1"], 1, 32, NoCode),
-        (Cif, [CIF_HEADER, GROUP_1, "1 0000000000"], 1, 59, NoCode),
-        (Qcif, [QCIF_HEADER, "", "0000000000000001 00"], 1, 48, Cut),
-        (
-            Qcif,
-            [QCIF_HEADER, GROUP_1, "00000011000 000000001 1 1 1"],
-            1,
-            80,
-            BadAddress,
-        ),
-        (
-            Cif,
-            [CIF_HEADER, GROUP_5, "1 000000001 00000011001"],
-            1,
-            68,
-            BadVector,
-        ),
-        (
-            Qcif,
-            [QCIF_HEADER, GROUP_1, "00001010 000000001 010"],
-            1,
-            75,
-            VectorOutside,
-        ),
-        (
-            Qcif,
-            [QCIF_HEADER, GROUP_1, "1 0001 10000000"],
-            1,
-            63,
-            BadDc,
-        ),
-        (
-            Cif,
-            [
-                CIF_HEADER,
-                GROUP_5,
-                "1 0001 11111111 000001 000000 10000000",
-            ],
-            1,
-            71,
-            BadLevel,
-        ),
-        (
-            Qcif,
-            [
-                QCIF_HEADER,
-                GROUP_1,
-                "1 0001 11111111 000001 111111 00000001",
-            ],
-            1,
-            71,
-            TooMany,
-        ),
-    ] {
+    for (format, [header, group, rest], times, place, why) in REASONS {
         let mut sent = Sent::of(rt.alloc(), &[header, group])?;
         sent.put_times(rest, times)?;
         let fault = Fault { place, why };
@@ -356,39 +360,38 @@ fn one_stuffing_less_is_within_the_limit(rt: HostRuntime) -> Result<(), Fail> {
     Ok(())
 }
 
+/// `TURN` without group 3, with spare bytes, stuffing behind a header, a macroblock and a stuffing, and zeros at the end.
+const TURN_WITH_MORE: [&str; 13] = [
+    "00000000000000010000 00001 110010 1 10101010 1 00000000 0",
+    "0000000000000001 0001 01000 1 00000001 0",
+    STUFFING,
+    "00001010 000000001 0011 1",
+    STUFFING,
+    STUFFING,
+    "1 000000001 010 1",
+    STUFFING,
+    "1 000000001 1 1",
+    STUFFING,
+    GROUP_5,
+    STUFFING,
+    "0000000",
+];
+
+/// Its strict text.
+const TURN_WITH_LESS: [&str; 7] = [
+    QCIF_HEADER,
+    GROUP_1,
+    "00001010 000000001 0011 1",
+    "1 000000001 010 1",
+    "1 000000001 1 1",
+    "0000000000000001 0011 00001 0",
+    GROUP_5,
+];
+
 #[test]
 fn what_a_sender_may_add(rt: HostRuntime) -> Result<(), Fail> {
-    // spare bytes, stuffing behind a header, a macroblock and a stuffing, no group 3, and zeros at the end
-    let sent = Sent::of(
-        rt.alloc(),
-        &[
-            "00000000000000010000 00001 110010 1 10101010 1 00000000 0",
-            "0000000000000001 0001 01000 1 00000001 0",
-            STUFFING,
-            "00001010 000000001 0011 1",
-            STUFFING,
-            STUFFING,
-            "1 000000001 010 1",
-            STUFFING,
-            "1 000000001 1 1",
-            STUFFING,
-            GROUP_5,
-            STUFFING,
-            "0000000",
-        ],
-    )?;
-    let strict = Sent::of(
-        rt.alloc(),
-        &[
-            QCIF_HEADER,
-            GROUP_1,
-            "00001010 000000001 0011 1",
-            "1 000000001 010 1",
-            "1 000000001 1 1",
-            "0000000000000001 0011 00001 0",
-            GROUP_5,
-        ],
-    )?;
+    let sent = Sent::of(rt.alloc(), &TURN_WITH_MORE)?;
+    let strict = Sent::of(rt.alloc(), &TURN_WITH_LESS)?;
     let coded = parsed(rt.alloc(), Qcif, sent.bits())?;
     assert_eq!(rt; coded.octets(), strict.octets.as_slice());
     assert_eq!(rt; (coded.tr(), coded.bits().len()), (1, 158));
