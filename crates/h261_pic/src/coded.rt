@@ -11,6 +11,7 @@ ghost use Rattle.pel_model.specs.Text.{picture_header, group_header, group_heade
 ghost use Rattle.pel_model.specs.Valid.{group_numbers, group_count, limit};
 ghost use Rattle.h261_pic.specs.Coded.{Coding, nothing, coding, grown, emptied, next_number, group_of, macroblock_bits, marks_in, bits_at, placed, Belongs, IsFinished, HasPicture, IsGroupText};
 
+use crate::formats::{group_number, most_bits};
 use arrayvec::ArrayVec;
 use pel_bits::{BitBuf, Bits, NoMemory};
 use pel_model::{Format, Mark};
@@ -67,7 +68,7 @@ impl Coded {
         Ok(Coded {
             format,
             tr: 0,
-            text: BitBuf::with_capacity(alloc, longest(format))?,
+            text: BitBuf::with_capacity(alloc, most_bits(format))?,
             groups: ArrayVec::new(),
             marks: ArrayVec::new(),
         })
@@ -268,27 +269,6 @@ fn append_macroblocks(
         len += mark.len;
     }
     text.append(source.slice(from, len));
-}
-
-// The greatest number of bits of a picture.
-fn longest(format: Format) -> u32
-    ensures { result ≡ limit format }
-{
-    match format {
-        Format::Qcif => 65_536,
-        Format::Cif => 262_144,
-    }
-}
-
-// The number of a group, by its place from 0 on.
-fn group_number(format: Format, place: usize) -> u8
-    requires { place < group_count format }
-    ensures { result ≡ slice_index (group_numbers format) place }
-{
-    match format {
-        Format::Qcif => [1, 3, 5][place],
-        Format::Cif => [1, 2, 3, 4, 5, 6, 7, 8, 9, 10, 11, 12][place],
-    }
 }
 
 // Appends PSC, TR, PTYPE and a PEI of 0.

@@ -10,6 +10,7 @@ ghost use Rattle.pel_model.specs.Grammar.{Element, Psc, Ptype, Gn, Gquant, Slot,
 ghost use Rattle.pel_model.specs.Walk.{Takes, Walked};
 ghost use Rattle.h261_pic.specs.HeaderElements.{Layer, FieldOf, flag_slot, spares_of, picture_header_elements, group_header_elements, AreSparesSoFar, IsPictureHeaderSoFar, IsGroupHeaderSoFar};
 
+use crate::formats::is_group;
 use pel_bits::Reader;
 use pel_model::{Fault, Format, Why};
 
@@ -132,16 +133,6 @@ fn may_come(format: Format, number: u8, last: u8) -> bool
     ensures { result ≡ (is_group_of format number && nat_lt last number) }
 {
     is_group(format, number) && last < number
-}
-
-// The groups of QCIF are 1, 3 and 5, and those of CIF 1 to 12 (4.2.2.2).
-fn is_group(format: Format, number: u8) -> bool
-    ensures { result ≡ is_group_of format number }
-{
-    match format {
-        Format::Qcif => matches!(number, 1 | 3 | 5),
-        Format::Cif => 1 <= number && number <= 12,
-    }
 }
 
 // Takes GQUANT, 5 bits that are not 0 (4.2.2.3).

@@ -3,6 +3,7 @@
 
 mod coded;
 mod coming;
+mod formats;
 mod group;
 mod input_headers;
 mod limited;

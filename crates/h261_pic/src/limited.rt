@@ -5,7 +5,7 @@
 ghost use Rattle.std.specs.Prelude.{◌≡◌, ◌+◌, ◌-◌, ◌*◌, ◌<◌, ◌≤◌, ℕ, true, List, [], take, IfOk};
 ghost use Rattle.pel_model.specs.declared.Format.{Format as PictureFormat};
 ghost use Rattle.pel_model.specs.Text.{group_header_length};
-ghost use Rattle.pel_model.specs.Valid.{group_count, limit};
+ghost use Rattle.pel_model.specs.Valid.{group_count as group_count_of, limit};
 ghost use Rattle.pel_model.specs.Grammar.{Element, Mba, mba_rows, slot, AtGn, AtGroup, AtMacroblock, group as group_before, begun as begun_before, is_group as is_group_of, counted, picture};
 ghost use Rattle.pel_model.specs.Walk.{Good, read};
 ghost use Rattle.h261_mb.specs.State.{IsReady, Stands, IsRead};
@@ -14,6 +14,7 @@ ghost use Rattle.h261_pic.specs.Comes.{Comes};
 ghost use Rattle.h261_pic.specs.Reached.{EndsAt, Reached, FollowsOrFails};
 
 use crate::coming::{Coming, take_coming, take_group_or_end};
+use crate::formats::{GROUP_HEADER_BITS, group_count, most_bits};
 use crate::input_headers::{GroupHeader, read_group_header, read_picture_header};
 use h261_mb::{MbState, scan_mb};
 use pel_bits::Reader;
@@ -21,13 +22,10 @@ use pel_model::{Fault, Format, Mark, Why};
 
 /// The last place at which an element may end, where so many groups were begun.
 pub fn last_end(format: Format, begun: u32) -> u32
-    ensures { result ≡ limit format - group_header_length * (group_count format - begun) }
+    ensures { result ≡ limit format - group_header_length * (group_count_of format - begun) }
 {
-    let (limit, groups) = match format {
-        Format::Qcif => (65_536, 3_u32),
-        Format::Cif => (262_144, 12),
-    };
-    limit - 26 * groups.saturating_sub(begun)
+    let groups = group_count(format) as u32;
+    most_bits(format) - GROUP_HEADER_BITS * groups.saturating_sub(begun)
 }
 
 /// Takes a picture header as `read_picture_header` does, from the first bit on.

@@ -1,16 +1,16 @@
 //! A picture in any input form, or its first fault.
 #![tactic(auto)]
 
-ghost use Rattle.std.specs.Prelude.{◌≡◌, ℕ, ◌<◌, true, slice_index, IfOk, IfErr, IsOk};
+ghost use Rattle.std.specs.Prelude.{◌≡◌, ℕ, IfOk, IfErr, IsOk};
 ghost use Rattle.pel_model.specs.declared.Why.{Why as Reason};
 ghost use Rattle.pel_model.specs.Records.{Picture};
 ghost use Rattle.pel_model.specs.Accepts.{Accepts};
-ghost use Rattle.pel_model.specs.Grammar.{picture as picture_grammar, is_group as is_group_of};
-ghost use Rattle.pel_model.specs.Valid.{group_numbers, group_count};
+ghost use Rattle.pel_model.specs.Grammar.{picture as picture_grammar};
 ghost use Rattle.pel_model.specs.Walk.{FirstFault};
 ghost use Rattle.h261_pic.specs.Coded.{nothing, coding};
 
 use crate::coded::Coded;
+use crate::formats::{group_count, group_place};
 use crate::group::read_group;
 use crate::limited::{group_follows, picture_header_within};
 use pel_bits::{Bits, Reader};
@@ -51,32 +51,10 @@ fn read_picture(bits: &Bits<'_>, format: Format, into: &mut Coded) -> Result<(),
         begun += 1;
         let group = read_group(&mut r, format, last, begun)?;
         last = group.header.number;
-        into.leave_out(place_of(format, last));
+        into.leave_out(group_place(format, last));
         into.add_group(group.header.quant, bits, &group.marks);
         another = group.another;
     }
-    into.leave_out(groups_of(format));
+    into.leave_out(group_count(format));
     Ok(())
-}
-
-// The place of a group in the picture, from 0 on.
-fn place_of(format: Format, number: u8) -> usize
-    requires { is_group_of format number ≡ true }
-    ensures there { result < group_count format }
-    ensures number { slice_index (group_numbers format) result ≡ number }
-{
-    match format {
-        Format::Qcif => usize::from(number) / 2,
-        Format::Cif => usize::from(number) - 1,
-    }
-}
-
-// How many groups a picture has (H.261, 4.2.1).
-fn groups_of(format: Format) -> usize
-    ensures { result ≡ group_count format }
-{
-    match format {
-        Format::Qcif => 3,
-        Format::Cif => 12,
-    }
 }

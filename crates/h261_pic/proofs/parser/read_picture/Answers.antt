@@ -71,7 +71,7 @@ pub leave_out-requires-clause-there : goal.leave_out-requires-clause-there
 leave_out-requires-clause-there c =
     let l = c.loop-another in
     let same = (begun-text c.args.format c.args.bits.now l.last l.begun l.another l.into l.r l.invariant).0 in
-    omega (arith, c.place_of.ensures.there, ap group_count same)
+    omega (arith, c.group_place.ensures.there, ap group_count same)
 
 pub leave_out-requires-2-clause-begun : goal.leave_out-requires-2-clause-begun
 leave_out-requires-2-clause-begun c =
@@ -82,11 +82,11 @@ pub leave_out-requires-2-clause-there : goal.leave_out-requires-2-clause-there
 leave_out-requires-2-clause-there c =
     let l = c.loop-another in
     let same = (begun-text c.args.format c.args.bits.now l.last l.begun l.another l.into l.r l.invariant).0 in
-    omega (arith, c.groups_of.ensures, ap group_count same)
+    omega (arith, c.group_count.ensures, ap group_count same)
 
 pub loop-another-smaller : goal.loop-another-smaller
 loop-another-smaller c =
-    omega (arith, c.in_ok-group.ensures.within.1, c.place_of.ensures.number, (numbered c.args.format c.place_of.result c.place_of.ensures.there).0)
+    omega (arith, c.in_ok-group.ensures.within.1, c.group_place.ensures.number, (numbered c.args.format c.group_place.result c.group_place.ensures.there).0)
 
 pub loop-another-preserved : goal.loop-another-preserved
 loop-another-preserved c =
@@ -96,21 +96,21 @@ loop-another-preserved c =
     let group = c.in_ok-group.group in
     let s : PictureSoFar format bits l.last l.begun true l.into l.r = subst (λ (b : Bool). PictureSoFar format bits l.last l.begun b l.into l.r) c.loop-another-test.true l.invariant in
     let read = c.in_ok-group.ensures.read bits (after [] s.es) s.mid (group-comes format bits l.last l.begun l.into l.r s) in
-    let next = stands-next format bits l.last l.begun group.header.number c.place_of.result true l.into l.r s c.in_ok-group.ensures.within.1 c.place_of.ensures.there c.place_of.ensures.number in
-    group-added format bits l.last l.begun group.header.number group.header.quant c.place_of.result group.another group.marks.items l.into c.leave_out.new.self c.add_group.new.self l.r c.read_group.new.r s read next c.leave_out.ensures
+    let next = stands-next format bits l.last l.begun group.header.number c.group_place.result true l.into l.r s c.in_ok-group.ensures.within.1 c.group_place.ensures.there c.group_place.ensures.number in
+    group-added format bits l.last l.begun group.header.number group.header.quant c.group_place.result group.another group.marks.items l.into c.leave_out.new.self c.add_group.new.self l.r c.read_group.new.r s read next c.leave_out.ensures
     (c.add_group.ensures ∙ ap (λ (ms : List Mark). grown c.leave_out.new.self group.header.quant (bits_at bits ms) ms) c.deref.ensures.0)
 
 pub returns-clause-format : goal.returns-clause-format
 returns-clause-format c =
     let l = c.loop-another in
     let s : PictureSoFar c.args.format c.args.bits.now l.last l.begun false l.into l.r = subst (λ (b : Bool). PictureSoFar c.args.format c.args.bits.now l.last l.begun b l.into l.r) c.loop-another-test.false l.invariant in
-    ap (λ (k : Coding). k.format) (all-read c.args.format c.args.bits.now l.last l.begun l.into c.leave_out-2.new.self l.r s (c.leave_out-2.ensures ∙ ap (λ (k : ℕ). emptied (k - length l.into.groups) l.into) c.groups_of.ensures)).2
+    ap (λ (k : Coding). k.format) (all-read c.args.format c.args.bits.now l.last l.begun l.into c.leave_out-2.new.self l.r s (c.leave_out-2.ensures ∙ ap (λ (k : ℕ). emptied (k - length l.into.groups) l.into) c.group_count.ensures)).2
 
 pub returns-clause-accepted : goal.returns-clause-accepted
 returns-clause-accepted c =
     let l = c.loop-another in
     let s : PictureSoFar c.args.format c.args.bits.now l.last l.begun false l.into l.r = subst (λ (b : Bool). PictureSoFar c.args.format c.args.bits.now l.last l.begun b l.into l.r) c.loop-another-test.false l.invariant in
-    all-read c.args.format c.args.bits.now l.last l.begun l.into c.leave_out-2.new.self l.r s (c.leave_out-2.ensures ∙ ap (λ (k : ℕ). emptied (k - length l.into.groups) l.into) c.groups_of.ensures)
+    all-read c.args.format c.args.bits.now l.last l.begun l.into c.leave_out-2.new.self l.r s (c.leave_out-2.ensures ∙ ap (λ (k : ℕ). emptied (k - length l.into.groups) l.into) c.group_count.ensures)
 
 -- what is asked of the picture that gets the group
 asked : (c : goal.After-deref) → MayAdd c.args.format c.args.bits.now c.in_ok-group.group.header.number c.in_ok-group.group.header.quant c.deref.result.now c.leave_out.new.self × All (λ (m : Mark). m.at + m.len ≤ length c.args.bits.now) c.deref.result.now
@@ -121,8 +121,8 @@ asked c =
     let group = c.in_ok-group.group in
     let s : PictureSoFar format bits l.last l.begun true l.into l.r = subst (λ (b : Bool). PictureSoFar format bits l.last l.begun b l.into l.r) c.loop-another-test.true l.invariant in
     let read = c.in_ok-group.ensures.read bits (after [] s.es) s.mid (group-comes format bits l.last l.begun l.into l.r s) in
-    let next = stands-next format bits l.last l.begun group.header.number c.place_of.result true l.into l.r s c.in_ok-group.ensures.within.1 c.place_of.ensures.there c.place_of.ensures.number in
-    let may = may-add format bits l.last l.begun group.header.number group.header.quant c.place_of.result group.another group.marks.items l.into c.leave_out.new.self l.r c.read_group.new.r s read next c.leave_out.ensures in
+    let next = stands-next format bits l.last l.begun group.header.number c.group_place.result true l.into l.r s c.in_ok-group.ensures.within.1 c.group_place.ensures.there c.group_place.ensures.number in
+    let may = may-add format bits l.last l.begun group.header.number group.header.quant c.group_place.result group.another group.marks.items l.into c.leave_out.new.self l.r c.read_group.new.r s read next c.leave_out.ensures in
     let marks_are = sym c.deref.ensures.0 in
     (subst (λ (ms : List Mark). MayAdd format bits group.header.number group.header.quant ms c.leave_out.new.self) marks_are may, subst (λ (ms : List Mark). All (λ (m : Mark). m.at + m.len ≤ length bits) ms) marks_are read.inside)
 
