@@ -60,14 +60,14 @@ spoke_before speakers None d = false
 abbrev pub vacant_place : Stage → Option Quad
 vacant_place s = find (λ q. not (s.is_pinned q) && is_none (s.lane_in q)) places
 
--- where `before p q` says that the lane in place p spoke less recently than the one in place q: such a lane stands in an
--- unpinned place
-abbrev pub is_outlasted : (Quad → Bool) → (Quad → Quad → Bool) → Quad → Bool
-is_outlasted is_pinned before q = list_any (λ p. not (is_pinned p) && before p q) places
+-- where `before p q` says that the lane in place p spoke less recently than the one in place q: an unpinned place is
+-- quieter than this one
+abbrev pub has_quieter : (Quad → Bool) → (Quad → Quad → Bool) → Quad → Bool
+has_quieter is_pinned before q = list_any (λ p. not (is_pinned p) && before p q) places
 
--- the lowest unpinned place where that is not so
+-- the lowest unpinned place than which none is quieter
 abbrev pub quietest_by : (Quad → Bool) → (Quad → Quad → Bool) → Option Quad
-quietest_by is_pinned before = find (λ q. not (is_pinned q) && not (is_outlasted is_pinned before q)) places
+quietest_by is_pinned before = find (λ q. not (is_pinned q) && not (has_quieter is_pinned before q)) places
 
 -- the unpinned place whose lane spoke least recently, the lowest of several
 abbrev pub quietest_place : Stage → Option Quad

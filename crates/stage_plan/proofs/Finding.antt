@@ -9,7 +9,7 @@ use Rattle.pel_model.specs.declared.Quad.TheVariants.{One, Two, Three, Four}
 use Rattle.pel_model.specs.declared.chair.Command.{Command}
 use Rattle.pel_model.specs.declared.chair.Command.TheVariants.{Speaker}
 use Rattle.pel_model.specs.declared.chair.Reply.TheVariants.{Done, NoLane, AllPinned}
-use Rattle.pel_model.specs.Plan.{Stage, places, is_same, is_lane, is_place, is_standing, is_done, is_outlasted, quietest_by, quietest_place, vacant_place, place_for_speaker, spoke_before, silence, stage, answer, carried_out}
+use Rattle.pel_model.specs.Plan.{Stage, places, is_same, is_lane, is_place, is_standing, is_done, has_quieter, quietest_by, quietest_place, vacant_place, place_for_speaker, spoke_before, silence, stage, answer, carried_out}
 
 -- P holds of each place of the list
 abbrev AllIn : (Quad → Type 0) → List Quad → Type 0
@@ -98,8 +98,8 @@ module _ (pinned : Quad → Bool) (key : Quad → ℕ) where
   unfolding Found
   quietest-found before means some =
       let (q, free, best) = top places some in
-      let test = λ (r : Quad). not (pinned r) && not (is_outlasted pinned before r) in
-      let none : is_outlasted pinned before q ≡ false = none_before before means q places best in
+      let test = λ (r : Quad). not (pinned r) && not (has_quieter pinned before r) in
+      let none : has_quieter pinned before q ≡ false = none_before before means q places best in
       let passes : test q ≡ true = rw (free, none) refl in
       found-four test (any-at test q passes)
 

@@ -93,7 +93,7 @@ fn changes(before: PerPlace<Option<u8>>, after: PerPlace<Option<u8>>) -> PerPlac
 impl Plan {
     ghost use Rattle.pel_model.specs.declared.chair.Command.TheVariants.{Place, Clear, Swap, Speaker, Pin, Unpin};
     ghost use Rattle.pel_model.specs.declared.chair.Reply.TheVariants.{Done};
-    ghost use Rattle.pel_model.specs.Plan.{at, changed, is_standing, vacant_place, quietest_by, is_outlasted, carried_out, is_done};
+    ghost use Rattle.pel_model.specs.Plan.{at, changed, is_standing, vacant_place, quietest_by, has_quieter, carried_out, is_done};
     ghost use Rattle.stage_plan.specs.Places.{lane_in, is_pinned, IsInOrder, IsUnmoved, StandsFor};
     ghost use Rattle.stage_plan.specs.Steps.{is_ranked_below, stage_of, Obeys};
 
@@ -170,8 +170,8 @@ impl Plan {
     }
 
     /// Whether a lane in an unpinned place spoke less recently than the one in this place.
-    fn is_outlasted(&self, place: Quad) -> bool
-        ensures { result ≡ is_outlasted (is_pinned self.now) (is_ranked_below self.now) place }
+    fn has_quieter(&self, place: Quad) -> bool
+        ensures { result ≡ has_quieter (is_pinned self.now) (is_ranked_below self.now) place }
     {
         PLACES
             .iter()
@@ -185,7 +185,7 @@ impl Plan {
         PLACES
             .iter()
             .copied()
-            .find(|q| !self.pins.of(*q) && !self.is_outlasted(*q))
+            .find(|q| !self.pins.of(*q) && !self.has_quieter(*q))
     }
 
     /// The place that a speaker takes who stands in none.
