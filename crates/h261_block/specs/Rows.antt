@@ -1,3 +1,4 @@
+-- Inner contracts alone use this; nothing here has to be believed.
 -- What the words of TCOEFF are to a block.
 use Rattle.std.specs.Prelude.{ℕ, ◌+◌, ℤ, Option, Some, None}
 use Rattle.vlc_codes.specs.declared.readers.CoefRow.{CoefRow}

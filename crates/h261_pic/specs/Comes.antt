@@ -1,3 +1,4 @@
+-- Inner contracts alone use this; nothing here has to be believed.
 -- What comes behind a group's header, a macroblock or stuffing (H.261, 4.2.2 and 4.2.3).
 use Rattle.std.specs.Prelude.{◌≡◌, ℕ, Bool, List, Result, Ok, Err}
 use Rattle.pel_model.specs.declared.Fault.{Fault}

@@ -1,3 +1,4 @@
+-- Inner contracts alone use this; nothing here has to be believed.
 -- The elements of headers, with their spare bytes (H.261, 4.2.1 and 4.2.2), and slots in which a field is due.
 use Rattle.std.specs.Prelude.{◌≡◌, ℕ, Bool, true, false, List, [], ◌∷◌, ◌++◌, flat_map}
 use Rattle.pel_model.specs.declared.Format.{Format}

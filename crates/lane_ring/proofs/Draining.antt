@@ -1,12 +1,13 @@
--- One held item more that is passed, or taken.
+-- A lane whose held items are gone through, the oldest first: those before the present ones were passed, and one more is
+-- passed, or taken.
 use Rattle.std.proofs.Common.{◌≡◌, ℕ, suc, ◌+◌, Bool, true, false, Option, Some, None, List, [], ◌∷◌, ◌++◌, length, take, drop, find, slice_get, refl, sym, ap, ap₂, ◌∙◌, arith, append_assoc, length-append}
-use Rattle.std.proofs.lemmas.Bool.{false≢true}
+use Rattle.std.proofs.lemmas.Option.{none-some}
 use Rattle.std.specs.List.{before_first, after_first, position_or_len}
 use Rattle.circular_buffer.specs.Buffer.{Buffer, buffer}
 use Rattle.lane_ring.specs.declared.lane.Held.{Held}
 use Rattle.lane_ring.specs.declared.lane.Lane.TheInside.{Inside}
 use Rattle.lane_ring.specs.Ring.{LaneView}
-use Rattle.lane_ring.specs.Draining.{IsDraining}
+use Rattle.lane_ring.specs.LaneFields.{IsLane}
 use Rattle.lane_ring.specs.Taking.{fits, taken, passed, items_of}
 
 module _ {X : Type 0} (p : X → Bool) where
@@ -38,19 +39,24 @@ module _ {X : Type 0} (p : X → Bool) where
   pub before_first-yes : (x : X) (xs : List X) → p x ≡ true → before_first p (x ∷ xs) ≡ []
   before_first-yes x xs e = ap (λ k. take k (x ∷ xs)) (position-yes x xs e)
 
-none_some : {X : Type 0} (x : X) → ◌≡◌ {A = Option X} None (Some x) → ⊥
-none_some x e = let apart : false ≡ true = cc in false≢true apart
-
 -- a list with a first item
 head_is : {X : Type 0} (xs : List X) (x : X) → slice_get xs 0 ≡ Some x → xs ≡ x ∷ drop 1 xs
-head_is [] x e = absurd (none_some x e)
+head_is [] x e = absurd (none-some x e)
 head_is (y ∷ ys) x e = let same : y ≡ x = cc in ap (λ v. v ∷ ys) same
 
 nothing_first : {X : Type 0} (xs : List X) → slice_get xs 0 ≡ None → xs ≡ []
 nothing_first [] e = refl
-nothing_first (x ∷ xs) e = absurd (none_some x (sym e))
+nothing_first (x ∷ xs) e = absurd (none-some x (sym e))
 
 module _ {T : Type 0} where
+  -- what is taken, passed and held in the end is settled by the present items
+  pub record IsDraining (last : Option ℕ) (old : LaneView T) (a : Inside T) : Type 0 where
+    pub lane : IsLane a
+    pub same_taken : taken last old.held ≡ taken last a.held.items
+    pub same_rest : after_first (fits last) old.held ≡ after_first (fits last) a.held.items
+    pub passes : old.spares ++ passed last old.held ≡ a.spares.items ++ passed last a.held.items
+    pub same_count : old.count ≡ a.count
+
   passed-no : (last : Option ℕ) (h : Held T) (hs : List (Held T)) → fits last h ≡ false → passed last (h ∷ hs) ≡ h.item ∷ passed last hs
   passed-no last h hs e = ap items_of (before_first-no (fits last) h hs e)
 

@@ -1,5 +1,4 @@
 pub mod Ring
 pub mod LaneFields
 pub mod Taking
-pub mod Draining
 pub mod Serials

@@ -1,5 +1,5 @@
 use Rattle.std.proofs.Common.{◌≡◌, length}
-use Rattle.lane_ring.specs.Draining.{IsDraining}
+use Rattle.lane_ring.proofs.Draining.{IsDraining}
 use Rattle.lane_ring.proofs.lane.Lane.take.Given as goal
 
 abbrev pub invariant-loop-held : goal.invariant-loop-held
