@@ -1,6 +1,6 @@
 -- What stands in a block, by the slot of its next element.
-use Rattle.std.proofs.Common.{◌≡◌, ◌≢◌, ℕ, ◌≤◌, ◌<◌, ◌==◌, ◌||◌, Bool, true, false, cond, List, [], ◌∷◌, ◌++◌, length, take, Some, None, ◌⊎◌, inl, inr, refl, sym, ◌∙◌, ap}
-use Rattle.std.proofs.lemmas.Bool.{eqb-true}
+use Rattle.std.proofs.Common.{◌≡◌, ◌≢◌, ℕ, ◌≤◌, ◌<◌, ◌==◌, ◌||◌, Bool, true, false, cond, List, ◌++◌, length, take, Some, None, ◌⊎◌, inl, inr, refl, sym, ◌∙◌, ap}
+use Rattle.std.proofs.lemmas.Bool.{ne_eqb}
 use Rattle.std.proofs.lemmas.List.{take-append-le}
 use Rattle.pel_bits.specs.Bits as bits
 use Rattle.pel_bits.specs.Reading.{zeros}
@@ -9,7 +9,7 @@ use Rattle.pel_model.specs.declared.Why.{Why}
 use Rattle.pel_model.specs.declared.Why.TheVariants.{Cut, BadDc}
 use Rattle.pel_model.specs.Bits as model
 use Rattle.pel_model.specs.Walk.{Good, Bad, read}
-use Rattle.pel_model.specs.Grammar.{Element, Dc, Tcoeff, slot, filled, AtDc, AtFirst, AtCoefficient, at_slot, rows, field_rows, first_rows, later_rows, faults, first_why, next}
+use Rattle.pel_model.specs.Grammar.{Element, Dc, Slot, slot, AtDc, AtFirst, AtCoefficient, at_slot, rows, field_rows, first_rows, later_rows, faults, first_why, next}
 use Rattle.pel_model.proofs.Steps.{judge, next-at, judged-good, judged-bad, judged-none, field-good, field-cut}
 use Rattle.vlc_codes.proofs.CoefficientLaws.{same_number}
 
@@ -34,18 +34,11 @@ or_true true b h = refl
 or_true false b (inl h) = absurd cc
 or_true false b (inr h) = h
 
-is_other_by : (n m : ℕ) (same : Bool) → (n == m) ≡ same → n ≢ m → same ≡ false
-is_other_by n m true is h = absurd (h (eqb-true n m is))
-is_other_by n m false is h = refl
-
-is_other : (n m : ℕ) → n ≢ m → (n == m) ≡ false
-is_other n m h = is_other_by n m (n == m) refl h
-
 pub dc-good : (format : Format) (before : List Element) (r : List Bool × ℕ) (n : ℕ) → slot before ≡ AtDc → 8 ≤ length r.0 → n ≡ bits.number (take 8 (r.0 ++ zeros 8)) → n ≢ 0 → n ≢ 128 → next format before r ≡ Good (Dc n) 8
 dc-good format before r n due fits is some other =
     next-at format before r AtDc due
     ∙ judged-good (judge format before) (Dc n) 8 (at_slot AtDc r.0) (dc-read r.0 n fits is)
-    (ap (λ (b : Bool). cond (b || n == 128) (Some BadDc) None) (is_other n 0 some) ∙ ap (λ (b : Bool). cond b (Some BadDc) None) (is_other n 128 other))
+    (ap (λ (b : Bool). cond (b || n == 128) (Some BadDc) None) (ne_eqb n 0 some) ∙ ap (λ (b : Bool). cond b (Some BadDc) None) (ne_eqb n 128 other))
 
 pub dc-bad : (format : Format) (before : List Element) (r : List Bool × ℕ) (n : ℕ) → slot before ≡ AtDc → 8 ≤ length r.0 → n ≡ bits.number (take 8 (r.0 ++ zeros 8)) → (n == 0 || n == 128) ≡ true → next format before r ≡ Bad BadDc
 dc-bad format before r n due fits is forbidden =
@@ -60,12 +53,6 @@ at-coefficient true left = refl
 at-coefficient false left = refl
 
 -- where the first coefficient is due, the block has none
-pub first_is_empty : (before : List Element) → slot before ≡ AtFirst → filled before ≡ 0
-first_is_empty [] due = absurd cc
-first_is_empty (Dc n ∷ before) due = absurd cc
-first_is_empty (Tcoeff c ∷ before) due = absurd cc
-first_is_empty (_ ∷ before) due = refl
-
 pub coefficient-good : (format : Format) (before : List Element) (r : List Bool × ℕ) (first : Bool) (e : Element) (n : ℕ) → slot before ≡ cond first AtFirst AtCoefficient → read (cond first first_rows later_rows) r.0 ≡ Good e n → first_why (faults format before e) ≡ None → next format before r ≡ Good e n
 coefficient-good format before r first e n due is fine =
     next-at format before r (cond first AtFirst AtCoefficient) due
@@ -80,3 +67,7 @@ pub coefficient-none : (format : Format) (before : List Element) (r : List Bool 
 coefficient-none format before r first why due is =
     next-at format before r (cond first AtFirst AtCoefficient) due
     ∙ judged-none (judge format before) why (at_slot (cond first AtFirst AtCoefficient) r.0) (at-coefficient first r.0 ∙ is)
+
+-- the slot of a block's first element, where it is known whether it is Intra
+pub due_at : (here : Slot) (intra known : Bool) → here ≡ cond intra AtDc AtFirst → intra ≡ known → here ≡ cond known AtDc AtFirst
+due_at here intra known due is = due ∙ ap (λ (b : Bool). cond b AtDc AtFirst) is

@@ -13,7 +13,7 @@ use Rattle.vlc_codes.specs.declared.readers.CoefRow.TheVariants.{Pair, Escape}
 use Rattle.vlc_codes.specs.declared.readers.CoefRow.TheVariants as row
 use Rattle.vlc_codes.specs.Rows.{coefficient_element}
 use Rattle.h261_block.specs.Rows.{run_and_level_of, filled_after}
-use Rattle.h261_block.proofs.BlockSteps.{first_is_empty}
+use Rattle.pel_model.proofs.BlockElements.{first-filled}
 use Rattle.h261_block.proofs.LevelLaws.{with_one_more, length-sent-more, levels-more}
 
 -- the elements of a block without its end were read, and so many coefficients stand in it
@@ -67,7 +67,7 @@ module _ (next : List Element → List Bool × ℕ → Step Element) (before : L
     kind = refl;
     walk = refl;
     due = due;
-    full = first_is_empty before due;
+    full = first-filled before due;
   }
 
   pub dc_only : (old new : List Bool × ℕ) (dc n : ℕ) → next before old ≡ Good (Dc dc) n → new ≡ skipped n old → SoFar next before true old new 1

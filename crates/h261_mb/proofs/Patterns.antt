@@ -1,12 +1,11 @@
 -- The six bits of CBP.
 use Rattle.std.proofs.Common.{◌≡◌, ℕ, ◌<◌, ◌==◌, ◌&&◌, Bool, true, List, length, count_by, get_or, refl, sym, ◌∙◌, ap}
-use Rattle.std.proofs.lemmas.Bool.{eqb-true}
+use Rattle.std.proofs.lemmas.Bool.{eqb-true, and_parts}
 use Rattle.std.specs.Prelude.{count_ones}
 use Rattle.std.specs.Int.Count.{ones as ones_set, ones_in}
 use Rattle.pel_model.specs.Bits.{field, number}
 use Rattle.pel_model.specs.Grammar.{ones}
 use Rattle.vlc_codes.proofs.CellLaws.{listed, listed_at}
-use Rattle.vlc_codes.proofs.WordLaws.{and_left, and_right}
 
 abbrev is_told : ℕ → Bool
 is_told c = count_ones c == ones c && (count_by (λ b. b) (field c 6) == ones c && number (field c 6) == c)
@@ -20,15 +19,15 @@ told c within =
     sym (listed_at is_told 64 c true within) ∙ (ap (λ (tests : List Bool). get_or tests c true) all_told ∙ listed_at (λ k. true) 64 c true within)
 
 pub six_ones : (c : ℕ) → c < 64 → count_ones c ≡ ones c
-six_ones c within = eqb-true (count_ones c) (ones c) (and_left (count_ones c == ones c) _ (told c within))
+six_ones c within = eqb-true (count_ones c) (ones c) (and_parts (count_ones c == ones c) _ (told c within)).0
 
 pub six_counted : (c : ℕ) → c < 64 → count_by (λ b. b) (field c 6) ≡ ones c
 six_counted c within =
-    eqb-true (count_by (λ b. b) (field c 6)) (ones c) (and_left (count_by (λ b. b) (field c 6) == ones c) _ (and_right (count_ones c == ones c) _ (told c within)))
+    eqb-true (count_by (λ b. b) (field c 6)) (ones c) (and_parts (count_by (λ b. b) (field c 6) == ones c) _ (and_parts (count_ones c == ones c) _ (told c within)).1).0
 
 pub six_number : (c : ℕ) → c < 64 → number (field c 6) ≡ c
 six_number c within =
-    eqb-true (number (field c 6)) c (and_right (count_by (λ b. b) (field c 6) == ones c) _ (and_right (count_ones c == ones c) _ (told c within)))
+    eqb-true (number (field c 6)) c (and_parts (count_by (λ b. b) (field c 6) == ones c) _ (and_parts (count_ones c == ones c) _ (told c within)).1).1
 
 pub six_long : (c : ℕ) → length (field c 6) ≡ 6
 unfolding field

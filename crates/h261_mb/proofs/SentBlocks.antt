@@ -12,7 +12,8 @@ use Rattle.pel_model.specs.Elements.{block_elements}
 use Rattle.pel_model.specs.Walk.{Step, after, Goes}
 use Rattle.pel_model.specs.Grammar.{Element, Mtype, Cbp, AtCbp, AtDc, AtFirst, slot, block_slot, cbp_slot, kind, blocks, may_end, next}
 use Rattle.pel_model.proofs.Walks.{after-append, goes-append}
-use Rattle.h261_mb.proofs.Passing.{pass_blocks, blocks-block, slot-block}
+use Rattle.pel_model.proofs.BlockElements.{block-blocks, block-slot}
+use Rattle.h261_mb.proofs.Passing.{pass_blocks}
 use Rattle.h261_mb.proofs.Steps.{goes_onward}
 
 -- ---- the slot of the blocks
@@ -61,8 +62,8 @@ module _ (next : List Element → List Bool × ℕ → Step Element) (before : L
         read = so_far.read ++ b ∷ [];
         many = omega (arith, length-append so_far.read (b ∷ []), so_far.many);
         walk = subst (λ (es : List Element). Goes next before old es new) (sym now) (goes-append next before old mid new had (block_elements b) so_far.walk (subst (λ (es : List Element). Goes next there mid es new) is walk));
-        due = ap slot behind ∙ (slot-block there b ∙ (ap (λ (kind : MbKind). block_slot kind (blocks there - 1)) (kind_there so_far.read) ∙ ap (block_slot k) fewer));
-        to_come = ap blocks behind ∙ (blocks-block there b ∙ fewer);
+        due = ap slot behind ∙ (block-slot there b ∙ (ap (λ (kind : MbKind). block_slot kind (blocks there - 1)) (kind_there so_far.read) ∙ ap (block_slot k) fewer));
+        to_come = ap blocks behind ∙ (block-blocks there b ∙ fewer);
       }
 
 pub block_is_inside : (intra : Bool) → may_end (cond intra AtDc AtFirst) ≡ false

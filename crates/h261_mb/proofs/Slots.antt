@@ -1,6 +1,6 @@
 -- What stands at the slots of a macroblock, from the words there and the conditions of their elements.
-use Rattle.std.proofs.Common.{◌≡◌, ◌≢◌, ℕ, ◌+◌, ◌-◌, ◌≤◌, ◌<◌, ◌==◌, ◌&&◌, not, Bool, true, false, cond, List, [], ◌∷◌, ◌++◌, length, take, Some, None, nat_lt, refl, sym, ◌∙◌, ap, arith}
-use Rattle.std.proofs.lemmas.Bool.{eqb-true, ltb-true, lt-ltb}
+use Rattle.std.proofs.Common.{◌≡◌, ℕ, ◌+◌, ◌-◌, ◌≤◌, ◌<◌, ◌==◌, ◌&&◌, not, Bool, true, false, cond, List, [], ◌∷◌, ◌++◌, length, take, Some, None, nat_lt, refl, sym, ◌∙◌, ap, arith}
+use Rattle.std.proofs.lemmas.Bool.{ltb-true, lt-ltb}
 use Rattle.std.proofs.lemmas.List.{take-append-le}
 use Rattle.pel_bits.specs.Bits as bits
 use Rattle.pel_bits.specs.Reading.{zeros}
@@ -76,13 +76,6 @@ module _ (format : Format) (before : List Element) (r : List Bool × ℕ) (last 
       at_fault format before r AtMacroblock (at_slot AtMacroblock r.0) due refl (Mba d) n BadAddress (at-macroblock r.0 (Mba d) n is) (ap (λ (b : Bool). cond b (Some BadAddress) None) far)
 
 -- ---- MQUANT
-
-is_other_by : (n m : ℕ) (same : Bool) → (n == m) ≡ same → n ≢ m → same ≡ false
-is_other_by n m true is h = absurd (h (eqb-true n m is))
-is_other_by n m false is h = refl
-
-pub is_other : (n m : ℕ) → n ≢ m → (n == m) ≡ false
-is_other n m h = is_other_by n m (n == m) refl h
 
 module _ (format : Format) (before : List Element) (r : List Bool × ℕ) (due : slot before ≡ AtMquant) where
   pub mquant-cut : length r.0 < 5 → next format before r ≡ Bad Cut

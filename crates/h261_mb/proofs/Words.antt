@@ -1,12 +1,12 @@
 -- What is known of the words of MBA and CBP that stand at a place.
-use Rattle.std.proofs.Common.{◌≡◌, ℕ, ◌+◌, ◌<◌, Bool, true, false, cond, List, [], ◌∷◌, ◌++◌, length, Option, Some, None, nat_lt, if◌then◌else◌, ◌⊎◌, inl, inr, refl, sym, ap, subst}
+use Rattle.std.proofs.Common.{◌≡◌, ℕ, ◌+◌, ◌<◌, Bool, true, false, cond, List, [], ◌∷◌, ◌++◌, length, Option, Some, None, nat_lt, if◌then◌else◌, ◌⊎◌, inl, inr, refl, sym, subst}
+use Rattle.std.proofs.lemmas.List.{append-nil}
 use Rattle.std.specs.List.{find, list_any, list_all}
-use Rattle.std.proofs.lemmas.Bool.{ltb-true}
+use Rattle.std.proofs.lemmas.Bool.{ltb-true, and_parts, cases_Bool}
 use Rattle.pel_model.specs.declared.Why.TheVariants.{Cut}
 use Rattle.pel_model.specs.Codes.{begins, mba_table, stuffing_word, cbp_table}
 use Rattle.pel_model.specs.Walk.{Good, Bad, Row, read, word_at}
 use Rattle.pel_model.specs.Grammar.{Element, Mba, Stuffing, Cbp, word_row, table_rows, mba_rows}
-use Rattle.vlc_codes.proofs.WordLaws.{and_left, and_right, either_way}
 
 module _ (bits : List Bool) (e : Element) (n : ℕ) where
   abbrev front : List (Row Element) → Option (Row Element)
@@ -34,13 +34,13 @@ module _ (bits : List Bool) (e : Element) (n : ℕ) where
   pub meaning : {A : Type 0} (table : List (List Bool × A)) (make : A → Element) (test : A → Bool) (all more : List (Row Element)) → list_all (λ row. test row.1) table ≡ true → word_at all bits (front (table_rows table make ++ more)) ≡ Good e n → ((a : A) × (e ≡ make a) × (test a ≡ true)) ⊎ (word_at all bits (front more) ≡ Good e n)
   meaning [] make test all more holds is = inr is
   meaning {A} (row ∷ table) make test all more holds is =
-      elim (either_way (begins row.0 bits)) [
+      elim (cases_Bool (begins row.0 bits)) [
         | inl here ↦
             let word = subst (λ (b : Bool). word_at all bits (cond b (Some (word_row row.0 (make row.1))) (front (table_rows table make ++ more))) ≡ Good e n) here is in
-            inl (row.1, whole_is row.0 (make row.1) _ (nat_lt (length bits) (length row.0 + 0)) word, and_left (test row.1) _ holds)
+            inl (row.1, whole_is row.0 (make row.1) _ (nat_lt (length bits) (length row.0 + 0)) word, (and_parts (test row.1) _ holds).0)
         | inr other ↦
             let later = subst (λ (b : Bool). word_at all bits (cond b (Some (word_row row.0 (make row.1))) (front (table_rows table make ++ more))) ≡ Good e n) other is in
-            meaning table make test all more (and_right (test row.1) _ holds) later
+            meaning table make test all more (and_parts (test row.1) _ holds).1 later
       ]
 
 one_in_front : (word bits : List Bool) → begins word bits ≡ true → list_any (λ b. b) word ≡ true → list_any (λ b. b) bits ≡ true
@@ -54,9 +54,9 @@ one_in_front (false ∷ word) (true ∷ bits) front one = refl
 one_in_word : (all rows : List (Row Element)) (bits : List Bool) (e : Element) (n : ℕ) → list_all (λ row. list_any (λ b. b) row.code) rows ≡ true → word_at all bits (find (λ row. begins row.code bits) rows) ≡ Good e n → list_any (λ b. b) bits ≡ true
 one_in_word all [] bits e n ones is = absurd cc
 one_in_word all (row ∷ rows) bits e n ones is =
-    elim (either_way (begins row.code bits)) [
-      | inl here ↦ one_in_front row.code bits here (and_left (list_any (λ b. b) row.code) _ ones)
-      | inr other ↦ one_in_word all rows bits e n (and_right (list_any (λ b. b) row.code) _ ones) (subst (λ (b : Bool). word_at all bits (cond b (Some row) (find (λ row. begins row.code bits) rows)) ≡ Good e n) other is)
+    elim (cases_Bool (begins row.code bits)) [
+      | inl here ↦ one_in_front row.code bits here (and_parts (list_any (λ b. b) row.code) _ ones).0
+      | inr other ↦ one_in_word all rows bits e n (and_parts (list_any (λ b. b) row.code) _ ones).1 (subst (λ (b : Bool). word_at all bits (cond b (Some row) (find (λ row. begins row.code bits) rows)) ≡ Good e n) other is)
     ]
 
 mba_ones : list_all (λ row. list_any (λ b. b) row.code) mba_rows ≡ true
@@ -100,15 +100,11 @@ mba_above bits d n is =
 none_left : (all : List (Row Element)) (bits : List Bool) (e : Element) (n : ℕ) → word_at all bits None ≡ Good e n → ⊥
 none_left all bits e n is = cc
 
-append_nil : {A : Type 0} (xs : List A) → xs ++ [] ≡ xs
-append_nil [] = refl
-append_nil (x ∷ xs) = ap (λ t. x ∷ t) (append_nil xs)
-
 -- CBP has six bits
 pub cbp_within : (bits : List Bool) (c n : ℕ) → read (table_rows cbp_table Cbp) bits ≡ Good (Cbp c) n → c < 64
 cbp_within bits c n is =
     let all : List (Row Element) = table_rows cbp_table Cbp in
-    let again = subst (λ (rows : List (Row Element)). word_at all bits (find (λ row. begins row.code bits) rows) ≡ Good (Cbp c) n) (sym (append_nil all)) is in
+    let again = subst (λ (rows : List (Row Element)). word_at all bits (find (λ row. begins row.code bits) rows) ≡ Good (Cbp c) n) (sym (append-nil all)) is in
     elim (meaning bits (Cbp c) n cbp_table Cbp (λ k. nat_lt k 64) all [] cbp_below again) [
       | inl row ↦ subst (λ (k : ℕ). k < 64) (sym (same_cbp c row.0 row.1)) (ltb-true row.0 64 row.2)
       | inr none ↦ absurd (none_left all bits (Cbp c) n none)

@@ -1,7 +1,7 @@
 -- What stands where a macroblock may: the words of MBA, and a group's start code behind them in the list.
 use Rattle.std.proofs.Common.{◌≡◌, ◌≢◌, ℕ, ◌+◌, ◌-◌, ◌/◌, ◌^◌, ◌≤◌, ◌<◌, ◌==◌, ◌||◌, not, Bool, true, false, cond, List, [], ◌∷◌, ◌++◌, length, take, map, Option, Some, None, nat_lt, min, if◌then◌else◌, inl, inr, refl, sym, ◌∙◌, ap, subst, arith, pow_pos, zero-add}
 use Rattle.std.specs.List.{find, list_any, list_all}
-use Rattle.std.proofs.lemmas.Bool.{eqb-true}
+use Rattle.std.proofs.lemmas.Bool.{eqb-true, and_parts, cases_Bool, false_from_ne_true, le-ltb, ne_eqb}
 use Rattle.std.proofs.lemmas.List.{take_all}
 use Rattle.pel_bits.specs.Bits as bits
 use Rattle.pel_model.specs.declared.Format.{Format}
@@ -11,10 +11,9 @@ use Rattle.pel_model.specs.Codes.{begins, group_start_code, mba_table}
 use Rattle.pel_model.specs.Walk.{Step, Good, Bad, Stop, Row, read, cause, whole_word, word_at, judged}
 use Rattle.pel_model.specs.Grammar.{Element, Gbsc, Stuffing, Slot, slot, AtGroup, AtMacroblock, at_slot, is_end, rows, mba_rows, gbsc_row, next}
 use Rattle.pel_model.proofs.Steps.{judge, next-at, judged-good, judged-none}
-use Rattle.vlc_codes.proofs.WordLaws.{either_way, and_left, and_right, begins_length, begins_longer, cause-cut}
+use Rattle.vlc_codes.proofs.WordLaws.{begins_length, begins_longer, cause-cut}
 use Rattle.h261_mb.proofs.Words.{read_front}
-use Rattle.picture_laws.proofs.Basics.{not_less, not_same}
-use Rattle.h261_pic.proofs.HeaderSteps.{begins_front, front_begins, is_false, is_number}
+use Rattle.h261_pic.proofs.HeaderSteps.{begins_front, front_begins, is_number}
 
 -- ---- bits that are all 0
 
@@ -22,7 +21,7 @@ pub ones : (left : List Bool) → (bits.number left == 0) ≡ not (list_any (λ 
 unfolding bits.number
 ones [] = refl
 ones (false ∷ left) = ap (λ (n : ℕ). n == 0) (zero-add (bits.number left)) ∙ ones left
-ones (true ∷ left) = not_same (2 ^ length left + bits.number left) 0 (λ zero_is. absurd (omega (arith, pow_pos (length left))))
+ones (true ∷ left) = ne_eqb (2 ^ length left + bits.number left) 0 (λ zero_is. absurd (omega (arith, pow_pos (length left))))
 
 -- ---- the list of words
 
@@ -63,18 +62,18 @@ module _ (left : List Bool) where
   whole : (row : Row Element) (why : Why) → row.tail ≡ 0 → begins row.code left ≡ true → whole_word row left ≡ Bad why → ⊥
   whole row why no_tail here bad =
       is_good _ _ why (nat_lt (length left) (length row.code + row.tail))
-      (not_less (length left) (length row.code + row.tail) (omega (arith, no_tail, begins_length row.code left here))) bad
+      (le-ltb (length left) (length row.code + row.tail) (omega (arith, no_tail, begins_length row.code left here))) bad
 
   -- no word is found where none is read
   none_found : (all rows : List (Row Element)) (why : Why) → list_all (λ (row : Row Element). row.tail == 0) rows ≡ true → word_at all left (front rows) ≡ Bad why → front rows ≡ None
   none_found all [] why plain bad = refl
   none_found all (row ∷ rows) why plain bad =
-      elim (either_way (begins row.code left)) [
+      elim (cases_Bool (begins row.code left)) [
         | inl here ↦
-            absurd (whole row why (eqb-true row.tail 0 (and_left (row.tail == 0) _ plain)) here (subst (λ (b : Bool). word_at all left (cond b (Some row) (front rows)) ≡ Bad why) here bad))
+            absurd (whole row why (eqb-true row.tail 0 (and_parts (row.tail == 0) _ plain).0) here (subst (λ (b : Bool). word_at all left (cond b (Some row) (front rows)) ≡ Bad why) here bad))
         | inr other ↦
             ap (λ (b : Bool). cond b (Some row) (front rows)) other
-            ∙ none_found all rows why (and_right (row.tail == 0) _ plain) (subst (λ (b : Bool). word_at all left (cond b (Some row) (front rows)) ≡ Bad why) other bad)
+            ∙ none_found all rows why (and_parts (row.tail == 0) _ plain).1 (subst (λ (b : Bool). word_at all left (cond b (Some row) (front rows)) ≡ Bad why) other bad)
       ]
 
   -- where none of these is found, the first of the others
@@ -121,7 +120,7 @@ module _ (left : List Bool) where
     pub group-good : 16 ≤ length left → take 16 left ≡ take 16 group_start_code → read union left ≡ Good Gbsc 16
     group-good long same =
         at_code true (begins_front group_start_code left same)
-        ∙ ap (λ (short : Bool). if short then Bad Cut else Good Gbsc 16) (not_less (length left) 16 long)
+        ∙ ap (λ (short : Bool). if short then Bad Cut else Good Gbsc 16) (le-ltb (length left) 16 long)
 
     pub group-cut : (k : ℕ) → k ≡ length left → k < 16 → take k left ≡ take k group_start_code → read union left ≡ Bad Cut
     group-cut k len short same =
@@ -136,8 +135,8 @@ module _ (left : List Bool) where
 
     pub group-none : (begins group_start_code left ≡ true → ⊥) → (begins left group_start_code ≡ true → ⊥) → read union left ≡ Bad why
     group-none not_whole not_front =
-        let same : is_cut union ≡ is_cut words = cut_either words gbsc_row ∙ or_false (is_cut words) (begins left group_start_code) (is_false (begins left group_start_code) not_front) in
-        at_code false (is_false (begins group_start_code left) not_whole)
+        let same : is_cut union ≡ is_cut words = cut_either words gbsc_row ∙ or_false (is_cut words) (begins left group_start_code) (false_from_ne_true (begins left group_start_code) not_front) in
+        at_code false (false_from_ne_true (begins group_start_code left) not_whole)
         ∙ ap Bad (ap (λ (cut : Bool). if cut then Cut else NoCode) same ∙ reason)
       where
         or_false : (a b : Bool) → b ≡ false → (a || b) ≡ a

@@ -1,5 +1,6 @@
 -- What stands at the slots of a header: a start code, and fields of a width.
 use Rattle.std.proofs.Common.{◌≡◌, ◌≢◌, ℕ, ◌+◌, ◌-◌, ◌*◌, ◌/◌, ◌^◌, ◌≤◌, ◌<◌, ◌==◌, ◌||◌, Bool, true, false, cond, List, [], ◌∷◌, ◌++◌, length, take, Some, None, nat_lt, min, if◌then◌else◌, refl, sym, ◌∙◌, ap, subst, arith, div-lt_iff_lt-mul, pow_pos, pow-add, length-take}
+use Rattle.std.proofs.lemmas.Bool.{false_from_ne_true, le-ltb, or_from}
 use Rattle.std.proofs.lemmas.List.{take_all, take-append-le}
 use Rattle.pel_bits.specs.Reading.{zeros}
 use Rattle.pel_bits.specs.Bits as bits
@@ -12,7 +13,6 @@ use Rattle.pel_model.specs.Codes.{begins, picture_start_code}
 use Rattle.pel_model.specs.Walk.{Good, Bad, read, word_at}
 use Rattle.pel_model.specs.Grammar.{Element, Psc, Tr, Ptype, Gn, Gquant, Slot, slot, AtPsc, AtTr, AtPtype, AtGn, AtGquant, at_slot, or_no_start, rows, word_row, field_rows, faults, first_why, next}
 use Rattle.pel_model.proofs.Steps.{judge, next-at, judged-good, judged-bad, judged-none, field-good, field-cut}
-use Rattle.picture_laws.proofs.Basics.{not_less}
 use Rattle.vlc_codes.proofs.WordLaws.{begins_length, begins_longer, cause-cut, cause-none}
 use Rattle.h261_pic.specs.HeaderElements.{Layer, OfPicture, OfGroup, FieldOf, flag_of, spare_of, flag_slot, spare_slot}
 
@@ -127,17 +127,10 @@ at-psc left = refl
 found : (left : List Bool) (here : Bool) → begins picture_start_code left ≡ here → read (word_row picture_start_code Psc ∷ []) left ≡ word_at (word_row picture_start_code Psc ∷ []) left (cond here (Some (word_row picture_start_code Psc)) None)
 found left here is = ap (λ (b : Bool). word_at (word_row picture_start_code Psc ∷ []) left (cond b (Some (word_row picture_start_code Psc)) None)) is
 
-pub is_false : (b : Bool) → (b ≡ true → ⊥) → b ≡ false
-is_false true h = absurd (h refl)
-is_false false h = refl
-
-pub or_none : (b : Bool) → b ≡ false → (b || false) ≡ false
-or_none b is = ap (λ (c : Bool). c || false) is
-
 module _ (format : Format) (before : List Element) (r : List Bool × ℕ) (due : slot before ≡ AtPsc) where
   pub start-good : 20 ≤ length r.0 → take 20 r.0 ≡ take 20 picture_start_code → next format before r ≡ Good Psc 20
   start-good long same =
-      let whole : nat_lt (length r.0) 20 ≡ false = not_less (length r.0) 20 long in
+      let whole : nat_lt (length r.0) 20 ≡ false = le-ltb (length r.0) 20 long in
       let word : read (word_row picture_start_code Psc ∷ []) r.0 ≡ Good Psc 20 =
       found r.0 true (begins_front picture_start_code r.0 same) ∙ ap (λ (short : Bool). if short then Bad Cut else Good Psc 20) whole in
       next-at format before r AtPsc due
@@ -156,8 +149,8 @@ module _ (format : Format) (before : List Element) (r : List Bool × ℕ) (due :
   pub start-none : (begins picture_start_code r.0 ≡ true → ⊥) → (begins r.0 picture_start_code ≡ true → ⊥) → next format before r ≡ Bad NoStart
   start-none not_whole not_front =
       let word : read (word_row picture_start_code Psc ∷ []) r.0 ≡ Bad NoCode =
-      found r.0 false (is_false (begins picture_start_code r.0) not_whole)
-      ∙ ap Bad (cause-none (picture_start_code ∷ []) r.0 (or_none (begins r.0 picture_start_code) (is_false (begins r.0 picture_start_code) not_front))) in
+      found r.0 false (false_from_ne_true (begins picture_start_code r.0) not_whole)
+      ∙ ap Bad (cause-none (picture_start_code ∷ []) r.0 (or_from (begins r.0 picture_start_code) false (false_from_ne_true (begins r.0 picture_start_code) not_front) refl)) in
       next-at format before r AtPsc due
       ∙ judged-none (judge format before) NoStart (at_slot AtPsc r.0) (at-psc r.0 ∙ ap (or_no_start AtPsc) word)
 

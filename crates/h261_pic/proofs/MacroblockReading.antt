@@ -1,14 +1,12 @@
 -- A macroblock that was read joins its group, with its mark.
-use Rattle.std.proofs.Common.{◌≡◌, ℕ, ◌+◌, ◌-◌, ◌<◌, ◌≤◌, Bool, true, ℤ, List, [], ◌∷◌, ◌++◌, length, take, drop, Option, None, Some, refl, sym, ◌∙◌, ap, subst, arith, length-append, length-drop, nat_lt, inl, inr}
-use Rattle.std.specs.List.{list_all}
-use Rattle.std.proofs.lemmas.Bool.{ltb-true}
+use Rattle.std.proofs.Common.{◌≡◌, ℕ, ◌+◌, ◌-◌, ◌<◌, ◌≤◌, Bool, ℤ, List, [], ◌∷◌, ◌++◌, length, take, drop, Option, None, Some, sym, ◌∙◌, ap, subst, arith, length-append, length-drop}
 use Rattle.std.proofs.lemmas.List.Elements.{All-push}
 use Rattle.std.proofs.Math.Seq.{take-append_seam}
 use Rattle.pel_model.specs.declared.Format.{Format}
 use Rattle.pel_model.specs.declared.Mark.{Mark}
 use Rattle.pel_model.specs.declared.MbKind.{MbKind}
 use Rattle.pel_model.specs.declared.MbKind.TheVariants.{Intra}
-use Rattle.pel_model.specs.Codes.{is_intra, mba_table}
+use Rattle.pel_model.specs.Codes.{is_intra}
 use Rattle.pel_model.specs.Marks.{quant_behind, mark_of, macroblock_marks}
 use Rattle.pel_model.specs.Records.{Across, Down, Macroblock}
 use Rattle.pel_model.specs.Text.{macroblock_text, macroblocks_text}
@@ -16,16 +14,14 @@ use Rattle.pel_model.specs.Valid.{limit}
 use Rattle.pel_model.specs.Walk.{after, Goes}
 use Rattle.pel_model.specs.Elements.{elements_behind_mba, macroblock_elements}
 use Rattle.pel_model.proofs.InsideElements.{inside-macroblock}
-use Rattle.pel_model.specs.Grammar.{Element, Gbsc, Stuffing, Mba, Mtype, Slot, AtMacroblock, slot, begun, counted, next, picture}
+use Rattle.pel_model.specs.Grammar.{Element, Mba, Mtype, slot, begun, counted, next, picture}
 use Rattle.pel_model.proofs.Walks.{goes-append, after-append}
 use Rattle.picture_laws.specs.SoFar.{IsJoined, last_of, in_effect}
 use Rattle.picture_laws.specs.Elements as by_record
 use Rattle.picture_laws.proofs.Chains.{goes-walk, words, word_in, next-is}
 use Rattle.picture_laws.proofs.Joins.{macroblock-joins}
 use Rattle.picture_laws.proofs.Limits.{goes-next, goes-within}
-use Rattle.picture_laws.proofs.Rows.{among-all}
-use Rattle.picture_laws.proofs.Slots.{word_at, Takes, IsStep}
-use Rattle.picture_laws.proofs.Written.{found_step}
+use Rattle.picture_laws.proofs.Longs.{word-some}
 use Rattle.h261_mb.specs.declared.state.MbState.{MbState}
 use Rattle.h261_mb.specs.State.{Stands, IsRead}
 use Rattle.h261_pic.specs.Coded.{placed, bits_at}
@@ -52,43 +48,18 @@ joined_mark : (at number from end : ℕ) (state : MbState) (mark : Mark) (intra 
 joined_mark at number from end state mark intra quant last p is len address q h v i =
     ap (λ (m : Mark). record m { at = at; group = number }) is ∙ cc
 
--- ---- it moves on
+-- ---- it moves on, from its MBA
 
-mba_long : list_all (λ row. nat_lt 0 (length row.0)) mba_table ≡ true
-unfolding mba_table
-mba_long = refl
-
-step_long : (n : ℕ) → IsStep n → 0 < length (word_at AtMacroblock (Mba n))
-step_long n is =
-    let f = found_step n is in
-    ltb-true 0 (length (word_at AtMacroblock (Mba n))) (ap (λ (w : List Bool). nat_lt 0 (length w)) f.2 ∙ among-all (λ row. nat_lt 0 (length row.0)) f.0 mba_table mba_long f.1)
-
-mba_step : (s : Slot) (n : ℕ) → s ≡ AtMacroblock → Takes s (Mba n) → IsStep n
-mba_step s n due t = elim (subst (λ (x : Slot). Takes x (Mba n)) due t) [
-  | inl a ↦ let same : n ≡ a.0 = mba_same n a.0 a.2 in subst IsStep (sym same) a.1
-  | inr a ↦ elim a [ inl b ↦ absurd (mba_not_stuffing n b) | inr b ↦ absurd (mba_not_gbsc n b) ]
-]
-  where
-    mba_same : (n m : ℕ) → Mba n ≡ Mba m → n ≡ m
-    mba_same n m h = cc
-
-    mba_not_stuffing : (n : ℕ) → Mba n ≡ Stuffing → ⊥
-    mba_not_stuffing n h = cc
-
-    mba_not_gbsc : (n : ℕ) → Mba n ≡ Gbsc → ⊥
-    mba_not_gbsc n h = cc
-
--- from its MBA
-goes_on : (format : Format) (before : List Element) (r end : List Bool × ℕ) (d : ℕ) (es : List Element) → slot before ≡ AtMacroblock → Goes (next format) before r (Mba d ∷ es) end → r.1 < end.1
-goes_on format before r end d es due goes =
+goes_on : (format : Format) (before : List Element) (r end : List Bool × ℕ) (d : ℕ) (es : List Element) → Goes (next format) before r (Mba d ∷ es) end → r.1 < end.1
+goes_on format before r end d es goes =
     let w = goes-walk format before r (Mba d ∷ es) end goes in
     let takes = (next-is format before r (Mba d) goes.0 goes.1).0.takes in
-    let some : 0 < length (word_in before (Mba d)) = subst (λ (s : Slot). 0 < length (word_at s (Mba d))) (sym due) (step_long d (mba_step (slot before) d due takes)) in
+    let some = word-some (slot before) (Mba d) takes in
     omega (arith, w.place, some, length-append (word_in before (Mba d)) (words (Mba d ∷ before) es))
 
-pub macroblock-on : (format : Format) (before : List Element) (r new : List Bool × ℕ) (number : ℕ) (state : MbState) (mark : Mark) (es : List Element) → slot before ≡ AtMacroblock → Goes (picture format) before r es new → IsRead number r.1 before state mark es new → r.1 < new.1
-macroblock-on format before r new number state mark es due goes is =
-    goes_on format before r new is.difference (elements_behind_mba is.across is.down is.macroblock) due (goes-next format before r (Mba is.difference ∷ elements_behind_mba is.across is.down is.macroblock) new (subst (λ (x : List Element). Goes (picture format) before r x new) is.elements goes))
+pub macroblock-on : (format : Format) (before : List Element) (r new : List Bool × ℕ) (number : ℕ) (state : MbState) (mark : Mark) (es : List Element) → Goes (picture format) before r es new → IsRead number r.1 before state mark es new → r.1 < new.1
+macroblock-on format before r new number state mark es goes is =
+    goes_on format before r new is.difference (elements_behind_mba is.across is.down is.macroblock) (goes-next format before r (Mba is.difference ∷ elements_behind_mba is.across is.down is.macroblock) new (subst (λ (x : List Element). Goes (picture format) before r x new) is.elements goes))
 
 -- ---- the group with it
 
@@ -111,7 +82,7 @@ macroblock-read format bits groups before from r new number quant state state' m
     let m : Macroblock = j.macroblock in
     let text : List Bool = macroblock_text (last_of None s.macroblocks) m in
     let w = goes-walk format there r more new plain in
-    let on = goes_on format there r new is.difference (elements_behind_mba is.across is.down is.macroblock) s.stands.due plain in
+    let on = goes_on format there r new is.difference (elements_behind_mba is.across is.down is.macroblock) plain in
     let here : r.0 ≡ drop r.1 bits = walk-place format bits before from r s.es s.walk place in
     let size : new.1 - r.1 ≡ length text = omega (arith, w.place, ap length w.bits, ap length j.bits, length-append (words there more) new.0, length-append text new.0) in
     let taken : take (new.1 - r.1) (drop r.1 bits) ≡ text = ap (λ (k : ℕ). take k (drop r.1 bits)) size ∙ (ap (take (length text)) (sym here ∙ j.bits) ∙ take-append_seam text new.0) in

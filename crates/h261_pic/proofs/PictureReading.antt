@@ -1,7 +1,6 @@
 -- A picture as far as it was read: its header, then groups that were read or left out, and the strict text of all of them.
 use Rattle.std.proofs.Common.{◌≡◌, ℕ, ◌+◌, ◌-◌, ◌*◌, ◌<◌, ◌≤◌, Bool, true, false, List, [], ◌∷◌, ◌++◌, length, take, drop, slice_index, None, refl, sym, ◌∙◌, ap, subst, arith, length-append, nat_lt, inl, inr}
-use Rattle.std.proofs.lemmas.Bool.{ltb-true, ltb-false}
-use Rattle.vlc_codes.proofs.WordLaws.{either_way}
+use Rattle.std.proofs.lemmas.Bool.{ltb-true, ltb-false, cases_Bool}
 use Rattle.std.proofs.lemmas.List.{take_all}
 use Rattle.pel_model.specs.declared.Format.{Format}
 use Rattle.pel_model.specs.declared.Format.TheVariants.{Qcif, Cif}
@@ -139,7 +138,7 @@ stands-next format bits last groups number place another into r s above below is
     record {
       below = below;
       number_is = is;
-      behind = elim (either_way (nat_lt place (length s.pic.groups))) [
+      behind = elim (cases_Bool (nat_lt place (length s.pic.groups))) [
         | inl within ↦ absurd (omega (arith, above, is, s.passed place (ltb-true place (length s.pic.groups) within)))
         | inr past ↦ ltb-false place (length s.pic.groups) past
       ];

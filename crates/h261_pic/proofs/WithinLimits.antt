@@ -1,7 +1,8 @@
 -- A part of a picture that was read without the limit, and where it ends past the limit, again over the bits that the
 -- limit leaves: what it is in the picture.
 use Rattle.std.proofs.Common.{◌≡◌, ℕ, ◌+◌, ◌-◌, ◌<◌, ◌≤◌, Bool, true, List, [], ◌∷◌, take, drop, Result, Ok, Err, nat_lt, ◌⊎◌, inl, inr, refl, sym, ◌∙◌, ap, subst, arith}
-use Rattle.std.proofs.lemmas.Bool.{ltb-true, ltb-false}
+use Rattle.std.proofs.lemmas.Bool.{ltb-true, ltb-false, cases_Bool}
+use Rattle.vlc_codes.specs.Lookup.{codes_of_rows}
 use Rattle.pel_model.specs.declared.Fault.{Fault}
 use Rattle.pel_model.specs.declared.Format.{Format}
 use Rattle.pel_model.specs.declared.Why.{Why}
@@ -12,12 +13,10 @@ use Rattle.pel_model.specs.Grammar.{Element, Mba, slot, AtMacroblock, address, m
 use Rattle.pel_model.proofs.Walks.{same_walk}
 use Rattle.picture_laws.specs.Laws.{Leaves, TooLongAt}
 use Rattle.pel_model.specs.Elements.{AreInside}
-use Rattle.picture_laws.proofs.Rows.{codes_of}
 use Rattle.picture_laws.proofs.Chains.{goes-walk}
 use Rattle.picture_laws.proofs.Limits.{picture-good, picture-long, picture-bad}
 use Rattle.picture_laws.proofs.Cuts.{drop-take, cut-good, read-cut, read-kept, within-the-limit, past-the-limit, same_good, bad_good}
 use Rattle.picture_laws.proofs.Joins.{inside-stands}
-use Rattle.vlc_codes.proofs.WordLaws.{either_way}
 use Rattle.h261_mb.proofs.Slots.{mba-good, mba-bad}
 use Rattle.h261_pic.specs.Reached.{Reached}
 
@@ -113,7 +112,7 @@ module _ {X : Type 0} (format : Format) (before : List Element) (Wanted : X → 
 
 -- ---- a macroblock
 
-mba_free : is_prefix_free (codes_of mba_rows) ≡ true
+mba_free : is_prefix_free (codes_of_rows mba_rows) ≡ true
 unfolding mba_table
 mba_free = refl
 
@@ -123,7 +122,7 @@ module _ (format : Format) (before : List Element) (old : List Bool × ℕ) (d n
 
   -- MBA is good, or its address is past the last
   mba_either : (next format before old ≡ Good first n) ⊎ (next format before old ≡ Bad BadAddress)
-  mba_either = elim (either_way (nat_lt 33 (address before + d))) [
+  mba_either = elim (cases_Bool (nat_lt 33 (address before + d))) [
     | inl far ↦ inr (mba-bad format before old (address before) d n due refl is (ltb-true 33 (address before + d) far))
     | inr near ↦ inl (mba-good format before old (address before) d n due refl is (ltb-false 33 (address before + d) near))
   ]
@@ -171,7 +170,7 @@ module _ (format : Format) (before : List Element) (old : List Bool × ℕ) (d n
 
         pub macroblock-long : old.1 + k < new.1 → IsTooLong format before old new_again.1
         macroblock-long far = elim mba_either [
-          | inl good ↦ elim (either_way (nat_lt k n)) [
+          | inl good ↦ elim (cases_Bool (nat_lt k n)) [
             | inl short ↦ long_mba good (ltb-true k n short)
             | inr fits ↦ long_behind_mba good (ltb-false k n fits) far
           ]

@@ -1,5 +1,6 @@
 -- A share is split, and two are joined.
-use Rattle.std.proofs.Common.{◌≡◌, ◌⊎◌, ℕ, ◌+◌, ◌≤◌, ◌<◌, Bool, true, false, cond, leb, ◌||◌, List, [], ◌∷◌, ◌++◌, length, set, sum_by, sym, ap, refl, ◌∙◌, subst, ⊎_elim, inl, inr, arith, Option, None, Box}
+use Rattle.std.proofs.Common.{◌≡◌, ℕ, ◌+◌, ◌≤◌, ◌<◌, Bool, false, cond, leb, List, [], ◌∷◌, ◌++◌, length, set, sum_by, sym, ap, refl, ◌∙◌, subst, ⊎_elim, arith, Option, None, Box}
+use Rattle.std.proofs.lemmas.Bool.{or_cases}
 use Rattle.std.specs.Global.{Global}
 use Rattle.std.proofs.lemmas.List.Sums.{sum_by_push}
 use mathlib.Core.Option.{some}
@@ -15,10 +16,6 @@ use Rattle.hall_lock.proofs.Kept.{seats_after, gone_after, not_gone}
 
 abbrev one_if : Bool → ℕ
 one_if b = cond b 1 0
-
-either_of : (a b : Bool) → a || b ≡ true → (a ≡ true) ⊎ (b ≡ true)
-either_of true b e = inl refl
-either_of false b e = inr e
 
 module _ {M C R S : Type 0} (shape : M → S) (fits : S → C → Type 0) (steps : M → C → R → M → Type 0) (m : M) (most : ℕ) where
   abbrev St : Type 0
@@ -95,7 +92,7 @@ module _ {M C R S : Type 0} (shape : M → S) (fits : S → C → Type 0) (steps
         behind = omega (arith, it.behind, their.behind);
         places = λ y past. omega (arith, placed y, it.places y (omega (arith, wide.0)), their.places y (omega (arith, wide.1)));
         holds_turn = λ e. absurd (cc (e, waits_not));
-        sold_out = λ e. ⊎_elim it.sold_out their.sold_out (either_of v.full w.full e);
+        sold_out = λ e. ⊎_elim it.sold_out their.sold_out (or_cases v.full w.full e);
       } in record {
         tickets = r.tickets;
         turn = r.turn;

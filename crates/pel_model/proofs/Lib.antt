@@ -1,3 +1,4 @@
+pub mod BlockElements
 pub mod InsideElements
 pub mod Steps
 pub mod Walks

@@ -1,6 +1,6 @@
 -- Steps of the grammar: a slot's words, fields of a width, and what is judged of an element.
-use Rattle.std.proofs.Common.{◌≡◌, ℕ, ◌<◌, ◌≤◌, Bool, true, false, List, length, take, Option, Some, None, nat_lt, if◌then◌else◌, refl, ◌∙◌, ap, zero-add, arith}
-use Rattle.std.proofs.lemmas.Bool.{ltb-true, lt-ltb}
+use Rattle.std.proofs.Common.{◌≡◌, ℕ, ◌<◌, ◌≤◌, Bool, List, length, take, Option, Some, None, nat_lt, if◌then◌else◌, ◌∙◌, ap, zero-add}
+use Rattle.std.proofs.lemmas.Bool.{lt-ltb, le-ltb, cond-true, cond-false}
 use Rattle.pel_model.specs.declared.Format.{Format}
 use Rattle.pel_model.specs.declared.Why.{Why}
 use Rattle.pel_model.specs.declared.Why.TheVariants.{Cut}
@@ -28,25 +28,13 @@ judged-bad judge e n why here is fault = ap (judged judge) is ∙ ap (verdict e 
 pub judged-none : {E : Type 0} (judge : E → ℕ → Option Why) (why : Why) (here : Step E) → here ≡ Bad why → judged judge here ≡ Bad why
 judged-none judge why here is = ap (judged judge) is
 
-choose : {A : Type 0} (b : Bool) (x y : A) → b ≡ true → (if b then x else y) ≡ x
-choose true x y h = refl
-choose false x y h = absurd cc
-
-choose_other : {A : Type 0} (b : Bool) (x y : A) → b ≡ false → (if b then x else y) ≡ y
-choose_other true x y h = absurd cc
-choose_other false x y h = refl
-
-not_less : (a b : ℕ) (less : Bool) → nat_lt a b ≡ less → b ≤ a → less ≡ false
-not_less a b true is h = absurd (omega (arith, ltb-true a b is))
-not_less a b false is h = refl
-
 -- any bits of a width
 pub field-good : (width : ℕ) (make : ℕ → Element) (bits : List Bool) → width ≤ length bits → read (field_rows width make) bits ≡ Good (make (number (take width bits))) width
 field-good width make bits fits =
     ap (λ (n : ℕ). if nat_lt (length bits) n then Bad Cut else Good (make (number (take width bits))) n) (zero-add width)
-    ∙ choose_other (nat_lt (length bits) width) (Bad Cut) (Good (make (number (take width bits))) width) (not_less (length bits) width (nat_lt (length bits) width) refl fits)
+    ∙ cond-false (nat_lt (length bits) width) (Bad Cut) (Good (make (number (take width bits))) width) (le-ltb (length bits) width fits)
 
 pub field-cut : (width : ℕ) (make : ℕ → Element) (bits : List Bool) → length bits < width → read (field_rows width make) bits ≡ Bad Cut
 field-cut width make bits short =
     ap (λ (n : ℕ). if nat_lt (length bits) n then Bad Cut else Good (make (number (take width bits))) n) (zero-add width)
-    ∙ choose (nat_lt (length bits) width) (Bad Cut) (Good (make (number (take width bits))) width) (lt-ltb (length bits) width short)
+    ∙ cond-true (nat_lt (length bits) width) (Bad Cut) (Good (make (number (take width bits))) width) (lt-ltb (length bits) width short)

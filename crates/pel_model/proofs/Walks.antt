@@ -13,7 +13,7 @@ after-append before (x ∷ xs) ys = after-append (x ∷ before) xs ys
 pub skipped-skipped : (m n : ℕ) (r : List Bool × ℕ) → skipped m (skipped n r) ≡ skipped (n + m) r
 skipped-skipped m n r = ap (λ (bs : List Bool). (bs, r.1 + n + m)) (drop-drop m n r.0) ∙ ap (λ (k : ℕ). (drop (n + m) r.0, k)) (add_assoc r.1 n m)
 
-good_same : {E : Type 0} (x y : E) (n m : ℕ) → Good x n ≡ Good y m → (x ≡ y) × (n ≡ m)
+pub good_same : {E : Type 0} (x y : E) (n m : ℕ) → Good x n ≡ Good y m → (x ≡ y) × (n ≡ m)
 good_same x y n m same = (cc, cc)
 
 good_not_stop : {E : Type 0} (s : Step E) (e : E) (n : ℕ) → s ≡ Stop → s ≡ Good e n → ⊥

@@ -1,7 +1,8 @@
 -- The block layer: the elements of a valid block may stand at its place, and their words are its text.
-use Rattle.std.proofs.Common.{◌≡◌, ℕ, zero, suc, ◌+◌, ◌-◌, ◌≤◌, ◌==◌, ◌&&◌, ◌||◌, Bool, true, false, cond, List, [], ◌∷◌, ◌++◌, map, Option, Some, None, nat_lt, refl, sym, ◌∙◌, ap, subst, inl, inr, ◌⊎◌, append_assoc, ℤ, pos, negsuc, MatchBool, All, sum_by, arith}
+use Rattle.std.proofs.Common.{◌≡◌, ℕ, suc, ◌+◌, ◌-◌, ◌≤◌, ◌==◌, ◌&&◌, ◌||◌, Bool, true, false, cond, List, [], ◌∷◌, ◌++◌, map, Option, Some, None, nat_lt, refl, sym, ◌∙◌, ap, subst, inl, inr, ◌⊎◌, append_assoc, ℤ, pos, negsuc, MatchBool, All, sum_by, arith}
+use Rattle.std.proofs.lemmas.List.Elements.{All-head, All-tail}
 use Rattle.std.specs.List.{flat_map}
-use Rattle.std.proofs.lemmas.Bool.{false≢true}
+use Rattle.std.proofs.lemmas.Bool.{false≢true, eqb-false, le-ltb, ne_eqb}
 use Rattle.std.proofs.lemmas.List.Sums.{sum_by-cons}
 use Rattle.pel_model.specs.declared.Format.{Format}
 use Rattle.pel_model.specs.declared.MbKind.{MbKind}
@@ -14,9 +15,9 @@ use Rattle.pel_model.specs.Text.{coefficient_word, coefficients_text, block_text
 use Rattle.pel_model.specs.Valid.{IsLongLevel, IsValidCoefficient, IsIntraBlock, IsCodedBlock}
 use Rattle.pel_model.specs.Walk.{after}
 use Rattle.pel_model.specs.Grammar.{Element, Dc, Tcoeff, Eob, Slot, AtDc, AtFirst, AtCoefficient, AtMacroblock, slot, kind, blocks, filled, group, address, vector, first_why, is_forbidden_level, block_slot}
+use Rattle.pel_model.proofs.BlockElements.{pass_block, block-blocks, block-slot, first-filled}
 use Rattle.pel_model.proofs.Walks.{after-append}
-use Rattle.pel_model.specs.Elements.{dc_elements, block_elements, blocks_elements}
-use Rattle.picture_laws.proofs.Basics.{not_less, not_same, not_equal}
+use Rattle.pel_model.specs.Elements.{block_elements, blocks_elements}
 use Rattle.picture_laws.proofs.Slots.{one_at, Takes, IsSent, IsByteLevel}
 use Rattle.picture_laws.proofs.Chains.{Stands, Chain, word_in, words, chain-append, words-append}
 
@@ -41,21 +42,6 @@ says-append format before xs ys a b p q = record {
 pub says-text : (format : Format) (before es : List Element) (a b : List Bool) → a ≡ b → Says format before es a → Says format before es b
 says-text format before es a b is s = record { chain = s.chain; text = s.text ∙ is }
 
--- ---- lists
-
-pub all-head : {A : Type 0} (P : A → Type 0) (x : A) (xs : List A) → All P (x ∷ xs) → P x
-all-head P x xs h = h 0 x (omega arith)
-
-pub all-tail : {A : Type 0} (P : A → Type 0) (x : A) (xs : List A) → All P (x ∷ xs) → All P xs
-all-tail P x xs h = λ k d lt. h (suc k) d (omega (arith, lt))
-
-pub all-cons : {A : Type 0} (P : A → Type 0) (x : A) (xs : List A) → P x → All P xs → All P (x ∷ xs)
-all-cons P x xs p h zero d lt = p
-all-cons P x xs p h (suc k) d lt = h k d (omega (arith, lt))
-
-pub all-nil : {A : Type 0} (P : A → Type 0) → All P []
-all-nil P k d lt = absurd (omega (arith, lt))
-
 -- ---- conditions
 
 pub one_pass : (a : Bool) (x : Why) → a ≡ false → first_why ((a, x) ∷ []) ≡ None
@@ -79,16 +65,16 @@ two_passed false false x y h = (refl, refl)
 -- ---- coefficients
 
 byte_level : (level : ℤ) → IsLongLevel level → IsByteLevel level × (is_forbidden_level level ≡ false)
-byte_level (pos n) h = (omega (arith, h.1), not_same n 0 (λ same. absurd (omega (arith, h.0, same))))
-byte_level (negsuc n) h = (omega (arith, h.1), not_same n 127 (λ same. absurd (omega (arith, h.1, same))))
+byte_level (pos n) h = (omega (arith, h.1), ne_eqb n 0 (λ same. absurd (omega (arith, h.0, same))))
+byte_level (negsuc n) h = (omega (arith, h.1), ne_eqb n 127 (λ same. absurd (omega (arith, h.1, same))))
 
 valid_sent : (run : ℕ) (level : ℤ) (long : Bool) → IsValidCoefficient (record { run = run; level = level; long = long }) → IsSent (record { run = run; level = level; long = long }) × ((long && is_forbidden_level level) ≡ false)
 valid_sent run level true h = let b = byte_level level h.1 in ((h.0, b.0), b.1)
 valid_sent run level false h = (h, refl)
 
 long_level : (level : ℤ) → IsByteLevel level → is_forbidden_level level ≡ false → IsLongLevel level
-long_level (pos n) h ok = let e = not_equal n 0 ok in (omega (arith, e), omega (arith, h))
-long_level (negsuc n) h ok = let e = not_equal n 127 ok in (omega arith, omega (arith, h, e))
+long_level (pos n) h ok = let e = eqb-false n 0 ok in (omega (arith, e), omega (arith, h))
+long_level (negsuc n) h ok = let e = eqb-false n 127 ok in (omega arith, omega (arith, h, e))
 
 pub sent_valid : (run : ℕ) (level : ℤ) (long : Bool) → IsSent (record { run = run; level = level; long = long }) → (long && is_forbidden_level level) ≡ false → IsValidCoefficient (record { run = run; level = level; long = long })
 sent_valid run level true h ok = (h.0, long_level level h.1 ok)
@@ -109,7 +95,7 @@ stands_coefficient format before c at valid fits =
     let v = valid_sent c.run c.level c.long valid in
     record {
       takes = takes_coefficient (slot before) c at v.0;
-      good = two_pass (c.long && is_forbidden_level c.level) (nat_lt 64 (filled before + c.run + 1)) BadLevel TooMany v.1 (not_less 64 (filled before + c.run + 1) fits);
+      good = two_pass (c.long && is_forbidden_level c.level) (nat_lt 64 (filled before + c.run + 1)) BadLevel TooMany v.1 (le-ltb 64 (filled before + c.run + 1) fits);
     }
 
 pub says-coefficients : (format : Format) (before : List Element) (one : List Bool) (cs : List Coefficient) → IsAtCoefficients (slot before) → one_at (slot before) ≡ one → All IsValidCoefficient cs → filled before + sum_by (λ c. c.run + 1) cs ≤ 64 → Says format before (map Tcoeff cs) (coefficients_text one cs)
@@ -117,70 +103,22 @@ says-coefficients format before one [] at is valid fits = says-none format befor
 says-coefficients format before one (c ∷ cs) at is valid fits =
     let sum : sum_by (λ c. c.run + 1) (c ∷ cs) ≡ c.run + 1 + sum_by (λ c. c.run + 1) cs = sum_by-cons (λ (c : Coefficient). c.run + 1) c cs in
     says-cons format before (Tcoeff c) (map Tcoeff cs) (coefficient_word one c) (coefficients_text later_one_word cs)
-    (stands_coefficient format before c at (all-head IsValidCoefficient c cs valid) (omega (arith, sum, fits)))
+    (stands_coefficient format before c at (All-head IsValidCoefficient c cs valid) (omega (arith, sum, fits)))
     (ap (λ one. coefficient_word one c) is)
-    (says-coefficients format (Tcoeff c ∷ before) later_one_word cs (inr refl) refl (all-tail IsValidCoefficient c cs valid) (omega (arith, sum, fits)))
+    (says-coefficients format (Tcoeff c ∷ before) later_one_word cs (inr refl) refl (All-tail IsValidCoefficient c cs valid) (omega (arith, sum, fits)))
 
 -- what coefficients leave as it was
 abbrev pub state : List Element → MbKind × ℕ × ℕ × ℤ × ℤ
 state before = (kind before, group before, address before, vector Across before, vector Down before)
 
-pub coefficients-state : (before : List Element) (cs : List Coefficient) → state (after before (map Tcoeff cs)) ≡ state before
-coefficients-state before [] = refl
-coefficients-state before (c ∷ cs) = coefficients-state (Tcoeff c ∷ before) cs
-
-pub coefficients-blocks : (before : List Element) (cs : List Coefficient) → blocks (after before (map Tcoeff cs)) ≡ blocks before
-coefficients-blocks before [] = refl
-coefficients-blocks before (c ∷ cs) = coefficients-blocks (Tcoeff c ∷ before) cs
-
 pub coefficients-slot : (before : List Element) (cs : List Coefficient) → slot before ≡ AtCoefficient → slot (after before (map Tcoeff cs)) ≡ AtCoefficient
 coefficients-slot before [] h = h
 coefficients-slot before (c ∷ cs) h = coefficients-slot (Tcoeff c ∷ before) cs refl
 
-no_first : AtCoefficient ≡ AtFirst → ⊥
-no_first h = cc
-
-pub first-filled : (before : List Element) → slot before ≡ AtFirst → filled before ≡ 0
-first-filled (Dc n ∷ before) h = absurd (no_first h)
-first-filled (Tcoeff c ∷ before) h = absurd (no_first h)
-first-filled _ h = refl
-
 -- ---- a block
 
--- the block's elements before its end
-abbrev pub inner : List Element → Block → List Element
-inner before b = after (after before (dc_elements b.dc)) (map Tcoeff b.coefficients)
-
-pub after-block : (before : List Element) (b : Block) → after before (block_elements b) ≡ Eob ∷ inner before b
-after-block before b =
-    after-append before (dc_elements b.dc ++ map Tcoeff b.coefficients) (Eob ∷ [])
-    ∙ ap (λ t. Eob ∷ t) (after-append before (dc_elements b.dc) (map Tcoeff b.coefficients))
-
-dc-state : (before : List Element) (dc : Option ℕ) → state (after before (dc_elements dc)) ≡ state before
-dc-state before None = refl
-dc-state before (Some n) = refl
-
-dc-blocks : (before : List Element) (dc : Option ℕ) → blocks (after before (dc_elements dc)) ≡ blocks before
-dc-blocks before None = refl
-dc-blocks before (Some n) = refl
-
-pub inner-state : (before : List Element) (b : Block) → state (inner before b) ≡ state before
-inner-state before b = coefficients-state (after before (dc_elements b.dc)) b.coefficients ∙ dc-state before b.dc
-
-pub inner-blocks : (before : List Element) (b : Block) → blocks (inner before b) ≡ blocks before
-inner-blocks before b = coefficients-blocks (after before (dc_elements b.dc)) b.coefficients ∙ dc-blocks before b.dc
-
 pub block-state : (before : List Element) (b : Block) → state (after before (block_elements b)) ≡ state before
-block-state before b = ap state (after-block before b) ∙ inner-state before b
-
-pub block-blocks : (before : List Element) (b : Block) → blocks (after before (block_elements b)) ≡ blocks before - 1
-block-blocks before b = ap blocks (after-block before b) ∙ ap (λ n. n - 1) (inner-blocks before b)
-
-pub block-slot : (before : List Element) (b : Block) → slot (after before (block_elements b)) ≡ block_slot (kind before) (blocks before - 1)
-block-slot before b =
-    ap slot (after-block before b)
-    ∙ (ap (λ k. block_slot k (blocks (inner before b) - 1)) (ap (λ (s : MbKind × ℕ × ℕ × ℤ × ℤ). s.0) (inner-state before b))
-    ∙ ap (λ n. block_slot (kind before) (n - 1)) (inner-blocks before b))
+block-state before b = ap (λ (s : MbKind × ℕ × ℕ × ℕ × ℤ × ℤ). (s.0, s.1, s.2, s.4, s.5)) (pass_block before b)
 
 -- a block of a macroblock that is Intra or not
 abbrev pub IsBlockOf : Bool → Block → Type 0
@@ -195,7 +133,7 @@ says_block_of format before true None cs at valid = absurd valid.0
 says_block_of format before true (Some n) cs at valid =
     let dc : Stands format before (Dc n) = record {
       takes = subst (λ s. Takes s (Dc n)) (sym at) (n, omega (arith, valid.0.1), refl);
-      good = one_pass (n == 0 || n == 128) BadDc (ap (λ b. b || n == 128) (not_same n 0 (λ same. absurd (omega (arith, same, valid.0.0)))) ∙ not_same n 128 valid.0.2);
+      good = one_pass (n == 0 || n == 128) BadDc (ap (λ b. b || n == 128) (ne_eqb n 0 (λ same. absurd (omega (arith, same, valid.0.0)))) ∙ ne_eqb n 128 valid.0.2);
     } in
     let coefs = says-coefficients format (Dc n ∷ before) later_one_word cs (inr refl) refl valid.1.0 valid.1.1 in
     let end = says_end format (after (Dc n ∷ before) (map Tcoeff cs)) (coefficients-slot (Dc n ∷ before) cs refl) in

@@ -1,7 +1,8 @@
 -- Elements that may stand one behind another, and their words: walks without their bits.
 use Rattle.std.proofs.Common.{◌≡◌, ℕ, ◌+◌, ◌==◌, ◌&&◌, not, Bool, true, false, List, [], ◌∷◌, ◌++◌, length, drop, Option, Some, None, nat_lt, refl, sym, ◌∙◌, ap, inl, inr, append_assoc, arith}
+use Rattle.std.proofs.lemmas.Bool.{cases_Bool, cond-false, cond-true}
 use Rattle.std.specs.List.{list_any, list_all}
-use Rattle.std.proofs.lemmas.List.{length-append}
+use Rattle.std.proofs.lemmas.List.{length-append, drop_at}
 use Rattle.pel_model.specs.declared.Format.{Format}
 use Rattle.pel_model.specs.declared.Why.{Why}
 use Rattle.pel_model.specs.declared.Why.TheVariants.{NoCode}
@@ -9,11 +10,10 @@ use Rattle.pel_model.specs.Codes.{mba_table}
 use Rattle.pel_model.specs.Text.{word_of}
 use Rattle.pel_model.specs.Walk.{Step, Good, Stop, Bad, skipped, after, Goes, read, judged, verdict}
 use Rattle.pel_model.specs.Grammar.{Element, Slot, AtPsc, AtGroup, AtMacroblock, slot, rows, faults, first_why, may_end, is_end, or_no_start, at_slot, next}
-use Rattle.picture_laws.proofs.Rows.{among-all, drop-front}
+use Rattle.picture_laws.proofs.Rows.{among-all}
 use Rattle.picture_laws.proofs.Slots.{word_at, Takes, IsStep}
 use Rattle.picture_laws.proofs.Words.{IsWord, read-slot}
 use Rattle.picture_laws.proofs.Written.{write-slot, found_step}
-use Rattle.vlc_codes.proofs.WordLaws.{either_way, if-true, if-false}
 
 -- an element may stand behind these, and is good there
 pub record Stands (format : Format) (before : List Element) (e : Element) : Type 0 where
@@ -82,9 +82,9 @@ stop_good : {E : Type 0} (e : E) (n : ℕ) → Stop ≡ Good e n → ⊥
 stop_good e n h = cc
 
 pub slot_good : (s : Slot) (left : List Bool) (e : Element) (n : ℕ) → at_slot s left ≡ Good e n → (read (rows s) left ≡ Good e n) × ((may_end s && is_end left) ≡ false)
-slot_good s left e n h = elim (either_way (may_end s && is_end left)) [
-  | inl end ↦ absurd (stop_good e n (sym (if-true (may_end s && is_end left) Stop (or_no_start s (read (rows s) left)) end) ∙ h))
-  | inr on ↦ (or_good s (read (rows s) left) e n (sym (if-false (may_end s && is_end left) Stop (or_no_start s (read (rows s) left)) on) ∙ h), on)
+slot_good s left e n h = elim (cases_Bool (may_end s && is_end left)) [
+  | inl end ↦ absurd (stop_good e n (sym (cond-true (may_end s && is_end left) Stop (or_no_start s (read (rows s) left)) end) ∙ h))
+  | inr on ↦ (or_good s (read (rows s) left) e n (sym (cond-false (may_end s && is_end left) Stop (or_no_start s (read (rows s) left)) on) ∙ h), on)
 ]
 
 pub next-is : (format : Format) (before : List Element) (r : List Bool × ℕ) (e : Element) (n : ℕ) → next format before r ≡ Good e n → Stands format before e × IsWord (slot before) r.0 e n
@@ -133,7 +133,7 @@ has_one AtMacroblock e t h = elim t [
 has_one _ e t h = absurd cc
 
 pub no-end : (s : Slot) (e : Element) (rest : List Bool) → Takes s e → (may_end s && is_end (word_at s e ++ rest)) ≡ false
-no-end s e rest t = elim (either_way (may_end s)) [
+no-end s e rest t = elim (cases_Bool (may_end s)) [
   | inl may ↦ end_not (may_end s) (word_at s e ++ rest) (any_left (word_at s e) rest (has_one s e t may))
   | inr no_ ↦ ap (λ b. b && is_end (word_at s e ++ rest)) no_
 ]
@@ -143,7 +143,7 @@ unfolding next
 next-good format before e rest place s =
     let w = write-slot (slot before) e rest s.takes in
     let at : at_slot (slot before) (word_in before e ++ rest) ≡ Good e (length (word_in before e)) =
-    if-false (may_end (slot before) && is_end (word_in before e ++ rest)) Stop (or_no_start (slot before) (read (rows (slot before)) (word_in before e ++ rest))) (no-end (slot before) e rest s.takes)
+    cond-false (may_end (slot before) && is_end (word_in before e ++ rest)) Stop (or_no_start (slot before) (read (rows (slot before)) (word_in before e ++ rest))) (no-end (slot before) e rest s.takes)
     ∙ or_here (slot before) (read (rows (slot before)) (word_in before e ++ rest)) e (length (word_in before e)) w in
     judged_here (λ e n. first_why (faults format before e)) (at_slot (slot before) (word_in before e ++ rest)) e (length (word_in before e)) at s.good
 
@@ -176,7 +176,7 @@ walk-goes format before r (e ∷ es) end w =
       ap (λ (t : List Bool). next format before (t, r.1)) bits ∙ next-good format before e (words (e ∷ before) es ++ end.0) r.1 w.chain.0,
       walk-goes format (e ∷ before) (skipped (length (word_in before e)) r) es end (record {
         chain = w.chain.1;
-        bits = ap (drop (length (word_in before e))) bits ∙ drop-front (word_in before e) (words (e ∷ before) es ++ end.0) (length (word_in before e)) refl;
+        bits = ap (drop (length (word_in before e))) bits ∙ drop_at (word_in before e) (words (e ∷ before) es ++ end.0) (length (word_in before e)) refl;
         place = w.place ∙ omega (arith, length-append (word_in before e) (words (e ∷ before) es));
       }),
     )

@@ -1,8 +1,8 @@
 -- Reading bits that are cut: an element that ends within them is read as before, and one that does not is cut.
 use Rattle.std.proofs.Common.{◌≡◌, ℕ, zero, suc, ◌+◌, ◌-◌, ◌*◌, ◌<◌, ◌≤◌, ◌&&◌, ◌||◌, Bool, true, false, List, [], ◌∷◌, ◌++◌, length, take, drop, Some, None, nat_lt, refl, sym, ◌∙◌, ap, subst, inl, inr, append_assoc, arith}
 use Rattle.std.specs.List.{list_any, find}
-use Rattle.std.proofs.lemmas.Bool.{false≢true, ltb-true, ltb-false}
-use Rattle.std.proofs.lemmas.List.{length-append}
+use Rattle.std.proofs.lemmas.Bool.{false≢true, ltb-true, ltb-false, and_parts, cases_Bool, cond-false, cond-true, not-true}
+use Rattle.std.proofs.lemmas.List.{length-append, take-append-drop, take-append-le}
 use Rattle.pel_model.specs.declared.Format.{Format}
 use Rattle.pel_model.specs.declared.Why.{Why}
 use Rattle.pel_model.specs.declared.Why.TheVariants.{Cut, NoCode}
@@ -12,12 +12,12 @@ use Rattle.pel_model.specs.Valid.{group_count}
 use Rattle.pel_model.specs.Walk.{Step, Good, Stop, Bad, Row, skipped, after, Goes, read, word_at, judged}
 use Rattle.pel_model.specs.Grammar.{Element, Slot, AtPsc, AtTr, AtPtype, AtPei, AtPspare, AtGroup, AtGn, AtGquant, AtGei, AtGspare, AtMacroblock, AtMtype, AtMquant, AtMvd, AtCbp, AtDc, AtFirst, AtCoefficient, slot, begun, rows, faults, first_why, may_end, is_end, or_no_start, at_slot, next, picture}
 use Rattle.picture_laws.specs.Laws.{Leaves, GoodOverFirst, GoodOverAll, WithinTheLimit, PastTheLimit, TooLongAt, JudgedByTheLimit}
-use Rattle.picture_laws.proofs.Basics.{not_true}
-use Rattle.picture_laws.proofs.Rows.{Among, apart, begins_self, read-is, read-row, codes_of, find-row, take-drop-append, among-mapped}
+use Rattle.picture_laws.proofs.Rows.{Among, apart, read-is, read-row, find-row, among-mapped}
 use Rattle.picture_laws.proofs.Slots.{Takes, rows_free}
 use Rattle.picture_laws.proofs.Chains.{word_in, words, next-is, next-good, goes-walk, walk-goes, judged_good, slot_good}
 use Rattle.picture_laws.proofs.Limits.{picture-good, picture-long, picture-stops, picture-bad}
-use Rattle.vlc_codes.proofs.WordLaws.{begins_length, either_way, if-true, if-false, and_left, and_right, whole-cut}
+use Rattle.vlc_codes.specs.Lookup.{codes_of_rows}
+use Rattle.vlc_codes.proofs.WordLaws.{begins_self, begins_length, whole-cut}
 
 -- ---- lists
 
@@ -27,12 +27,6 @@ take-past (x ∷ xs) ys zero h = absurd (omega (arith, h))
 take-past (x ∷ xs) ys (suc k) h =
     let e : k - length xs ≡ suc k - suc (length xs) = omega arith in
     ap (λ t. x ∷ t) (take-past xs ys k (omega (arith, h)) ∙ ap (λ j. xs ++ take j ys) e)
-
-take_within : {A : Type 0} (xs ys : List A) (k : ℕ) → k ≤ length xs → take k (xs ++ ys) ≡ take k xs
-take_within [] ys zero h = refl
-take_within [] ys (suc k) h = absurd (omega (arith, h))
-take_within (x ∷ xs) ys zero h = refl
-take_within (x ∷ xs) ys (suc k) h = ap (λ t. x ∷ t) (take_within xs ys k (omega (arith, h)))
 
 pub length-take : {A : Type 0} (k : ℕ) (xs : List A) → length (take k xs) ≤ k
 length-take zero xs = omega arith
@@ -66,11 +60,11 @@ free_same [] v w free p q h = absurd p
 free_same (u ∷ ws) v w free p q h = elim p [
   | inl v_is ↦ elim q [
     | inl w_is ↦ v_is ∙ sym w_is
-    | inr w_in ↦ absurd (false≢true (sym (apart u ws w (not_true _ (and_left _ _ free)) w_in).0 ∙ (ap (λ x. begins x w) (sym v_is) ∙ h)))
+    | inr w_in ↦ absurd (false≢true (sym (apart u ws w (not-true _ (and_parts _ _ free).0) w_in).0 ∙ (ap (λ x. begins x w) (sym v_is) ∙ h)))
   ]
   | inr v_in ↦ elim q [
-    | inl w_is ↦ absurd (false≢true (sym (apart u ws v (not_true _ (and_left _ _ free)) v_in).1 ∙ (ap (λ x. begins v x) (sym w_is) ∙ h)))
-    | inr w_in ↦ free_same ws v w (and_right _ _ free) v_in w_in h
+    | inl w_is ↦ absurd (false≢true (sym (apart u ws v (not-true _ (and_parts _ _ free).0) v_in).1 ∙ (ap (λ x. begins v x) (sym w_is) ∙ h)))
+    | inr w_in ↦ free_same ws v w (and_parts _ _ free).1 v_in w_in h
   ]
 ]
 
@@ -84,37 +78,37 @@ begins_more (false ∷ w) (true ∷ v) more h = absurd cc
 
 find_none : {A : Type 0} (test : A → Bool) (xs : List A) → ((x : A) → Among x xs → test x ≡ false) → find test xs ≡ None
 find_none test [] h = refl
-find_none test (x ∷ xs) h = if-false (test x) (Some x) (find test xs) (h x (inl refl)) ∙ find_none test xs (λ y among. h y (inr among))
+find_none test (x ∷ xs) h = cond-false (test x) (Some x) (find test xs) (h x (inl refl)) ∙ find_none test xs (λ y among. h y (inr among))
 
 any_among : {A : Type 0} (test : A → Bool) (xs : List A) (x : A) → Among x xs → test x ≡ true → list_any test xs ≡ true
 any_among test [] x p h = absurd p
 any_among test (y ∷ xs) x p h = elim p [
   | inl e ↦ ap (λ b. b || list_any test xs) (ap test (sym e) ∙ h)
-  | inr t ↦ elim (either_way (test y)) [
+  | inr t ↦ elim (cases_Bool (test y)) [
     | inl yes_ ↦ ap (λ b. b || list_any test xs) yes_
     | inr no_ ↦ ap (λ b. b || list_any test xs) no_ ∙ any_among test xs x t h
   ]
 ]
 
 -- bits that end inside a word of a row are cut
-cut_code : {E : Type 0} (rows : List (Row E)) (row : Row E) (k : ℕ) → is_prefix_free (codes_of rows) ≡ true → Among row rows → k < length row.code → read rows (take k row.code) ≡ Bad Cut
+cut_code : {E : Type 0} (rows : List (Row E)) (row : Row E) (k : ℕ) → is_prefix_free (codes_of_rows rows) ≡ true → Among row rows → k < length row.code → read rows (take k row.code) ≡ Bad Cut
 cut_code rows row k free among short =
-    let none : find (λ other. begins other.code (take k row.code)) rows ≡ None = find_none (λ other. begins other.code (take k row.code)) rows (λ other in_. elim (either_way (begins other.code (take k row.code))) [
+    let none : find (λ other. begins other.code (take k row.code)) rows ≡ None = find_none (λ other. begins other.code (take k row.code)) rows (λ other in_. elim (cases_Bool (begins other.code (take k row.code))) [
       | inl here ↦
-          let front : begins other.code row.code ≡ true = ap (begins other.code) (sym (take-drop-append k row.code)) ∙ begins_more other.code (take k row.code) (drop k row.code) here in
-          let same = free_same (codes_of rows) other.code row.code free (among-mapped (λ r. r.code) other rows in_) (among-mapped (λ r. r.code) row rows among) front in
+          let front : begins other.code row.code ≡ true = ap (begins other.code) (sym (take-append-drop k row.code)) ∙ begins_more other.code (take k row.code) (drop k row.code) here in
+          let same = free_same (codes_of_rows rows) other.code row.code free (among-mapped (λ r. r.code) other rows in_) (among-mapped (λ r. r.code) row rows among) front in
           absurd (omega (arith, ap length same, begins_length other.code (take k row.code) here, length-take k row.code, short))
       | inr no_ ↦ no_
     ]) in
-    let begun_ : begins (take k row.code) row.code ≡ true = ap (begins (take k row.code)) (sym (take-drop-append k row.code)) ∙ begins_self (take k row.code) (drop k row.code) in
-    let some : list_any (λ code. begins (take k row.code) code) (codes_of rows) ≡ true = any_among (λ code. begins (take k row.code) code) (codes_of rows) row.code (among-mapped (λ r. r.code) row rows among) begun_ in
-    ap (word_at rows (take k row.code)) none ∙ ap Bad (if-true (list_any (λ code. begins (take k row.code) code) (codes_of rows)) Cut NoCode some)
+    let begun_ : begins (take k row.code) row.code ≡ true = ap (begins (take k row.code)) (sym (take-append-drop k row.code)) ∙ begins_self (take k row.code) (drop k row.code) in
+    let some : list_any (λ code. begins (take k row.code) code) (codes_of_rows rows) ≡ true = any_among (λ code. begins (take k row.code) code) (codes_of_rows rows) row.code (among-mapped (λ r. r.code) row rows among) begun_ in
+    ap (word_at rows (take k row.code)) none ∙ ap Bad (cond-true (list_any (λ code. begins (take k row.code) code) (codes_of_rows rows)) Cut NoCode some)
 
-cut_row : {E : Type 0} (rows : List (Row E)) (row : Row E) (tail rest : List Bool) (k : ℕ) → is_prefix_free (codes_of rows) ≡ true → Among row rows → length tail ≡ row.tail → k < length row.code + row.tail → read rows (take k (row.code ++ (tail ++ rest))) ≡ Bad Cut
-cut_row rows row tail rest k free among long short = elim (either_way (nat_lt k (length row.code))) [
+cut_row : {E : Type 0} (rows : List (Row E)) (row : Row E) (tail rest : List Bool) (k : ℕ) → is_prefix_free (codes_of_rows rows) ≡ true → Among row rows → length tail ≡ row.tail → k < length row.code + row.tail → read rows (take k (row.code ++ (tail ++ rest))) ≡ Bad Cut
+cut_row rows row tail rest k free among long short = elim (cases_Bool (nat_lt k (length row.code))) [
   | inl inside ↦
       let few : k < length row.code = ltb-true k (length row.code) inside in
-      ap (read rows) (take_within row.code (tail ++ rest) k (omega (arith, few))) ∙ cut_code rows row k free among few
+      ap (read rows) (take-append-le k row.code (tail ++ rest) (omega (arith, few))) ∙ cut_code rows row k free among few
   | inr past ↦
       let most : length row.code ≤ k = ltb-false k (length row.code) past in
       let bits : take k (row.code ++ (tail ++ rest)) ≡ row.code ++ take (k - length row.code) (tail ++ rest) = take-past row.code (tail ++ rest) k most in
@@ -125,13 +119,13 @@ cut_row rows row tail rest k free among long short = elim (either_way (nat_lt k 
 ]
 
 -- a word that does not end within the cut is cut, in any list of which no word is a front of another
-pub read-cut : {E : Type 0} (rows : List (Row E)) (bits : List Bool) (e : E) (n k : ℕ) → is_prefix_free (codes_of rows) ≡ true → read rows bits ≡ Good e n → k < n → read rows (take k bits) ≡ Bad Cut
+pub read-cut : {E : Type 0} (rows : List (Row E)) (bits : List Bool) (e : E) (n k : ℕ) → is_prefix_free (codes_of_rows rows) ≡ true → read rows bits ≡ Good e n → k < n → read rows (take k bits) ≡ Bad Cut
 read-cut rows bits e n k free h short =
     let w = read-is rows bits e n h in
     ap (λ t. read rows (take k t)) w.front ∙ cut_row rows w.row w.tail (drop n bits) k free w.among w.long (omega (arith, w.size, short))
 
 -- and one that does is as before
-pub read-kept : {E : Type 0} (rows : List (Row E)) (bits : List Bool) (e : E) (n k : ℕ) → is_prefix_free (codes_of rows) ≡ true → read rows bits ≡ Good e n → n ≤ k → read rows (take k bits) ≡ Good e n
+pub read-kept : {E : Type 0} (rows : List (Row E)) (bits : List Bool) (e : E) (n k : ℕ) → is_prefix_free (codes_of_rows rows) ≡ true → read rows bits ≡ Good e n → n ≤ k → read rows (take k bits) ≡ Good e n
 read-kept rows bits e n k free h fits =
     let w = read-is rows bits e n h in
     let code = w.row.code in
@@ -155,7 +149,7 @@ cut-bad format before r e n k h short no_ =
     let w = read-is (rows (slot before)) r.0 e n (slot_good (slot before) r.0 e n j.0).0 in
     let cut : read (rows (slot before)) (take k r.0) ≡ Bad Cut = ap (λ t. read (rows (slot before)) (take k t)) w.front ∙ cut_row (rows (slot before)) w.row w.tail (drop n r.0) k (rows_free (slot before)) w.among w.long (omega (arith, w.size, short)) in
     ap (judged (λ e n. first_why (faults format before e)))
-    (if-false (may_end (slot before) && is_end (take k r.0)) Stop (or_no_start (slot before) (read (rows (slot before)) (take k r.0))) (ap (λ b. b && is_end (take k r.0)) no_)
+    (cond-false (may_end (slot before) && is_end (take k r.0)) Stop (or_no_start (slot before) (read (rows (slot before)) (take k r.0))) (ap (λ b. b && is_end (take k r.0)) no_)
     ∙ or_cut (slot before) (read (rows (slot before)) (take k r.0)) cut)
 
 -- ---- walks over the first bits
@@ -176,7 +170,7 @@ good-over-all format before r end es k goes =
     let w = goes-walk format before (take k r.0, r.1) es end goes in
     walk-goes format before r es (end.0 ++ drop k r.0, end.1) (record {
       chain = w.chain;
-      bits = sym (take-drop-append k r.0) ∙ (ap (λ t. t ++ drop k r.0) w.bits ∙ append_assoc (words before es) end.0 (drop k r.0));
+      bits = sym (take-append-drop k r.0) ∙ (ap (λ t. t ++ drop k r.0) w.bits ∙ append_assoc (words before es) end.0 (drop k r.0));
       place = w.place;
     })
 
@@ -272,7 +266,7 @@ long_later format before r e n k no_ h fits good rest =
 
 pub past-the-limit : PastTheLimit
 past-the-limit format before r end [] k leaves inside goes past = let e : end.1 ≡ r.1 = ap (λ (x : List Bool × ℕ). x.1) goes in absurd (omega (arith, e, past))
-past-the-limit format before r end (e ∷ es) k leaves inside goes past = elim (either_way (nat_lt k goes.0)) [
+past-the-limit format before r end (e ∷ es) k leaves inside goes past = elim (cases_Bool (nat_lt k goes.0)) [
   | inl long ↦ long_here format before r e goes.0 k leaves inside.0 goes.1 (ltb-true k goes.0 long)
   | inr fits ↦
       let few : goes.0 ≤ k = ltb-false k goes.0 fits in

@@ -1,8 +1,9 @@
 -- The layers of groups and pictures: the elements of a valid picture in an input form may stand one behind another, and
 -- their words are the form's text.
 use Rattle.std.proofs.Common.{◌≡◌, ℕ, zero, suc, ◌%◌, ◌<◌, ◌≤◌, ◌==◌, ◌&&◌, ◌||◌, not, Bool, true, false, List, [], ◌∷◌, ◌++◌, drop, get_or, replicate, Option, Some, None, nat_lt, refl, sym, ◌∙◌, ap, subst, inl, inr, ◌⊎◌, append_assoc, ℤ, pos, All, arith}
+use Rattle.std.proofs.lemmas.List.Elements.{All-head, All-tail}
 use Rattle.std.specs.List.{list_any, list_all}
-use Rattle.std.proofs.lemmas.Bool.{ltb-true, eqb-true, lt-ltb}
+use Rattle.std.proofs.lemmas.Bool.{ltb-true, eqb-true, lt-ltb, cases_Bool, ne_eqb}
 use Rattle.pel_model.specs.declared.Format.{Format}
 use Rattle.pel_model.specs.declared.Format.TheVariants.{Qcif, Cif}
 use Rattle.pel_model.specs.declared.MbKind.{MbKind}
@@ -22,10 +23,8 @@ use Rattle.picture_laws.proofs.Rows.{Among, among-all}
 use Rattle.picture_laws.proofs.Slots.{Takes, gbsc}
 use Rattle.picture_laws.proofs.Words.{field-mod}
 use Rattle.picture_laws.proofs.Chains.{Stands}
-use Rattle.picture_laws.proofs.Basics.{not_same}
-use Rattle.picture_laws.proofs.Blocks.{Says, says-none, says-cons, says-append, says-text, all-head, all-tail, one_pass, state}
+use Rattle.picture_laws.proofs.Blocks.{Says, says-none, says-cons, says-append, says-text, one_pass, state}
 use Rattle.picture_laws.proofs.Macroblocks.{says-macroblock, both_axes}
-use Rattle.vlc_codes.proofs.WordLaws.{either_way}
 
 -- ---- stuffing
 
@@ -55,9 +54,9 @@ pub says-macroblocks : (format : Format) (number : ℕ) (last : Option Macrobloc
 unfolding stuffed_text
 says-macroblocks format number last before behind [] place rise valid = (says-none format before, record { at = place.at; group_is = place.group_is })
 says-macroblocks format number last before behind (m ∷ ms) place rise valid =
-    let one = says-macroblock format number last m before place rise.0 rise.1 (all-head (IsValidMacroblock format number) m ms valid) in
+    let one = says-macroblock format number last m before place rise.0 rise.1 (All-head (IsValidMacroblock format number) m ms valid) in
     let two = says-stuffing format number (Some m) (after before (macroblock_elements last m)) (get_or behind 0 0) one.1 in
-    let rest = says-macroblocks format number (Some m) (after (after before (macroblock_elements last m)) (replicate (get_or behind 0 0) Stuffing)) (drop 1 behind) ms two.1 rise.2 (all-tail (IsValidMacroblock format number) m ms valid) in
+    let rest = says-macroblocks format number (Some m) (after (after before (macroblock_elements last m)) (replicate (get_or behind 0 0) Stuffing)) (drop 1 behind) ms two.1 rise.2 (All-tail (IsValidMacroblock format number) m ms valid) in
     let e : after before (macroblocks_elements last behind (m ∷ ms)) ≡ after (after (after before (macroblock_elements last m)) (replicate (get_or behind 0 0) Stuffing)) (macroblocks_elements (Some m) (drop 1 behind) ms) =
     after-append before (macroblock_elements last m) (replicate (get_or behind 0 0) Stuffing ++ macroblocks_elements (Some m) (drop 1 behind) ms)
     ∙ after-append (after before (macroblock_elements last m)) (replicate (get_or behind 0 0) Stuffing) (macroblocks_elements (Some m) (drop 1 behind) ms) in (
@@ -104,7 +103,7 @@ takes_gbsc s at = elim at [ inl g ↦ subst (λ s. Takes s Gbsc) (sym g) refl | 
 
 pub among_numbers : (ns : List ℕ) (n : ℕ) → list_any (λ k. k == n) ns ≡ true → Among n ns
 among_numbers [] n h = absurd cc
-among_numbers (m ∷ ns) n h = elim (either_way (m == n)) [
+among_numbers (m ∷ ns) n h = elim (cases_Bool (m == n)) [
   | inl same ↦ inl (sym (eqb-true m n same))
   | inr other ↦ inr (among_numbers ns n (sym (ap (λ b. b || list_any (λ k. k == n) ns) other) ∙ h))
 ]
@@ -125,7 +124,7 @@ says-sent format before low g spares stuffings behind place is rise valid =
     let gn_good : (is_group format g.number && nat_lt (group before) g.number) ≡ true = ap (λ b. b && nat_lt (group before) g.number) is ∙ lt-ltb (group before) g.number (omega (arith, place.group_is, rise)) in
     let gbsc_ : Stands format before Gbsc = record { takes = takes_gbsc (slot before) place.at; good = refl } in
     let gn_ : Stands format (Gbsc ∷ before) (Gn g.number) = record { takes = (g.number, group_small format g.number is, refl); good = one_pass (not (is_group format g.number && nat_lt (group before) g.number)) BadGroup (ap not gn_good) } in
-    let gquant_ : Stands format (Gn g.number ∷ Gbsc ∷ before) (Gquant g.quant) = record { takes = (g.quant, omega (arith, valid.quant), refl); good = one_pass (g.quant == 0) BadQuant (not_same g.quant 0 (λ same. absurd (omega (arith, same, valid.quant.0)))) } in
+    let gquant_ : Stands format (Gn g.number ∷ Gbsc ∷ before) (Gquant g.quant) = record { takes = (g.quant, omega (arith, valid.quant), refl); good = one_pass (g.quant == 0) BadQuant (ne_eqb g.quant 0 (λ same. absurd (omega (arith, same, valid.quant.0)))) } in
     let s = says-gspares format (Gquant g.quant ∷ Gn g.number ∷ Gbsc ∷ before) spares refl in
     let same = gspares-state (Gquant g.quant ∷ Gn g.number ∷ Gbsc ∷ before) spares in
     let behind_spares : IsBehind g.number None (after (Gquant g.quant ∷ Gn g.number ∷ Gbsc ∷ before) (spare_elements Gei Gspare spares)) = record {
@@ -159,11 +158,11 @@ says-groups format before low [] [] place fit rise valid = (says-none format bef
 says-groups format before low [] (g ∷ gs) place fit rise valid = absurd fit
 says-groups format before low (f ∷ forms) [] place fit rise valid = absurd fit
 says-groups format before low (LeftOut ∷ forms) (g ∷ gs) place fit rise valid =
-    says-groups format before g.number forms gs (higher low g.number before (omega (arith, rise.1)) place) fit.1 rise.2 (all-tail (IsValidGroup format) g gs valid)
+    says-groups format before g.number forms gs (higher low g.number before (omega (arith, rise.1)) place) fit.1 rise.2 (All-tail (IsValidGroup format) g gs valid)
 says-groups format before low (Sent spares stuffings behind ∷ forms) (g ∷ gs) place fit rise valid =
-    let one = says-sent format before low g spares stuffings behind place rise.0 rise.1 (all-head (IsValidGroup format) g gs valid) in
+    let one = says-sent format before low g spares stuffings behind place rise.0 rise.1 (All-head (IsValidGroup format) g gs valid) in
     let next : IsAtGroup g.number (after before (group_elements (Sent spares stuffings behind) g)) = record { at = inr one.1.at; group_is = omega (arith, one.1.group_is) } in
-    let rest = says-groups format (after before (group_elements (Sent spares stuffings behind) g)) g.number forms gs next fit.1 rise.2 (all-tail (IsValidGroup format) g gs valid) in (
+    let rest = says-groups format (after before (group_elements (Sent spares stuffings behind) g)) g.number forms gs next fit.1 rise.2 (All-tail (IsValidGroup format) g gs valid) in (
       says-append format before (group_elements (Sent spares stuffings behind) g) (groups_elements forms gs) (sent_group_text (Sent spares stuffings behind) g) (sent_groups_text forms gs) one.0 rest.0,
       (rest.1.0, subst (λ b. IsAtGroup rest.1.0 b) (sym (after-append before (group_elements (Sent spares stuffings behind) g) (groups_elements forms gs))) rest.1.1),
     )

@@ -1,11 +1,13 @@
 -- What is read from left to right joins what was read before it.
-use Rattle.std.proofs.Common.{false, ◌%◌, ◌≡◌, ◌≢◌, ℕ, zero, suc, ◌+◌, ◌-◌, ◌<◌, ◌≤◌, ◌==◌, Bool, true, List, [], ◌∷◌, ◌++◌, length, map, take, replicate, Option, Some, None, refl, sym, ◌∙◌, ap, subst, inl, inr, append_assoc, append-nil, arith}
+use Rattle.std.proofs.Common.{ℤ, false, ◌%◌, ◌≡◌, ◌≢◌, ℕ, zero, suc, ◌+◌, ◌-◌, ◌<◌, ◌≤◌, ◌==◌, Bool, true, List, [], ◌∷◌, ◌++◌, length, map, take, replicate, Option, Some, None, refl, sym, ◌∙◌, ap, subst, inl, inr, append_assoc, append-nil, arith}
+use Rattle.std.proofs.lemmas.Bool.{cases_Bool, cond-false, cond-true, eqb-false}
 use Rattle.std.proofs.lemmas.List.{length-append, take_more}
-use Rattle.std.proofs.lemmas.List.Elements.{All-push}
+use Rattle.std.proofs.lemmas.List.Elements.{All-push, All-nil}
 use Rattle.pel_model.specs.declared.Format.{Format}
+use Rattle.pel_model.specs.declared.MbKind.{MbKind}
 use Rattle.pel_model.specs.declared.Why.TheVariants.{BadQuant}
 use Rattle.pel_model.specs.Codes.{has_vector, has_cbp}
-use Rattle.pel_model.specs.Records.{Across, Down, Coefficient, Block, Macroblock, Group, Picture}
+use Rattle.pel_model.specs.Records.{Across, Down, Block, Macroblock, Group, Picture}
 use Rattle.pel_model.specs.Text.{coded_block_pattern, address_of, macroblock_text, macroblocks_text}
 use Rattle.pel_model.specs.Valid.{IsQuantiser, IsValidMacroblock, AddressesRise, IsValidGroup, IsValidSoFar, group_numbers, group_count}
 use Rattle.pel_model.specs.Spelling.{GroupForm, LeftOut, Sent, GroupFits, GroupsFit}
@@ -16,14 +18,14 @@ use Rattle.pel_model.specs.Grammar.{address, vector, Eob, Slot, quant, Cbp, Tcoe
 use Rattle.pel_model.proofs.Walks.{after-append}
 use Rattle.pel_model.proofs.InsideElements.{inside-right}
 use Rattle.picture_laws.specs.Laws.{StandInside}
-use Rattle.pel_model.specs.Elements.{dc_elements, block_elements, blocks_elements, mquant_elements, AreInside}
+use Rattle.pel_model.specs.Elements.{block_elements, blocks_elements, mquant_elements, AreInside}
 use Rattle.picture_laws.specs.Elements.{mvd_element, vector_elements, cbp_elements, macroblock_elements, macroblocks_elements, spare_elements, group_elements, groups_elements, header_elements}
 use Rattle.picture_laws.specs.SoFar.{IsBehind, last_of, group_of, IsGroupSoFar, GroupBegins, StuffingJoins, IsJoined, MacroblockJoins, IsPictureSoFar, with_group, next_number, HeaderBegins, GroupIsLeftOut, GroupIsSent, PictureIsTold, PictureIsAccepted, InsideStands, in_effect}
 use Rattle.pel_model.specs.Marks.{quant_behind}
-use Rattle.picture_laws.proofs.Basics.{not_equal}
 use Rattle.picture_laws.proofs.Slots.{Takes, IsStep}
 use Rattle.picture_laws.proofs.Chains.{Chain, words, goes-walk}
-use Rattle.picture_laws.proofs.Blocks.{after-block, all-nil, one_passed}
+use Rattle.picture_laws.proofs.Blocks.{one_passed}
+use Rattle.pel_model.proofs.BlockElements.{pass_block}
 use Rattle.picture_laws.proofs.Macroblocks.{says-macroblock, body, headed, after-body}
 use Rattle.picture_laws.proofs.Groups.{says-gspares, stuffed_behind}
 use Rattle.picture_laws.proofs.ReadBlocks.{IsRest, rest-after, rest-step}
@@ -31,7 +33,6 @@ use Rattle.picture_laws.proofs.ReadMacroblocks.{ReadsMacroblock, read-macroblock
 use Rattle.picture_laws.proofs.ReadGroups.{ReadsSpares, read-gspares, behind_header}
 use Rattle.picture_laws.proofs.Told.{told-one}
 use Rattle.picture_laws.proofs.ReadPictures.{walk-record, ReadsHeader, read_header, header_slot}
-use Rattle.vlc_codes.proofs.WordLaws.{either_way, if-true, if-false}
 
 -- ---- nothing more
 
@@ -118,16 +119,8 @@ gspares-quant : (before : List Element) (spares : List ℕ) → quant (after bef
 gspares-quant before [] = refl
 gspares-quant before (n ∷ ns) = gspares-quant (Gspare (n % 256) ∷ Gei true ∷ before) ns
 
-coefficients-quant : (before : List Element) (cs : List Coefficient) → quant (after before (map Tcoeff cs)) ≡ quant before
-coefficients-quant before [] = refl
-coefficients-quant before (c ∷ cs) = coefficients-quant (Tcoeff c ∷ before) cs
-
-dc-quant : (before : List Element) (dc : Option ℕ) → quant (after before (dc_elements dc)) ≡ quant before
-dc-quant before None = refl
-dc-quant before (Some n) = refl
-
 block-quant : (before : List Element) (b : Block) → quant (after before (block_elements b)) ≡ quant before
-block-quant before b = ap quant (after-block before b) ∙ (coefficients-quant (after before (dc_elements b.dc)) b.coefficients ∙ dc-quant before b.dc)
+block-quant before b = ap (λ (s : MbKind × ℕ × ℕ × ℕ × ℤ × ℤ). s.3) (pass_block before b)
 
 blocks-quant : (before : List Element) (bs : List (Option Block)) → quant (after before (blocks_elements bs)) ≡ quant before
 blocks-quant before [] = refl
@@ -139,15 +132,15 @@ mquant-quant before None = refl
 mquant-quant before (Some q) = refl
 
 vector-quant : (before : List Element) (last : Option Macroblock) (m : Macroblock) → quant (after before (vector_elements last m)) ≡ quant before
-vector-quant before last m = elim (either_way (has_vector m.kind)) [
-  | inl has ↦ ap (λ es. quant (after before es)) (if-true (has_vector m.kind) (mvd_element Across last m ∷ mvd_element Down last m ∷ []) [] has)
-  | inr none ↦ ap (λ es. quant (after before es)) (if-false (has_vector m.kind) (mvd_element Across last m ∷ mvd_element Down last m ∷ []) [] none)
+vector-quant before last m = elim (cases_Bool (has_vector m.kind)) [
+  | inl has ↦ ap (λ es. quant (after before es)) (cond-true (has_vector m.kind) (mvd_element Across last m ∷ mvd_element Down last m ∷ []) [] has)
+  | inr none ↦ ap (λ es. quant (after before es)) (cond-false (has_vector m.kind) (mvd_element Across last m ∷ mvd_element Down last m ∷ []) [] none)
 ]
 
 cbp-quant : (before : List Element) (m : Macroblock) → quant (after before (cbp_elements m)) ≡ quant before
-cbp-quant before m = elim (either_way (has_cbp m.kind)) [
-  | inl has ↦ ap (λ es. quant (after before es)) (if-true (has_cbp m.kind) (Cbp (coded_block_pattern m.blocks) ∷ []) [] has)
-  | inr none ↦ ap (λ es. quant (after before es)) (if-false (has_cbp m.kind) (Cbp (coded_block_pattern m.blocks) ∷ []) [] none)
+cbp-quant before m = elim (cases_Bool (has_cbp m.kind)) [
+  | inl has ↦ ap (λ es. quant (after before es)) (cond-true (has_cbp m.kind) (Cbp (coded_block_pattern m.blocks) ∷ []) [] has)
+  | inr none ↦ ap (λ es. quant (after before es)) (cond-false (has_cbp m.kind) (Cbp (coded_block_pattern m.blocks) ∷ []) [] none)
 ]
 
 macroblock-quant : (before : List Element) (last : Option Macroblock) (m : Macroblock) → quant (after before (macroblock_elements last m)) ≡ quant_behind (quant before) m.mquant
@@ -180,7 +173,7 @@ group_begun format before es number q ok s none =
       behind = [];
       each = refl;
       elements = ap (λ t. Gbsc ∷ (Gn number ∷ (Gquant q ∷ t))) (is ∙ sym (append-nil (spare_elements Gei Gspare s.spares)));
-      valid = record { quant = ok; addresses = tt; macroblocks = all-nil (IsValidMacroblock format number) };
+      valid = record { quant = ok; addresses = tt; macroblocks = All-nil (IsValidMacroblock format number) };
       place = subst (λ t. IsBehind number None (after (Gquant q ∷ Gn number ∷ Gbsc ∷ before) t)) (sym is) (behind_header format number q before s.spares);
       quant_is = ap (λ t. quant (after (Gquant q ∷ Gn number ∷ Gbsc ∷ before) t)) is ∙ gspares-quant (Gquant q ∷ Gn number ∷ Gbsc ∷ before) s.spares;
     }
@@ -193,7 +186,7 @@ group-begins format before r end number quant es goes inside at =
     let s2 = rest-step format (Gn number ∷ Gbsc ∷ before) (Gquant quant) (Gquant quant) es s1.1 refl in
     let t : Takes AtGquant (Gquant quant) = s2.0.takes in
     let small : quant ≡ t.0 = same_quant quant t.0 t.2 in
-    let some : quant ≢ 0 = not_equal quant 0 (one_passed (quant == 0) BadQuant s2.0.good) in
+    let some : quant ≢ 0 = eqb-false quant 0 (one_passed (quant == 0) BadQuant s2.0.good) in
     let s = read-gspares format (Gquant quant ∷ Gn number ∷ Gbsc ∷ before) es refl s2.1 in
     let left = rest-after format (Gquant quant ∷ Gn number ∷ Gbsc ∷ before) es (spare_elements Gei Gspare s.spares) s.rest s2.1 s.is in
     let none = no_more format (after (Gquant quant ∷ Gn number ∷ Gbsc ∷ before) (spare_elements Gei Gspare s.spares)) s.rest (says-gspares format (Gquant quant ∷ Gn number ∷ Gbsc ∷ before) s.spares refl).1 left (inside-right (spare_elements Gei Gspare s.spares) s.rest (subst AreInside s.is inside)) in
@@ -328,7 +321,7 @@ one_more_group format picture es more f g p few number ok fit is = record {
 
 pub group-left-out : GroupIsLeftOut
 group-left-out format picture es p few =
-    let ok : IsValidGroup format (group_of (next_number format picture) 1 []) = record { quant = (omega arith, omega arith); addresses = tt; macroblocks = all-nil (IsValidMacroblock format (next_number format picture)) } in
+    let ok : IsValidGroup format (group_of (next_number format picture) 1 []) = record { quant = (omega arith, omega arith); addresses = tt; macroblocks = All-nil (IsValidMacroblock format (next_number format picture)) } in
     subst (λ t. IsPictureSoFar format (with_group picture (group_of (next_number format picture) 1 [])) t) (append-nil es) (one_more_group format picture es [] LeftOut (group_of (next_number format picture) 1 []) p few refl ok (refl, refl) refl)
 
 pub group-sent : GroupIsSent
@@ -345,7 +338,7 @@ header_begun format tr es h none same = record {
   forms = [];
   fits = tt;
   elements = h.is ∙ (ap (λ t. header_elements format h.free h.spares h.tr ++ t) none ∙ ap (λ k. header_elements format h.free h.spares k ++ []) same);
-  valid = record { tr = omega (arith, h.fits, same); numbers = refl; groups = all-nil (IsValidGroup format) };
+  valid = record { tr = omega (arith, h.fits, same); numbers = refl; groups = All-nil (IsValidGroup format) };
 }
 
 pub header-begins : HeaderBegins

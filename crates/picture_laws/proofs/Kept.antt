@@ -1,8 +1,9 @@
 -- Bits behind the first 65,600 or 262,208 change no answer.
 use Rattle.std.proofs.Common.{◌≡◌, ℕ, zero, suc, ◌+◌, ◌-◌, ◌<◌, ◌≤◌, ◌&&◌, ◌||◌, not, Bool, true, false, cond, List, [], ◌∷◌, length, take, drop, Option, Some, None, nat_lt, refl, sym, ◌∙◌, ap, subst, inl, inr, arith}
+use Rattle.std.proofs.lemmas.Option.{same_Some}
 use Rattle.std.specs.List.{list_any, list_all, find}
-use Rattle.std.proofs.lemmas.Bool.{ltb-true, ltb-false}
-use Rattle.std.proofs.lemmas.List.{length-take-le}
+use Rattle.std.proofs.lemmas.Bool.{ltb-true, ltb-false, and_parts, cases_Bool, cond-false, cond-true, le-ltb}
+use Rattle.std.proofs.lemmas.List.{length-take-le, take-take, take_all}
 use Rattle.pel_model.specs.declared.Format.{Format}
 use Rattle.pel_model.specs.declared.Format.TheVariants.{Qcif, Cif}
 use Rattle.pel_model.specs.declared.Why.{Why}
@@ -15,14 +16,13 @@ use Rattle.pel_model.specs.Accepts.{Accepts}
 use Rattle.pel_model.specs.Walk.{Step, Good, Stop, Bad, Row, skipped, start, after, Goes, Reads, FirstFault, read, word_at, whole_word, judged}
 use Rattle.pel_model.specs.Grammar.{Element, Slot, AtPsc, AtTr, AtPtype, AtPei, AtPspare, AtGroup, AtGn, AtGquant, AtGei, AtGspare, AtMacroblock, AtMtype, AtMquant, AtMvd, AtCbp, AtDc, AtFirst, AtCoefficient, slot, rows, faults, first_why, may_end, is_end, or_no_start, at_slot, next, picture, counted}
 use Rattle.picture_laws.specs.Laws.{KeptLength, kept_length}
-use Rattle.picture_laws.proofs.Basics.{not_less, some_same}
-use Rattle.picture_laws.proofs.Rows.{codes_of}
 use Rattle.picture_laws.proofs.Cuts.{drop-take}
 use Rattle.picture_laws.proofs.Limits.{picture-next}
 use Rattle.picture_laws.proofs.Pictures.{accepted-read}
 use Rattle.picture_laws.proofs.ReadPictures.{walk-record}
 use Rattle.picture_laws.proofs.Told.{told-one}
-use Rattle.vlc_codes.proofs.WordLaws.{begins_longer, either_way, if-true, if-false, and_left, and_right}
+use Rattle.vlc_codes.specs.Lookup.{codes_of_rows}
+use Rattle.vlc_codes.proofs.WordLaws.{begins_longer}
 
 -- ---- one step
 
@@ -34,18 +34,6 @@ begins_take (true ∷ w) (true ∷ bits) (suc k) h = begins_take w bits k (omega
 begins_take (false ∷ w) (false ∷ bits) (suc k) h = begins_take w bits k (omega (arith, h))
 begins_take (true ∷ w) (false ∷ bits) (suc k) h = refl
 begins_take (false ∷ w) (true ∷ bits) (suc k) h = refl
-
-take_all_of : {A : Type 0} (xs : List A) (k : ℕ) → length xs ≤ k → take k xs ≡ xs
-take_all_of [] zero h = refl
-take_all_of [] (suc k) h = refl
-take_all_of (x ∷ xs) zero h = absurd (omega (arith, h))
-take_all_of (x ∷ xs) (suc k) h = ap (λ t. x ∷ t) (take_all_of xs k (omega (arith, h)))
-
-take_take : {A : Type 0} (j k : ℕ) (xs : List A) → j ≤ k → take j (take k xs) ≡ take j xs
-take_take zero k xs h = refl
-take_take (suc j) zero xs h = absurd (omega (arith, h))
-take_take (suc j) (suc k) [] h = refl
-take_take (suc j) (suc k) (x ∷ xs) h = ap (λ t. x ∷ t) (take_take j k xs (omega (arith, h)))
 
 -- rows whose words have fewer than 32 bits
 abbrev IsShort : {E : Type 0} → List (Row E) → Type 0
@@ -74,36 +62,36 @@ rows_short AtCoefficient = refl
 
 same_whole : {E : Type 0} (row : Row E) (bits : List Bool) (k : ℕ) → length row.code + row.tail < 32 → 32 ≤ k → k < length bits → whole_word row (take k bits) ≡ whole_word row bits
 same_whole row bits k short most long =
-    let few : nat_lt (length (take k bits)) (length row.code + row.tail) ≡ false = not_less (length (take k bits)) (length row.code + row.tail) (omega (arith, length-take-le k bits (omega (arith, long)), short, most)) in
-    let few2 : nat_lt (length bits) (length row.code + row.tail) ≡ false = not_less (length bits) (length row.code + row.tail) (omega (arith, short, most, long)) in
+    let few : nat_lt (length (take k bits)) (length row.code + row.tail) ≡ false = le-ltb (length (take k bits)) (length row.code + row.tail) (omega (arith, length-take-le k bits (omega (arith, long)), short, most)) in
+    let few2 : nat_lt (length bits) (length row.code + row.tail) ≡ false = le-ltb (length bits) (length row.code + row.tail) (omega (arith, short, most, long)) in
     let tail : take row.tail (drop (length row.code) (take k bits)) ≡ take row.tail (drop (length row.code) bits) =
-    ap (take row.tail) (drop-take (length row.code) k bits (omega (arith, short, most))) ∙ take_take row.tail (k - length row.code) (drop (length row.code) bits) (omega (arith, short, most)) in
-    if-false (nat_lt (length (take k bits)) (length row.code + row.tail)) (Bad Cut) (Good (row.make (number (take row.tail (drop (length row.code) (take k bits))))) (length row.code + row.tail)) few
+    ap (take row.tail) (drop-take (length row.code) k bits (omega (arith, short, most))) ∙ take-take row.tail (k - length row.code) (drop (length row.code) bits) (omega (arith, short, most)) in
+    cond-false (nat_lt (length (take k bits)) (length row.code + row.tail)) (Bad Cut) (Good (row.make (number (take row.tail (drop (length row.code) (take k bits))))) (length row.code + row.tail)) few
     ∙ (ap (λ t. Good (row.make (number t)) (length row.code + row.tail)) tail
-    ∙ sym (if-false (nat_lt (length bits) (length row.code + row.tail)) (Bad Cut) (Good (row.make (number (take row.tail (drop (length row.code) bits)))) (length row.code + row.tail)) few2))
+    ∙ sym (cond-false (nat_lt (length bits) (length row.code + row.tail)) (Bad Cut) (Good (row.make (number (take row.tail (drop (length row.code) bits)))) (length row.code + row.tail)) few2))
 
 -- no word is so long that these bits are the front of it
-none_longer : {E : Type 0} (rows : List (Row E)) (bits : List Bool) → IsShort rows → 32 ≤ length bits → list_any (λ code. begins bits code) (codes_of rows) ≡ false
+none_longer : {E : Type 0} (rows : List (Row E)) (bits : List Bool) → IsShort rows → 32 ≤ length bits → list_any (λ code. begins bits code) (codes_of_rows rows) ≡ false
 none_longer [] bits short long = refl
 none_longer (row ∷ rows) bits short long =
-    let here : length row.code + row.tail < 32 = ltb-true (length row.code + row.tail) 32 (and_left _ _ short) in
-    ap (λ b. b || list_any (λ code. begins bits code) (codes_of rows)) (begins_longer bits row.code (omega (arith, here, long)))
-    ∙ none_longer rows bits (and_right _ _ short) long
+    let here : length row.code + row.tail < 32 = ltb-true (length row.code + row.tail) 32 (and_parts _ _ short).0 in
+    ap (λ b. b || list_any (λ code. begins bits code) (codes_of_rows rows)) (begins_longer bits row.code (omega (arith, here, long)))
+    ∙ none_longer rows bits (and_parts _ _ short).1 long
 
 same_find : {E : Type 0} (rows : List (Row E)) (bits : List Bool) (k : ℕ) → IsShort rows → 32 ≤ k → find (λ row. begins row.code (take k bits)) rows ≡ find (λ row. begins row.code bits) rows
 same_find [] bits k short most = refl
 same_find (row ∷ rows) bits k short most =
-    let here : length row.code + row.tail < 32 = ltb-true (length row.code + row.tail) 32 (and_left _ _ short) in
+    let here : length row.code + row.tail < 32 = ltb-true (length row.code + row.tail) 32 (and_parts _ _ short).0 in
     ap (λ b. cond b (Some row) (find (λ row. begins row.code (take k bits)) rows)) (begins_take row.code bits k (omega (arith, here, most)))
-    ∙ ap (λ o. cond (begins row.code bits) (Some row) o) (same_find rows bits k (and_right _ _ short) most)
+    ∙ ap (λ o. cond (begins row.code bits) (Some row) o) (same_find rows bits k (and_parts _ _ short).1 most)
 
 find_short : {E : Type 0} (test : Row E → Bool) (rows : List (Row E)) (row : Row E) → IsShort rows → find test rows ≡ Some row → length row.code + row.tail < 32
 find_short test [] row short h = absurd cc
-find_short test (first ∷ rows) row short h = elim (either_way (test first)) [
+find_short test (first ∷ rows) row short h = elim (cases_Bool (test first)) [
   | inl yes_ ↦
-      let e : first ≡ row = some_same first row (sym (if-true (test first) (Some first) (find test rows) yes_) ∙ h) in
-      subst (λ r. length r.code + r.tail < 32) e (ltb-true (length first.code + first.tail) 32 (and_left _ _ short))
-  | inr no_ ↦ find_short test rows row (and_right _ _ short) (sym (if-false (test first) (Some first) (find test rows) no_) ∙ h)
+      let e : first ≡ row = same_Some first row (sym (cond-true (test first) (Some first) (find test rows) yes_) ∙ h) in
+      subst (λ r. length r.code + r.tail < 32) e (ltb-true (length first.code + first.tail) 32 (and_parts _ _ short).0)
+  | inr no_ ↦ find_short test rows row (and_parts _ _ short).1 (sym (cond-false (test first) (Some first) (find test rows) no_) ∙ h)
 ]
 
 same_word : {E : Type 0} (rows : List (Row E)) (bits : List Bool) (k : ℕ) → IsShort rows → 32 ≤ k → k < length bits → (found : Option (Row E)) → find (λ row. begins row.code bits) rows ≡ found → word_at rows (take k bits) found ≡ word_at rows bits found
@@ -111,7 +99,7 @@ same_word rows bits k short most long None is =
     let size : length (take k bits) ≡ k = length-take-le k bits (omega (arith, long)) in
     let a = none_longer rows (take k bits) short (omega (arith, size, most)) in
     let b = none_longer rows bits short (omega (arith, most, long)) in
-    ap Bad (if-false (list_any (λ code. begins (take k bits) code) (codes_of rows)) Cut NoCode a ∙ sym (if-false (list_any (λ code. begins bits code) (codes_of rows)) Cut NoCode b))
+    ap Bad (cond-false (list_any (λ code. begins (take k bits) code) (codes_of_rows rows)) Cut NoCode a ∙ sym (cond-false (list_any (λ code. begins bits code) (codes_of_rows rows)) Cut NoCode b))
 same_word rows bits k short most long (Some row) is = same_whole row bits k (find_short (λ row. begins row.code bits) rows row short is) most long
 
 same_read : {E : Type 0} (rows : List (Row E)) (bits : List Bool) (k : ℕ) → IsShort rows → 32 ≤ k → k < length bits → read rows (take k bits) ≡ read rows bits
@@ -119,19 +107,19 @@ same_read rows bits k short most long =
     ap (word_at rows (take k bits)) (same_find rows bits k short most) ∙ same_word rows bits k short most long (find (λ row. begins row.code bits) rows) refl
 
 long_no_end : (bits : List Bool) → 8 ≤ length bits → is_end bits ≡ false
-long_no_end bits h = ap (λ b. b && not (list_any (λ b. b) bits)) (not_less (length bits) 8 h)
+long_no_end bits h = ap (λ b. b && not (list_any (λ b. b) bits)) (le-ltb (length bits) 8 h)
 
 -- bits behind the next 32 decide nothing
 same_next : (format : Format) (before : List Element) (bits : List Bool) (p k : ℕ) → 32 ≤ k → next format before (take k bits, p) ≡ next format before (bits, p)
 unfolding next
-same_next format before bits p k most = elim (either_way (nat_lt k (length bits))) [
+same_next format before bits p k most = elim (cases_Bool (nat_lt k (length bits))) [
   | inl long_ ↦
       let long : k < length bits = ltb-true k (length bits) long_ in
       let size : length (take k bits) ≡ k = length-take-le k bits (omega (arith, long)) in
       ap (judged (λ e n. first_why (faults format before e)))
       (ap (λ b. cond (may_end (slot before) && b) Stop (or_no_start (slot before) (read (rows (slot before)) (take k bits)))) (long_no_end (take k bits) (omega (arith, size, most)) ∙ sym (long_no_end bits (omega (arith, most, long))))
       ∙ ap (λ found. cond (may_end (slot before) && is_end bits) Stop (or_no_start (slot before) found)) (same_read (rows (slot before)) bits k (rows_short (slot before)) most long))
-  | inr few ↦ ap (λ (t : List Bool). judged (λ e n. first_why (faults format before e)) (at_slot (slot before) t)) (take_all_of bits k (ltb-false k (length bits) few))
+  | inr few ↦ ap (λ (t : List Bool). judged (λ e n. first_why (faults format before e)) (at_slot (slot before) t)) (take_all k bits (ltb-false k (length bits) few))
 ]
 
 same_picture : (format : Format) (before : List Element) (bits : List Bool) (p k : ℕ) → 32 ≤ k → picture format before (take k bits, p) ≡ picture format before (bits, p)

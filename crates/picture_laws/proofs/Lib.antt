@@ -1,5 +1,4 @@
 pub mod Answers
-pub mod Basics
 pub mod Blocks
 pub mod Chains
 pub mod Cuts

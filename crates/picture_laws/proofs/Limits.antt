@@ -1,17 +1,15 @@
 -- The limit of a picture, for walks: where the last element ends within it, all do.
 use Rattle.std.proofs.Common.{◌≡◌, ℕ, ◌+◌, ◌-◌, ◌*◌, ◌<◌, ◌≤◌, Bool, cond, List, [], ◌∷◌, length, Option, Some, None, nat_lt, refl, sym, ◌∙◌, ap, subst, inl, inr, arith}
-use Rattle.std.proofs.lemmas.Bool.{ltb-false, lt-ltb}
+use Rattle.std.proofs.lemmas.Bool.{ltb-false, lt-ltb, cases_Bool, cond-false, cond-true, le-ltb}
 use Rattle.pel_model.specs.declared.Format.{Format}
 use Rattle.pel_model.specs.declared.Why.{Why}
 use Rattle.pel_model.specs.declared.Why.TheVariants.{TooLong}
 use Rattle.pel_model.specs.Valid.{limit, group_count}
 use Rattle.pel_model.specs.Walk.{Step, Good, Stop, Bad, skipped, after, Goes, judged, verdict}
 use Rattle.pel_model.specs.Grammar.{Element, Gbsc, Slot, AtPsc, AtTr, AtPtype, AtPei, AtPspare, AtGroup, AtGn, AtGquant, AtGei, AtGspare, AtMacroblock, AtMtype, AtMquant, AtMvd, AtCbp, AtDc, AtFirst, AtCoefficient, slot, next, picture, counted, begun}
-use Rattle.picture_laws.proofs.Basics.{not_less}
 use Rattle.picture_laws.proofs.Slots.{word_at, Takes}
 use Rattle.picture_laws.proofs.Words.{length-field}
 use Rattle.picture_laws.proofs.Chains.{next-is, judged_good, judged_here}
-use Rattle.vlc_codes.proofs.WordLaws.{either_way, if-true, if-false}
 
 -- the bits of a group header that are still due
 abbrev pub due : Slot → ℕ
@@ -84,7 +82,7 @@ pub picture-good : (format : Format) (before : List Element) (r : List Bool × �
 unfolding picture
 picture-good format before r e n h fits =
     judged_here (λ e n. cond (nat_lt (limit format) (counted format (e ∷ before) (r.1 + n))) (Some TooLong) None) (next format before r) e n h
-    (if-false (nat_lt (limit format) (counted format (e ∷ before) (r.1 + n))) (Some TooLong) None (not_less (limit format) (counted format (e ∷ before) (r.1 + n)) fits))
+    (cond-false (nat_lt (limit format) (counted format (e ∷ before) (r.1 + n))) (Some TooLong) None (le-ltb (limit format) (counted format (e ∷ before) (r.1 + n)) fits))
 
 some_none : {A : Type 0} (x : A) → Some x ≡ None → ⊥
 some_none x h = cc
@@ -95,8 +93,8 @@ picture-next format before r e n h =
     let j = judged_good (λ e n. cond (nat_lt (limit format) (counted format (e ∷ before) (r.1 + n))) (Some TooLong) None) (next format before r) e n h in
     let past = nat_lt (limit format) (counted format (e ∷ before) (r.1 + n)) in (
       j.0,
-      elim (either_way (nat_lt (limit format) (counted format (e ∷ before) (r.1 + n)))) [
-        | inl long ↦ absurd (some_none TooLong (sym (if-true (nat_lt (limit format) (counted format (e ∷ before) (r.1 + n))) (Some TooLong) None long) ∙ j.1))
+      elim (cases_Bool (nat_lt (limit format) (counted format (e ∷ before) (r.1 + n)))) [
+        | inl long ↦ absurd (some_none TooLong (sym (cond-true (nat_lt (limit format) (counted format (e ∷ before) (r.1 + n))) (Some TooLong) None long) ∙ j.1))
         | inr fits ↦ ltb-false (limit format) (counted format (e ∷ before) (r.1 + n)) fits
       ],
     )
@@ -105,7 +103,7 @@ pub picture-long : (format : Format) (before : List Element) (r : List Bool × �
 unfolding picture
 picture-long format before r e n h long =
     ap (judged (λ e n. cond (nat_lt (limit format) (counted format (e ∷ before) (r.1 + n))) (Some TooLong) None)) h
-    ∙ ap (verdict e n) (if-true (nat_lt (limit format) (counted format (e ∷ before) (r.1 + n))) (Some TooLong) None (lt-ltb (limit format) (counted format (e ∷ before) (r.1 + n)) long))
+    ∙ ap (verdict e n) (cond-true (nat_lt (limit format) (counted format (e ∷ before) (r.1 + n))) (Some TooLong) None (lt-ltb (limit format) (counted format (e ∷ before) (r.1 + n)) long))
 
 verdict_stop : {E : Type 0} (e : E) (n : ℕ) (o : Option Why) → verdict e n o ≡ Stop → Good e n ≡ Stop
 verdict_stop e n None h = h

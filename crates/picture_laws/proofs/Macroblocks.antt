@@ -2,7 +2,7 @@
 -- text.
 use Rattle.std.proofs.Common.{◌≡◌, ℕ, ◌+◌, ◌-◌, ◌<◌, ◌≤◌, ◌^◌, ◌==◌, not, Bool, true, false, cond, List, [], ◌∷◌, ◌++◌, length, map, Option, Some, None, nat_lt, refl, sym, ◌∙◌, ap, subst, inl, inr, append_assoc, append-nil, ℤ, pos, ◌-ℤ◌, nat_abs, MatchBool, IsSomeAnd, IfSome, IsNone, IsSome, All, Any, is_some, arith}
 use Rattle.std.specs.List.{flat_map}
-use Rattle.std.proofs.lemmas.Bool.{false≢true}
+use Rattle.std.proofs.lemmas.Bool.{false≢true, cases_Bool, cond-false, cond-true, le-ltb, ne_eqb}
 use Rattle.pel_model.specs.declared.Format.{Format}
 use Rattle.pel_model.specs.declared.MbKind.{MbKind}
 use Rattle.pel_model.specs.declared.Why.TheVariants.{BadQuant, BadAddress, BadVector, VectorOutside}
@@ -24,9 +24,7 @@ use Rattle.std.proofs.lemmas.List.{length-map}
 use Rattle.picture_laws.proofs.Patterns.{ones-trues, number-some, sent-trues, blocks-intra, blocks-coded, blocks-none, any-sent, not-both}
 use Rattle.picture_laws.proofs.Chains.{Stands, word_in}
 use Rattle.picture_laws.proofs.Vectors.{pair-of, predicted, predictor-small, in-range, stays}
-use Rattle.picture_laws.proofs.Basics.{not_less, not_same}
 use Rattle.picture_laws.proofs.Blocks.{Says, says-none, says-cons, says-append, says-text, one_pass, two_pass, state, sent, AreBlocksOf, says-blocks, blocks-state, blocks-slot}
-use Rattle.vlc_codes.proofs.WordLaws.{either_way, if-true, if-false}
 
 pub says-same : (format : Format) (before es es' : List Element) (a b : List Bool) → es ≡ es' → a ≡ b → Says format before es a → Says format before es' b
 says-same format before es es' a b is same s = subst (λ t. Says format before t b) is (says-text format before es a b same s)
@@ -46,7 +44,7 @@ quantiser_says format before true k None at is h = absurd h
 quantiser_says format before true k (Some q) at is h =
     let stands : Stands format before (Mquant q) = record {
       takes = subst (λ s. Takes s (Mquant q)) (sym at) (q, omega (arith, h), refl);
-      good = one_pass (q == 0) BadQuant (not_same q 0 (λ same. absurd (omega (arith, same, h.0))));
+      good = one_pass (q == 0) BadQuant (ne_eqb q 0 (λ same. absurd (omega (arith, same, h.0))));
     } in
     (says-same format before (Mquant q ∷ []) (Mquant q ∷ []) (field q 5 ++ []) (field q 5) refl (append-nil (field q 5)) (says-cons format before (Mquant q) [] (field q 5) [] stands refl (says-none format (Mquant q ∷ before))), ap vector_slot is)
 quantiser_says format before false k None at is h = (says-none format before, at)
@@ -112,11 +110,11 @@ has_vector_says format before number last m is at kind_is group_is address_is ve
     )
 
 pub says-vector : (format : Format) (before : List Element) (number : ℕ) (last : Option Macroblock) (m : Macroblock) → IsLast last → IsAtVector number last m before → ComponentFits format number Across m → ComponentFits format number Down m → Says format before (vector_elements last m) (mvd_text last m) × IsBehindVector number m (after before (vector_elements last m))
-says-vector format before number last m is place across down = elim (either_way (has_vector m.kind)) [
+says-vector format before number last m is place across down = elim (cases_Bool (has_vector m.kind)) [
   | inl has ↦
       let es : List Element = mvd_element Across last m ∷ mvd_element Down last m ∷ [] in
-      let e : mvd_element Across last m ∷ mvd_element Down last m ∷ [] ≡ vector_elements last m = sym (if-true (has_vector m.kind) (mvd_element Across last m ∷ mvd_element Down last m ∷ []) [] has) in
-      let t : mvd_word Across last m ++ mvd_word Down last m ≡ mvd_text last m = sym (if-true (has_vector m.kind) (mvd_word Across last m ++ mvd_word Down last m) [] has) in
+      let e : mvd_element Across last m ∷ mvd_element Down last m ∷ [] ≡ vector_elements last m = sym (cond-true (has_vector m.kind) (mvd_element Across last m ∷ mvd_element Down last m ∷ []) [] has) in
+      let t : mvd_word Across last m ++ mvd_word Down last m ≡ mvd_text last m = sym (cond-true (has_vector m.kind) (mvd_word Across last m ++ mvd_word Down last m) [] has) in
       let r = has_vector_says format before number last m is
       (place.at ∙ ap (λ b. cond b (AtMvd Across) (cbp_slot m.kind)) has) place.kind_is place.group_is place.address_is
       (λ axis. place.vector_is axis ∙ ap (λ b. cond b (predictor axis last m) (pos 0)) has)
@@ -124,8 +122,8 @@ says-vector format before number last m is place across down = elim (either_way 
       (subst (λ b. MatchBool b (IsFit format number Down m) (component Down m ≡ pos 0)) has down) in
       (says-same format before _ (vector_elements last m) _ (mvd_text last m) e t r.0, subst (λ es. IsBehindVector number m (after before es)) e r.1)
   | inr none ↦
-      let e : [] ≡ vector_elements last m = sym (if-false (has_vector m.kind) (mvd_element Across last m ∷ mvd_element Down last m ∷ []) [] none) in
-      let t : [] ≡ mvd_text last m = sym (if-false (has_vector m.kind) (mvd_word Across last m ++ mvd_word Down last m) [] none) in
+      let e : [] ≡ vector_elements last m = sym (cond-false (has_vector m.kind) (mvd_element Across last m ∷ mvd_element Down last m ∷ []) [] none) in
+      let t : [] ≡ mvd_text last m = sym (cond-false (has_vector m.kind) (mvd_word Across last m ++ mvd_word Down last m) [] none) in
       let a : component Across m ≡ pos 0 = subst (λ b. MatchBool b (IsFit format number Across m) (component Across m ≡ pos 0)) none across in
       let d : component Down m ≡ pos 0 = subst (λ b. MatchBool b (IsFit format number Down m) (component Down m ≡ pos 0)) none down in (
         says-same format before [] (vector_elements last m) [] (mvd_text last m) e t (says-none format before),
@@ -160,7 +158,7 @@ done_blocks number m before bs group_is address_is vector_is at count =
 
 -- behind the vector, all blocks or none where there is no CBP
 says_blocks_alone : (format : Format) (before : List Element) (number : ℕ) (m : Macroblock) → IsBehindVector number m before → has_cbp m.kind ≡ false → blocks before ≡ cond (is_intra m.kind) 6 0 → length m.blocks ≡ 6 → BlocksFit m.kind m.blocks → (sent m.blocks ≡ cond (is_intra m.kind) 6 0) × AreBlocksOf (is_intra m.kind) m.blocks
-says_blocks_alone format before number m place none count six fit = elim (either_way (is_intra m.kind)) [
+says_blocks_alone format before number m place none count six fit = elim (cases_Bool (is_intra m.kind)) [
   | inl intra ↦
       let all = subst (λ b. MatchBool b (All (λ b. IsSomeAnd b IsIntraBlock) m.blocks) (MatchBool (has_cbp m.kind) (Any IsSome m.blocks × All (λ b. IfSome b IsCodedBlock) m.blocks) (All IsNone m.blocks))) intra fit in
       let r = blocks-intra m.blocks all in
@@ -173,7 +171,7 @@ says_blocks_alone format before number m place none count six fit = elim (either
 ]
 
 pub says-rest : (format : Format) (before : List Element) (number : ℕ) (m : Macroblock) → IsBehindVector number m before → blocks before ≡ cond (is_intra m.kind) 6 0 → length m.blocks ≡ 6 → BlocksFit m.kind m.blocks → Says format before (cbp_elements m ++ blocks_elements m.blocks) (cbp_text m ++ flat_map sent_block_text m.blocks) × IsDone number m (after before (cbp_elements m ++ blocks_elements m.blocks))
-says-rest format before number m place count six fit = elim (either_way (has_cbp m.kind)) [
+says-rest format before number m place count six fit = elim (cases_Bool (has_cbp m.kind)) [
   | inl has ↦
       let inter : is_intra m.kind ≡ false = not-both m.kind has in
       let rest = subst (λ b. MatchBool b (All (λ b. IsSomeAnd b IsIntraBlock) m.blocks) (MatchBool (has_cbp m.kind) (Any IsSome m.blocks × All (λ b. IfSome b IsCodedBlock) m.blocks) (All IsNone m.blocks))) inter fit in
@@ -186,8 +184,8 @@ says-rest format before number m place count six fit = elim (either_way (has_cbp
       let stands : Stands format before (Cbp (coded_block_pattern m.blocks)) = record { takes = subst (λ s. Takes s (Cbp (coded_block_pattern m.blocks))) (sym at) (coded_block_pattern m.blocks, (some, few), refl); good = refl } in
       let next_at : block_slot (kind before) (ones (coded_block_pattern m.blocks)) ≡ block_slot (kind before) (sent m.blocks) = ap (block_slot (kind before)) ones_are in
       let valid : AreBlocksOf (is_intra (kind before)) m.blocks = subst (λ b. AreBlocksOf b m.blocks) (sym (ap is_intra place.kind_is ∙ inter)) (blocks-coded m.blocks coded.1) in
-      let e : Cbp (coded_block_pattern m.blocks) ∷ [] ≡ cbp_elements m = sym (if-true (has_cbp m.kind) (Cbp (coded_block_pattern m.blocks) ∷ []) [] has) in
-      let t : word_in before (Cbp (coded_block_pattern m.blocks)) ≡ cbp_text m = sym (if-true (has_cbp m.kind) (word_in before (Cbp (coded_block_pattern m.blocks))) [] has) in
+      let e : Cbp (coded_block_pattern m.blocks) ∷ [] ≡ cbp_elements m = sym (cond-true (has_cbp m.kind) (Cbp (coded_block_pattern m.blocks) ∷ []) [] has) in
+      let t : word_in before (Cbp (coded_block_pattern m.blocks)) ≡ cbp_text m = sym (cond-true (has_cbp m.kind) (word_in before (Cbp (coded_block_pattern m.blocks))) [] has) in
       let blocks_say = says-blocks format (Cbp (coded_block_pattern m.blocks) ∷ before) m.blocks next_at ones_are valid in (
         says-same format before (Cbp (coded_block_pattern m.blocks) ∷ blocks_elements m.blocks) (cbp_elements m ++ blocks_elements m.blocks) (cbp_text m ++ flat_map sent_block_text m.blocks) (cbp_text m ++ flat_map sent_block_text m.blocks) (ap (λ es. es ++ blocks_elements m.blocks) e) refl (says-cons format before (Cbp (coded_block_pattern m.blocks)) (blocks_elements m.blocks) (cbp_text m) (flat_map sent_block_text m.blocks) stands t blocks_say),
         subst (λ es. IsDone number m (after before (es ++ blocks_elements m.blocks))) e (done_blocks number m (Cbp (coded_block_pattern m.blocks) ∷ before) m.blocks place.group_is place.address_is (both_axes (λ axis. vector axis (Cbp (coded_block_pattern m.blocks) ∷ before) ≡ component axis m) (place.vector_is Across) (place.vector_is Down)) next_at ones_are),
@@ -198,8 +196,8 @@ says-rest format before number m place count six fit = elim (either_way (has_cbp
       place.at ∙ (ap (λ b. cond b AtCbp (block_slot m.kind (cond (is_intra m.kind) 6 0))) none ∙ (ap (block_slot m.kind) (sym r.0) ∙ ap (λ k. block_slot k (sent m.blocks)) (sym place.kind_is))) in
       let count_is : blocks before ≡ sent m.blocks = count ∙ sym r.0 in
       let valid : AreBlocksOf (is_intra (kind before)) m.blocks = subst (λ b. AreBlocksOf b m.blocks) (sym (ap is_intra place.kind_is)) r.1 in
-      let e : [] ≡ cbp_elements m = sym (if-false (has_cbp m.kind) (Cbp (coded_block_pattern m.blocks) ∷ []) [] none) in
-      let t : [] ≡ cbp_text m = sym (if-false (has_cbp m.kind) (word_in before (Cbp (coded_block_pattern m.blocks))) [] none) in (
+      let e : [] ≡ cbp_elements m = sym (cond-false (has_cbp m.kind) (Cbp (coded_block_pattern m.blocks) ∷ []) [] none) in
+      let t : [] ≡ cbp_text m = sym (cond-false (has_cbp m.kind) (word_in before (Cbp (coded_block_pattern m.blocks))) [] none) in (
         says-same format before (blocks_elements m.blocks) (cbp_elements m ++ blocks_elements m.blocks) (flat_map sent_block_text m.blocks) (cbp_text m ++ flat_map sent_block_text m.blocks) (ap (λ es. es ++ blocks_elements m.blocks) e) (ap (λ t. t ++ flat_map sent_block_text m.blocks) t) (says-blocks format before m.blocks at count_is valid),
         subst (λ es. IsDone number m (after before (es ++ blocks_elements m.blocks))) e (done_blocks number m before m.blocks place.group_is place.address_is place.vector_is at count_is),
       )
@@ -231,13 +229,13 @@ at-vector number last m before place rise at =
     }
 
 pub vector-blocks : (before : List Element) (last : Option Macroblock) (m : Macroblock) → blocks (after before (vector_elements last m)) ≡ blocks before
-vector-blocks before last m = elim (either_way (has_vector m.kind)) [
-  | inl has ↦ ap (λ es. blocks (after before es)) (if-true (has_vector m.kind) (mvd_element Across last m ∷ mvd_element Down last m ∷ []) [] has)
-  | inr none ↦ ap (λ es. blocks (after before es)) (if-false (has_vector m.kind) (mvd_element Across last m ∷ mvd_element Down last m ∷ []) [] none)
+vector-blocks before last m = elim (cases_Bool (has_vector m.kind)) [
+  | inl has ↦ ap (λ es. blocks (after before es)) (cond-true (has_vector m.kind) (mvd_element Across last m ∷ mvd_element Down last m ∷ []) [] has)
+  | inr none ↦ ap (λ es. blocks (after before es)) (cond-false (has_vector m.kind) (mvd_element Across last m ∷ mvd_element Down last m ∷ []) [] none)
 ]
 
 pub component_small : (format : Format) (number : ℕ) (axis : Axis) (m : Macroblock) → ComponentFits format number axis m → (nat_abs (component axis m) ≤ 15) × (has_vector m.kind ≡ false → component axis m ≡ pos 0)
-component_small format number axis m fit = elim (either_way (has_vector m.kind)) [
+component_small format number axis m fit = elim (cases_Bool (has_vector m.kind)) [
   | inl has ↦ ((subst (λ b. MatchBool b (IsFit format number axis m) (component axis m ≡ pos 0)) has fit).0, λ none. absurd (false≢true (sym none ∙ has)))
   | inr none ↦
       let zero_ : component axis m ≡ pos 0 = subst (λ b. MatchBool b (IsFit format number axis m) (component axis m ≡ pos 0)) none fit in
@@ -274,7 +272,7 @@ five a b c d e f =
 pub stands-mba : (format : Format) (number : ℕ) (last : Option Macroblock) (m : Macroblock) (before : List Element) → IsBehind number last before → address_of last < m.address → m.address ≤ 33 → Stands format before (Mba (m.address - address_of last))
 stands-mba format number last m before place rise most = record {
   takes = subst (λ s. Takes s (Mba (m.address - address_of last))) (sym place.at) (inl (m.address - address_of last, (omega (arith, rise), omega (arith, most)), refl));
-  good = one_pass (nat_lt 33 (address before + (m.address - address_of last))) BadAddress (not_less 33 (address before + (m.address - address_of last)) (omega (arith, place.address_is, rise, most)));
+  good = one_pass (nat_lt 33 (address before + (m.address - address_of last))) BadAddress (le-ltb 33 (address before + (m.address - address_of last)) (omega (arith, place.address_is, rise, most)));
 }
 
 pub says-macroblock : (format : Format) (number : ℕ) (last : Option Macroblock) (m : Macroblock) (before : List Element) → IsBehind number last before → address_of last < m.address → m.address ≤ 33 → IsValidMacroblock format number m → Says format before (macroblock_elements last m) (macroblock_text last m) × IsBehind number (Some m) (after before (macroblock_elements last m))

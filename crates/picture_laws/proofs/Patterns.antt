@@ -1,5 +1,6 @@
 -- The blocks of a macroblock: which are sent, and the number that says so.
 use Rattle.std.proofs.Common.{◌≡◌, ℕ, zero, suc, ◌<◌, ◌≤◌, ◌^◌, ◌==◌, Bool, true, false, List, [], ◌∷◌, length, map, Option, Some, None, refl, sym, ◌∙◌, ap, subst, IsSomeAnd, IfSome, IsNone, IsSome, All, Any, is_some, slice_index_or, arith}
+use Rattle.std.proofs.lemmas.List.Elements.{All-cons, All-head, All-nil, All-tail}
 use Rattle.std.specs.List.{list_all}
 use Rattle.std.proofs.lemmas.Bool.{false≢true, eqb-true}
 use Rattle.std.proofs.lemmas.Nat.{pow_pos}
@@ -12,7 +13,7 @@ use Rattle.pel_model.specs.Valid.{IsIntraBlock, IsCodedBlock}
 use Rattle.pel_model.specs.Grammar.{ones}
 use Rattle.picture_laws.proofs.Words.{field-number, number_below}
 use Rattle.picture_laws.proofs.Written.{below_all, below}
-use Rattle.picture_laws.proofs.Blocks.{all-head, all-tail, all-cons, all-nil, sent, AreBlocksOf}
+use Rattle.picture_laws.proofs.Blocks.{sent, AreBlocksOf}
 
 -- ---- numbers of flags
 
@@ -53,10 +54,10 @@ sent-trues (Some b ∷ bs) = ap suc (sent-trues bs)
 
 pub blocks-intra : (bs : List (Option Block)) → All (λ b. IsSomeAnd b IsIntraBlock) bs → (sent bs ≡ length bs) × AreBlocksOf true bs
 blocks-intra [] h = (refl, tt)
-blocks-intra (None ∷ bs) h = absurd (all-head (λ b. IsSomeAnd b IsIntraBlock) None bs h)
+blocks-intra (None ∷ bs) h = absurd (All-head (λ b. IsSomeAnd b IsIntraBlock) None bs h)
 blocks-intra (Some b ∷ bs) h =
-    let rest = blocks-intra bs (all-tail (λ b. IsSomeAnd b IsIntraBlock) (Some b) bs h) in
-    (ap suc rest.0, (all-head (λ b. IsSomeAnd b IsIntraBlock) (Some b) bs h, rest.1))
+    let rest = blocks-intra bs (All-tail (λ b. IsSomeAnd b IsIntraBlock) (Some b) bs h) in
+    (ap suc rest.0, (All-head (λ b. IsSomeAnd b IsIntraBlock) (Some b) bs h, rest.1))
 
 sent_most : (bs : List (Option Block)) → sent bs ≤ length bs
 sent_most [] = omega arith
@@ -64,28 +65,28 @@ sent_most (None ∷ bs) = omega (arith, sent_most bs)
 sent_most (Some b ∷ bs) = omega (arith, sent_most bs)
 
 pub intra-blocks : (bs : List (Option Block)) → sent bs ≡ length bs → AreBlocksOf true bs → All (λ b. IsSomeAnd b IsIntraBlock) bs
-intra-blocks [] n h = all-nil (λ b. IsSomeAnd b IsIntraBlock)
+intra-blocks [] n h = All-nil (λ b. IsSomeAnd b IsIntraBlock)
 intra-blocks (None ∷ bs) n h = absurd (omega (arith, n, sent_most bs))
-intra-blocks (Some b ∷ bs) n h = all-cons (λ b. IsSomeAnd b IsIntraBlock) (Some b) bs h.0 (intra-blocks bs (omega (arith, n)) h.1)
+intra-blocks (Some b ∷ bs) n h = All-cons (λ b. IsSomeAnd b IsIntraBlock) (Some b) bs h.0 (intra-blocks bs (omega (arith, n)) h.1)
 
 pub blocks-coded : (bs : List (Option Block)) → All (λ b. IfSome b IsCodedBlock) bs → AreBlocksOf false bs
 blocks-coded [] h = tt
-blocks-coded (None ∷ bs) h = blocks-coded bs (all-tail (λ b. IfSome b IsCodedBlock) None bs h)
-blocks-coded (Some b ∷ bs) h = (all-head (λ b. IfSome b IsCodedBlock) (Some b) bs h, blocks-coded bs (all-tail (λ b. IfSome b IsCodedBlock) (Some b) bs h))
+blocks-coded (None ∷ bs) h = blocks-coded bs (All-tail (λ b. IfSome b IsCodedBlock) None bs h)
+blocks-coded (Some b ∷ bs) h = (All-head (λ b. IfSome b IsCodedBlock) (Some b) bs h, blocks-coded bs (All-tail (λ b. IfSome b IsCodedBlock) (Some b) bs h))
 
 pub coded-blocks : (bs : List (Option Block)) → AreBlocksOf false bs → All (λ b. IfSome b IsCodedBlock) bs
-coded-blocks [] h = all-nil (λ b. IfSome b IsCodedBlock)
-coded-blocks (None ∷ bs) h = all-cons (λ b. IfSome b IsCodedBlock) None bs tt (coded-blocks bs h)
-coded-blocks (Some b ∷ bs) h = all-cons (λ b. IfSome b IsCodedBlock) (Some b) bs h.0 (coded-blocks bs h.1)
+coded-blocks [] h = All-nil (λ b. IfSome b IsCodedBlock)
+coded-blocks (None ∷ bs) h = All-cons (λ b. IfSome b IsCodedBlock) None bs tt (coded-blocks bs h)
+coded-blocks (Some b ∷ bs) h = All-cons (λ b. IfSome b IsCodedBlock) (Some b) bs h.0 (coded-blocks bs h.1)
 
 pub blocks-none : (intra : Bool) (bs : List (Option Block)) → All IsNone bs → (sent bs ≡ 0) × AreBlocksOf intra bs
 blocks-none intra [] h = (refl, tt)
-blocks-none intra (None ∷ bs) h = blocks-none intra bs (all-tail IsNone None bs h)
-blocks-none intra (Some b ∷ bs) h = absurd (false≢true (sym (all-head IsNone (Some b) bs h)))
+blocks-none intra (None ∷ bs) h = blocks-none intra bs (All-tail IsNone None bs h)
+blocks-none intra (Some b ∷ bs) h = absurd (false≢true (sym (All-head IsNone (Some b) bs h)))
 
 pub none-blocks : (bs : List (Option Block)) → sent bs ≡ 0 → All IsNone bs
-none-blocks [] h = all-nil IsNone
-none-blocks (None ∷ bs) h = all-cons IsNone None bs refl (none-blocks bs h)
+none-blocks [] h = All-nil IsNone
+none-blocks (None ∷ bs) h = All-cons IsNone None bs refl (none-blocks bs h)
 none-blocks (Some b ∷ bs) h = absurd (omega (arith, h))
 
 any_sent_at : (bs : List (Option Block)) (k : ℕ) (x : Option Block) → k < length bs → slice_index_or bs k x ≡ x → IsSome x → 0 < sent bs

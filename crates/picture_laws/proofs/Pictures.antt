@@ -1,7 +1,7 @@
 -- A valid picture in an input form, read from its first bit to the end.
 use Rattle.std.proofs.Common.{◌≡◌, ℕ, zero, suc, ◌+◌, ◌<◌, ◌≤◌, ◌^◌, ◌&&◌, not, Bool, true, false, List, [], ◌∷◌, ◌++◌, length, map, take, drop, get_or, replicate, Option, Some, None, refl, sym, ◌∙◌, ap, subst, inl, inr, ◌⊎◌, arith}
 use Rattle.std.specs.List.{list_any}
-use Rattle.std.proofs.lemmas.Bool.{lt-ltb}
+use Rattle.std.proofs.lemmas.Bool.{lt-ltb, cases_Bool, cond-false, cond-true}
 use Rattle.std.proofs.lemmas.List.{length-replicate}
 use Rattle.pel_model.specs.declared.Format.{Format}
 use Rattle.pel_model.specs.declared.Format.TheVariants.{Qcif, Cif}
@@ -24,7 +24,6 @@ use Rattle.picture_laws.proofs.Chains.{walk-goes}
 use Rattle.picture_laws.proofs.Limits.{due, claimed, goes-picture, picture-stops}
 use Rattle.picture_laws.proofs.Blocks.{Says, says-cons, says-append}
 use Rattle.picture_laws.proofs.Groups.{says-pspares, pspares-group, IsAtGroup, RiseFrom, says-groups}
-use Rattle.vlc_codes.proofs.WordLaws.{either_way, if-true, if-false}
 
 -- ---- the groups' numbers
 
@@ -148,15 +147,15 @@ none_mquant None = refl
 none_mquant (Some q) = refl
 
 none_vector : (last : Option Macroblock) (m : Macroblock) → gbscs (vector_elements last m) ≡ 0
-none_vector last m = elim (either_way (has_vector m.kind)) [
-  | inl has ↦ ap gbscs (if-true (has_vector m.kind) (mvd_element Across last m ∷ mvd_element Down last m ∷ []) [] has)
-  | inr none ↦ ap gbscs (if-false (has_vector m.kind) (mvd_element Across last m ∷ mvd_element Down last m ∷ []) [] none)
+none_vector last m = elim (cases_Bool (has_vector m.kind)) [
+  | inl has ↦ ap gbscs (cond-true (has_vector m.kind) (mvd_element Across last m ∷ mvd_element Down last m ∷ []) [] has)
+  | inr none ↦ ap gbscs (cond-false (has_vector m.kind) (mvd_element Across last m ∷ mvd_element Down last m ∷ []) [] none)
 ]
 
 none_cbp : (m : Macroblock) → gbscs (cbp_elements m) ≡ 0
-none_cbp m = elim (either_way (has_cbp m.kind)) [
-  | inl has ↦ ap gbscs (if-true (has_cbp m.kind) (Cbp (coded_block_pattern m.blocks) ∷ []) [] has)
-  | inr none ↦ ap gbscs (if-false (has_cbp m.kind) (Cbp (coded_block_pattern m.blocks) ∷ []) [] none)
+none_cbp m = elim (cases_Bool (has_cbp m.kind)) [
+  | inl has ↦ ap gbscs (cond-true (has_cbp m.kind) (Cbp (coded_block_pattern m.blocks) ∷ []) [] has)
+  | inr none ↦ ap gbscs (cond-false (has_cbp m.kind) (Cbp (coded_block_pattern m.blocks) ∷ []) [] none)
 ]
 
 none_macroblock : (last : Option Macroblock) (m : Macroblock) → gbscs (macroblock_elements last m) ≡ 0
@@ -211,7 +210,7 @@ pub stops : (format : Format) (before : List Element) (r : List Bool × ℕ) →
 unfolding next
 stops format before r may end =
     ap (judged (λ e n. first_why (faults format before e)))
-    (if-true (may_end (slot before) && is_end r.0) Stop (or_no_start (slot before) (read (rows (slot before)) r.0)) (ap (λ b. b && is_end r.0) may ∙ end))
+    (cond-true (may_end (slot before) && is_end r.0) Stop (or_no_start (slot before) (read (rows (slot before)) r.0)) (ap (λ b. b && is_end r.0) may ∙ end))
 
 abbrev pub IsEnding : Slot → Type 0
 IsEnding s = (s ≡ AtGroup) ⊎ (s ≡ AtMacroblock)

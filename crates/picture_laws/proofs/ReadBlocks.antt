@@ -1,6 +1,7 @@
 -- Elements that may stand one behind another up to an end: those of a block are the elements of a valid block.
 use Rattle.std.proofs.Common.{suc, ◌≡◌, ℕ, ◌+◌, ◌-◌, ◌<◌, ◌≤◌, ◌==◌, ◌&&◌, ◌||◌, Bool, true, false, cond, List, [], ◌∷◌, ◌++◌, map, Option, Some, None, nat_lt, refl, sym, ◌∙◌, ap, subst, inl, inr, append_assoc, ℤ, All, sum_by, is_some, arith}
-use Rattle.std.proofs.lemmas.Bool.{false≢true, ltb-false}
+use Rattle.std.proofs.lemmas.List.Elements.{All-cons, All-nil}
+use Rattle.std.proofs.lemmas.Bool.{false≢true, ltb-false, eqb-false, or_parts}
 use Rattle.std.proofs.lemmas.List.Sums.{sum_by-cons}
 use Rattle.pel_model.specs.declared.Format.{Format}
 use Rattle.pel_model.specs.declared.MbKind.{MbKind}
@@ -15,8 +16,8 @@ use Rattle.pel_model.specs.Elements.{block_elements, blocks_elements}
 use Rattle.picture_laws.proofs.Slots.{Takes, IsSent}
 use Rattle.picture_laws.proofs.Chains.{Stands, Chain, chain-right}
 use Rattle.picture_laws.proofs.Patterns.{trues}
-use Rattle.picture_laws.proofs.Basics.{not_equal, or_false}
-use Rattle.picture_laws.proofs.Blocks.{all-cons, all-nil, one_passed, two_passed, sent_valid, first-filled, IsBlockOf, AreBlocksOf, block-state, block-blocks, block-slot}
+use Rattle.picture_laws.proofs.Blocks.{one_passed, two_passed, sent_valid, IsBlockOf, AreBlocksOf, block-state}
+use Rattle.pel_model.proofs.BlockElements.{block-blocks, block-slot, first-filled}
 
 -- elements that may stand behind these, up to where an end may be
 pub record IsRest (format : Format) (before es : List Element) : Type 0 where
@@ -67,7 +68,7 @@ with_one before es rest c sent ok is r =
       cs = c ∷ r.cs;
       rest = r.rest;
       is = is ∙ ap (λ t. Tcoeff c ∷ t) r.is;
-      valid = all-cons IsValidCoefficient c r.cs (sent_valid c.run c.level c.long sent ok) r.valid;
+      valid = All-cons IsValidCoefficient c r.cs (sent_valid c.run c.level c.long sent ok) r.valid;
       fits = omega (arith, r.fits, sum);
     }
 
@@ -80,7 +81,7 @@ read-coefficients format before (e ∷ es) at few r =
           let s = rest-step format before e (Tcoeff c.0) es r c.2 in
           let ok = one_more format before c.0 s.0 in
           with_one before (e ∷ es) es c.0 c.1 ok.0 (ap (λ x. x ∷ es) c.2) (read-coefficients format (Tcoeff c.0 ∷ before) es refl ok.1 s.1)
-      | inr end ↦ record { cs = []; rest = es; is = ap (λ x. x ∷ es) end; valid = all-nil IsValidCoefficient; fits = omega (arith, few) }
+      | inr end ↦ record { cs = []; rest = es; is = ap (λ x. x ∷ es) end; valid = All-nil IsValidCoefficient; fits = omega (arith, few) }
     ]
 
 -- ---- a block
@@ -96,9 +97,9 @@ end_joined cs rest = sym (append_assoc (map Tcoeff cs) (Eob ∷ []) rest)
 
 good_dc : (n : ℕ) → n < 256 → (n == 0 || n == 128) ≡ false → IsValidDc n
 good_dc n small ok =
-    let both = or_false (n == 0) (n == 128) ok in
-    let some = not_equal n 0 both.0 in
-    (omega (arith, some), omega (arith, small), not_equal n 128 both.1)
+    let both = or_parts (n == 0) (n == 128) ok in
+    let some = eqb-false n 0 both.0 in
+    (omega (arith, some), omega (arith, small), eqb-false n 128 both.1)
 
 intra_built : (before es left : List Element) (n : ℕ) → IsValidDc n → es ≡ Dc n ∷ left → ReadsCoefficients (Dc n ∷ before) left → ReadsBlock true es
 intra_built before es left n ok is c = record {

@@ -1,6 +1,7 @@
 -- Elements that may stand one behind another up to an end: behind a picture header they are the elements of valid groups.
 use Rattle.std.proofs.Common.{◌≡◌, ◌≢◌, ℕ, zero, suc, ◌%◌, ◌<◌, ◌≤◌, ◌==◌, ◌&&◌, not, Bool, true, false, List, [], ◌∷◌, ◌++◌, length, map, replicate, Option, Some, None, nat_lt, refl, sym, ◌∙◌, ap, subst, inl, inr, ◌⊎◌, ℤ, pos, All, arith}
-use Rattle.std.proofs.lemmas.Bool.{false≢true, ltb-true}
+use Rattle.std.proofs.lemmas.List.Elements.{All-cons, All-nil}
+use Rattle.std.proofs.lemmas.Bool.{false≢true, ltb-true, and_parts, cases_Bool, eqb-false, not-false}
 use Rattle.std.proofs.lemmas.List.{length-append}
 use Rattle.pel_model.specs.declared.Format.{Format}
 use Rattle.pel_model.specs.declared.MbKind.{MbKind}
@@ -15,14 +16,12 @@ use Rattle.picture_laws.specs.SoFar.{IsBehind}
 use Rattle.picture_laws.specs.Elements.{macroblock_elements, macroblocks_elements, spare_elements, group_elements, groups_elements}
 use Rattle.picture_laws.proofs.Rows.{Among}
 use Rattle.picture_laws.proofs.Slots.{Takes}
-use Rattle.picture_laws.proofs.Basics.{not_equal, and_true, not_false}
-use Rattle.picture_laws.proofs.Blocks.{all-cons, all-nil, one_passed}
+use Rattle.picture_laws.proofs.Blocks.{one_passed}
 use Rattle.picture_laws.proofs.Macroblocks.{says-macroblock, both_axes}
 use Rattle.picture_laws.proofs.Groups.{higher, says-gspares, gspares-state, says-sent, IsAtGroup, stuffed_behind}
 use Rattle.picture_laws.proofs.Pictures.{Rising}
 use Rattle.picture_laws.proofs.ReadBlocks.{IsRest, rest-after, rest-step, rest-more}
 use Rattle.picture_laws.proofs.ReadMacroblocks.{ReadsMacroblock, read-macroblock, join3}
-use Rattle.vlc_codes.proofs.WordLaws.{either_way}
 
 -- nothing more, or a group
 abbrev pub IsOpening : List Element → Type 0
@@ -39,7 +38,7 @@ pub record ReadsMacroblocks (format : Format) (number : ℕ) (last : Option Macr
   pub next : IsOpening rest
 
 none_there : (format : Format) (number : ℕ) (last : Option Macroblock) (es : List Element) → IsOpening es → ReadsMacroblocks format number last es
-none_there format number last es next = record { stuffings = 0; ms = []; behind = []; rest = es; is = refl; rise = tt; valid = all-nil (IsValidMacroblock format number); next = next }
+none_there format number last es next = record { stuffings = 0; ms = []; behind = []; rest = es; is = refl; rise = tt; valid = All-nil (IsValidMacroblock format number); next = next }
 
 one_stuffing : (format : Format) (number : ℕ) (last : Option Macroblock) (es all : List Element) → all ≡ Stuffing ∷ es → ReadsMacroblocks format number last es → ReadsMacroblocks format number last all
 one_stuffing format number last es all is r = record { stuffings = suc r.stuffings; ms = r.ms; behind = r.behind; rest = r.rest; is = is ∙ ap (λ t. Stuffing ∷ t) r.is; rise = r.rise; valid = r.valid; next = r.next }
@@ -52,7 +51,7 @@ one_macroblock format number last all m r = record {
   rest = r.rest;
   is = m.is ∙ (ap (λ t. macroblock_elements last m.m ++ t) r.is ∙ join3 (macroblock_elements last m.m) (replicate r.stuffings Stuffing) (macroblocks_elements (Some m.m) r.behind r.ms) r.rest);
   rise = (m.rise, m.most, r.rise);
-  valid = all-cons (IsValidMacroblock format number) m.m r.ms m.valid r.valid;
+  valid = All-cons (IsValidMacroblock format number) m.m r.ms m.valid r.valid;
   next = r.next;
 }
 
@@ -100,13 +99,13 @@ pub read-gspares : (format : Format) (before es : List Element) → slot before 
 read-gspares format before [] at r = absurd (false≢true (sym (ap may_end at) ∙ r.final))
 read-gspares format before (e ∷ []) at r =
     let t : Takes AtGei e = subst (λ s. Takes s e) at r.chain.0.takes in
-    elim (either_way t.0) [
+    elim (cases_Bool t.0) [
       | inl yes_ ↦ let s = rest-step format before e (Gei true) [] r (t.1 ∙ ap Gei yes_) in absurd (false≢true s.1.final)
       | inr no_ ↦ no_spares Gei Gspare (e ∷ []) [] (ap (λ x. x ∷ []) (t.1 ∙ ap Gei no_))
     ]
 read-gspares format before (e ∷ f ∷ es) at r =
     let t : Takes AtGei e = subst (λ s. Takes s e) at r.chain.0.takes in
-    elim (either_way t.0) [
+    elim (cases_Bool t.0) [
       | inl yes_ ↦
           let s = rest-step format before e (Gei true) (f ∷ es) r (t.1 ∙ ap Gei yes_) in
           let u : Takes AtGspare f = s.1.chain.0.takes in
@@ -119,13 +118,13 @@ pub read-pspares : (format : Format) (before es : List Element) → slot before 
 read-pspares format before [] at r = absurd (false≢true (sym (ap may_end at) ∙ r.final))
 read-pspares format before (e ∷ []) at r =
     let t : Takes AtPei e = subst (λ s. Takes s e) at r.chain.0.takes in
-    elim (either_way t.0) [
+    elim (cases_Bool t.0) [
       | inl yes_ ↦ let s = rest-step format before e (Pei true) [] r (t.1 ∙ ap Pei yes_) in absurd (false≢true s.1.final)
       | inr no_ ↦ no_spares Pei Pspare (e ∷ []) [] (ap (λ x. x ∷ []) (t.1 ∙ ap Pei no_))
     ]
 read-pspares format before (e ∷ f ∷ es) at r =
     let t : Takes AtPei e = subst (λ s. Takes s e) at r.chain.0.takes in
-    elim (either_way t.0) [
+    elim (cases_Bool t.0) [
       | inl yes_ ↦
           let s = rest-step format before e (Pei true) (f ∷ es) r (t.1 ∙ ap Pei yes_) in
           let u : Takes AtPspare f = s.1.chain.0.takes in
@@ -155,8 +154,8 @@ group-next format before es more is r =
     let s1 = rest-step format (Gbsc ∷ before) m1.first (Gn m1.takes.0) m1.rest m1.left m1.takes.2 in
     let m2 = rest-more format (Gn m1.takes.0 ∷ Gbsc ∷ before) m1.rest AtGquant refl refl s1.1 in
     let s2 = rest-step format (Gn m1.takes.0 ∷ Gbsc ∷ before) m2.first (Gquant m2.takes.0) m2.rest m2.left m2.takes.2 in
-    let ok = and_true (is_group format m1.takes.0) (nat_lt (group before) m1.takes.0) (not_false (is_group format m1.takes.0 && nat_lt (group before) m1.takes.0) (one_passed (not (is_group format m1.takes.0 && nat_lt (group before) m1.takes.0)) BadGroup s1.0.good)) in
-    let some : m2.takes.0 ≢ 0 = not_equal m2.takes.0 0 (one_passed (m2.takes.0 == 0) BadQuant s2.0.good) in
+    let ok = and_parts (is_group format m1.takes.0) (nat_lt (group before) m1.takes.0) (not-false (is_group format m1.takes.0 && nat_lt (group before) m1.takes.0) (one_passed (not (is_group format m1.takes.0 && nat_lt (group before) m1.takes.0)) BadGroup s1.0.good)) in
+    let some : m2.takes.0 ≢ 0 = eqb-false m2.takes.0 0 (one_passed (m2.takes.0 == 0) BadQuant s2.0.good) in
     record {
       number = m1.takes.0;
       quant = m2.takes.0;
@@ -252,7 +251,7 @@ one_left_out format n ns es r = record {
   is = r.is;
   fits = ((refl, refl), r.fits);
   numbers_are = ap (λ t. n ∷ t) r.numbers_are;
-  valid = all-cons (IsValidGroup format) (empty n) r.gs (record { quant = (omega arith, omega arith); addresses = tt; macroblocks = all-nil (IsValidMacroblock format n) }) r.valid;
+  valid = All-cons (IsValidGroup format) (empty n) r.gs (record { quant = (omega arith, omega arith); addresses = tt; macroblocks = All-nil (IsValidMacroblock format n) }) r.valid;
 }
 
 one_sent : (format : Format) (n number : ℕ) (ns : List ℕ) (es : List Element) → number ≡ n → (g : ReadsGroup format number es) → ReadsGroups format ns g.rest → ReadsGroups format (n ∷ ns) es
@@ -262,7 +261,7 @@ one_sent format n number ns es same g r = record {
   is = g.is ∙ ap (λ t. group_elements (Sent g.spares g.stuffings g.behind) g.g ++ t) r.is;
   fits = (tt, r.fits);
   numbers_are = ap (λ k. k ∷ map (λ (g : Group). g.number) r.gs) (g.number_is ∙ same) ∙ ap (λ t. n ∷ t) r.numbers_are;
-  valid = all-cons (IsValidGroup format) g.g r.gs g.valid r.valid;
+  valid = All-cons (IsValidGroup format) g.g r.gs g.valid r.valid;
 }
 
 pub opens : (format : Format) (before es : List Element) (low : ℕ) → low ≤ group before → IsOpening es → IsRest format before es → OpensAbove format low before es
@@ -281,7 +280,7 @@ after_group format before es low place r n above g =
 
 pub read-groups : (format : Format) (before es : List Element) (low : ℕ) (numbers : List ℕ) → IsAtGroup low before → IsRest format before es → Rising format low numbers → Covers format low numbers → OpensAbove format low before es → ReadsGroups format numbers es
 read-groups format before es low [] place r rise covers opening = elim opening [
-  | inl none ↦ record { forms = []; gs = []; is = none; fits = tt; numbers_are = refl; valid = all-nil (IsValidGroup format) }
+  | inl none ↦ record { forms = []; gs = []; is = none; fits = tt; numbers_are = refl; valid = All-nil (IsValidGroup format) }
   | inr n ↦ absurd (covers n.0.number n.0.known n.1)
 ]
 read-groups format before es low (m ∷ numbers) place r rise covers opening = elim opening [

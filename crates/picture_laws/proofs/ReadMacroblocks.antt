@@ -1,6 +1,6 @@
 -- Elements that may stand one behind another up to an end: those of a macroblock are the elements of a valid macroblock.
 use Rattle.std.proofs.Common.{◌≡◌, ◌≢◌, ℕ, ◌+◌, ◌-◌, ◌<◌, ◌≤◌, ◌==◌, ◌||◌, not, Bool, true, false, cond, List, [], ◌∷◌, ◌++◌, length, map, replicate, Option, Some, None, nat_lt, if◌then◌else◌, refl, sym, ◌∙◌, ap, subst, inl, inr, append_assoc, ℤ, pos, ◌-ℤ◌, nat_abs, MatchBool, IsSomeAnd, IfSome, IsNone, IsSome, All, Any, is_some, arith}
-use Rattle.std.proofs.lemmas.Bool.{false≢true, ltb-false}
+use Rattle.std.proofs.lemmas.Bool.{false≢true, ltb-false, cases_Bool, cond-false, cond-true, eqb-false, not-false}
 use Rattle.std.proofs.lemmas.List.{length-map, length-replicate}
 use Rattle.pel_model.specs.declared.Format.{Format}
 use Rattle.pel_model.specs.declared.MbKind.{MbKind}
@@ -21,11 +21,9 @@ use Rattle.picture_laws.proofs.Words.{number-fits, length-field}
 use Rattle.picture_laws.proofs.Chains.{Stands}
 use Rattle.picture_laws.proofs.Vectors.{predictor-small, range-in, stays-back, pair-back}
 use Rattle.picture_laws.proofs.Patterns.{trues, ones-trues, trues-some, sent-trues, intra-blocks, coded-blocks, none-blocks, sent-any, not-both}
-use Rattle.picture_laws.proofs.Basics.{not_equal, not_false}
 use Rattle.picture_laws.proofs.Blocks.{one_passed, two_passed, sent, AreBlocksOf}
 use Rattle.picture_laws.proofs.Macroblocks.{quantiser_says, says-vector, IsAtVector, IsBehindVector, headed, at-vector, mquant-blocks, vector-blocks}
 use Rattle.picture_laws.proofs.ReadBlocks.{IsRest, rest-after, rest-step, rest-more, ReadsBlocks, read-blocks}
-use Rattle.vlc_codes.proofs.WordLaws.{either_way, if-true, if-false}
 
 -- ---- MQUANT
 
@@ -39,7 +37,7 @@ read-mquant : (format : Format) (before es : List Element) (has : Bool) (k : MbK
 read-mquant format before es true k at r =
     let m = rest-more format before es AtMquant at refl r in
     let s = rest-step format before m.first (Mquant m.takes.0) m.rest m.left m.takes.2 in
-    let some : m.takes.0 ≢ 0 = not_equal m.takes.0 0 (one_passed (m.takes.0 == 0) BadQuant s.0.good) in
+    let some : m.takes.0 ≢ 0 = eqb-false m.takes.0 0 (one_passed (m.takes.0 == 0) BadQuant s.0.good) in
     record { q = Some m.takes.0; rest = m.rest; is = m.is ∙ ap (λ x. x ∷ m.rest) m.takes.2; valid = (omega (arith, some), omega (arith, m.takes.1)) }
 read-mquant format before es false k at r = record { q = None; rest = es; is = refl; valid = refl }
 
@@ -61,12 +59,12 @@ pub record ReadsComponent (format : Format) (number : ℕ) (axis : Axis) (last :
 read_component : (format : Format) (before es : List Element) (number : ℕ) (axis : Axis) (last : Option Macroblock) (m : Macroblock) → IsLast last → group before ≡ number → address before ≡ m.address → vector axis before ≡ predictor axis last m → (row : List Bool × (ℤ × ℤ)) → Among row mvd_table → Stands format before (Mvd axis row.1) → es ≡ es → (all : List Element) → all ≡ Mvd axis row.1 ∷ es → ReadsComponent format number axis last m all
 read_component format before es number axis last m is group_is address_is vector_is row among stands same all all_is =
     let both = two_passed (not (in_range (component_from (vector axis before) row.1))) (not (stays_within (side format axis) (corner axis (group before) (address before)) (component_from (vector axis before) row.1))) BadVector VectorOutside stands.good in
-    let inside : in_range (component_from (predictor axis last m) row.1) ≡ true = ap (λ v. in_range (component_from v row.1)) (sym vector_is) ∙ not_false (in_range (component_from (vector axis before) row.1)) both.0 in
+    let inside : in_range (component_from (predictor axis last m) row.1) ≡ true = ap (λ v. in_range (component_from v row.1)) (sym vector_is) ∙ not-false (in_range (component_from (vector axis before) row.1)) both.0 in
     let within : stays_within (side format axis) (corner axis number m.address) (component_from (predictor axis last m) row.1) ≡ true =
     ap (λ v. stays_within (side format axis) (corner axis number m.address) (component_from v row.1)) (sym vector_is)
     ∙ (ap (λ a. stays_within (side format axis) (corner axis number a) (component_from (vector axis before) row.1)) (sym address_is)
     ∙ (ap (λ g. stays_within (side format axis) (corner axis g (address before)) (component_from (vector axis before) row.1)) (sym group_is)
-    ∙ not_false (stays_within (side format axis) (corner axis (group before) (address before)) (component_from (vector axis before) row.1)) both.1)) in
+    ∙ not-false (stays_within (side format axis) (corner axis (group before) (address before)) (component_from (vector axis before) row.1)) both.1)) in
     record {
       c = component_from (predictor axis last m) row.1;
       rest = es;
@@ -102,13 +100,13 @@ vector_read format number last m es has a d =
       is = a.is ∙ (ap (λ t. Mvd Across (pair_in (a.c -ℤ predictor Across last m) mvd_table) ∷ t) d.is
           ∙ (ap (λ p. Mvd Across (pair_in (a.c -ℤ p) mvd_table) ∷ (Mvd Down (pair_in (d.c -ℤ predictor Down last m) mvd_table) ∷ d.rest)) pa
           ∙ (ap (λ p. mvd_element Across last (with_vector m a.c d.c) ∷ (Mvd Down (pair_in (d.c -ℤ p) mvd_table) ∷ d.rest)) pd
-          ∙ ap (λ t. t ++ d.rest) (sym (if-true (has_vector m.kind) (mvd_element Across last (with_vector m a.c d.c) ∷ mvd_element Down last (with_vector m a.c d.c) ∷ []) [] has)))));
+          ∙ ap (λ t. t ++ d.rest) (sym (cond-true (has_vector m.kind) (mvd_element Across last (with_vector m a.c d.c) ∷ mvd_element Down last (with_vector m a.c d.c) ∷ []) [] has)))));
       across = subst (λ b. MatchBool b (IsFit format number Across m.address a.c) (a.c ≡ pos 0)) (sym has) a.fit;
       down = subst (λ b. MatchBool b (IsFit format number Down m.address d.c) (d.c ≡ pos 0)) (sym has) d.fit;
     }
 
 pub read-vector : (format : Format) (before es : List Element) (number : ℕ) (last : Option Macroblock) (m : Macroblock) → IsLast last → IsAtVector number last m before → IsRest format before es → ReadsVector format number last m es
-read-vector format before es number last m is place r = elim (either_way (has_vector m.kind)) [
+read-vector format before es number last m is place r = elim (cases_Bool (has_vector m.kind)) [
   | inl has ↦
       let at : slot before ≡ AtMvd Across = place.at ∙ ap (λ b. cond b (AtMvd Across) (cbp_slot m.kind)) has in
       let vector_is = λ (axis : Axis). place.vector_is axis ∙ ap (λ b. cond b (predictor axis last m) (pos 0)) has in
@@ -120,7 +118,7 @@ read-vector format before es number last m is place r = elim (either_way (has_ve
     a = pos 0;
     d = pos 0;
     rest = es;
-    is = ap (λ t. t ++ es) (sym (if-false (has_vector m.kind) (mvd_element Across last (with_vector m (pos 0) (pos 0)) ∷ mvd_element Down last (with_vector m (pos 0) (pos 0)) ∷ []) [] none));
+    is = ap (λ t. t ++ es) (sym (cond-false (has_vector m.kind) (mvd_element Across last (with_vector m (pos 0) (pos 0)) ∷ mvd_element Down last (with_vector m (pos 0) (pos 0)) ∷ []) [] none));
     across = subst (λ b. MatchBool b (IsFit format number Across m.address (pos 0)) (pos 0 ≡ pos 0)) (sym none) refl;
     down = subst (λ b. MatchBool b (IsFit format number Down m.address (pos 0)) (pos 0 ≡ pos 0)) (sym none) refl;
   }
@@ -150,7 +148,7 @@ rest_coded m es left c intra has inter pattern is r =
       rest = r.rest;
       is = is ∙ (ap (λ t. Cbp c ∷ t) r.is
           ∙ (ap (λ k. Cbp k ∷ (blocks_elements r.bs ++ r.rest)) (sym n)
-          ∙ ap (λ t. (t ++ blocks_elements r.bs) ++ r.rest) (sym (if-true (has_cbp m.kind) (Cbp (coded_block_pattern r.bs) ∷ []) [] has))));
+          ∙ ap (λ t. (t ++ blocks_elements r.bs) ++ r.rest) (sym (cond-true (has_cbp m.kind) (Cbp (coded_block_pattern r.bs) ∷ []) [] has))));
       six = six;
       fits = subst (λ b. MatchBool b (All (λ b. IsSomeAnd b IsIntraBlock) r.bs) (MatchBool (has_cbp m.kind) (Any IsSome r.bs × All (λ b. IfSome b IsCodedBlock) r.bs) (All IsNone r.bs))) (sym (not-both m.kind has)) coded;
     }
@@ -171,13 +169,13 @@ rest_alone m es intra none same r =
     record {
       bs = r.bs;
       rest = r.rest;
-      is = r.is ∙ ap (λ t. (t ++ blocks_elements r.bs) ++ r.rest) (sym (if-false (has_cbp m.kind) (Cbp (coded_block_pattern r.bs) ∷ []) [] none));
+      is = r.is ∙ ap (λ t. (t ++ blocks_elements r.bs) ++ r.rest) (sym (cond-false (has_cbp m.kind) (Cbp (coded_block_pattern r.bs) ∷ []) [] none));
       six = six;
       fits = subst (λ b. MatchBool b (All (λ b. IsSomeAnd b IsIntraBlock) r.bs) (MatchBool (has_cbp m.kind) (Any IsSome r.bs × All (λ b. IfSome b IsCodedBlock) r.bs) (All IsNone r.bs))) same (fits_alone intra (has_cbp m.kind) r.bs none six count r.valid);
     }
 
 pub read-rest : (format : Format) (before es : List Element) (number : ℕ) (m : Macroblock) → IsBehindVector number m before → blocks before ≡ cond (is_intra m.kind) 6 0 → IsRest format before es → ReadsRest m es
-read-rest format before es number m place count r = elim (either_way (has_cbp m.kind)) [
+read-rest format before es number m place count r = elim (cases_Bool (has_cbp m.kind)) [
   | inl has ↦
       let at : slot before ≡ AtCbp = place.at ∙ ap (λ b. cond b AtCbp (block_slot m.kind (cond (is_intra m.kind) 6 0))) has in
       let more = rest-more format before es AtCbp at refl r in

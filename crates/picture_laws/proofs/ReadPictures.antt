@@ -1,7 +1,7 @@
 -- Good elements up to the lawful end are the elements of a valid picture, and the bits are accepted with it.
 use Rattle.std.proofs.Common.{◌≡◌, ℕ, ◌+◌, ◌-◌, ◌*◌, ◌/◌, ◌%◌, ◌<◌, ◌≤◌, ◌==◌, ◌&&◌, ◌||◌, not, Bool, true, false, List, [], ◌∷◌, ◌++◌, length, take, drop, replicate, Option, Some, None, nat_lt, refl, sym, ◌∙◌, ap, subst, inl, inr, arith}
 use Rattle.std.specs.List.{list_any, list_all, find}
-use Rattle.std.proofs.lemmas.Bool.{ltb-true, eqb-true}
+use Rattle.std.proofs.lemmas.Bool.{ltb-true, eqb-true, and_parts, cases_Bool, cond-false, cond-true, not-true}
 use Rattle.std.proofs.lemmas.List.{length-map}
 use Rattle.pel_model.specs.declared.Format.{Format}
 use Rattle.pel_model.specs.declared.Format.TheVariants.{Qcif, Cif}
@@ -17,7 +17,6 @@ use Rattle.pel_model.specs.Walk.{Step, Good, Stop, Bad, Row, start, after, read,
 use Rattle.pel_model.specs.Grammar.{Element, Psc, Tr, Ptype, Pei, Pspare, Slot, AtPsc, AtTr, AtPtype, AtGroup, slot, begun, rows, faults, first_why, names_format, may_end, is_end, or_no_start, at_slot, next, counted}
 use Rattle.picture_laws.specs.Elements.{header_elements, elements, Tells}
 use Rattle.picture_laws.specs.Laws.{WalkHasRecord}
-use Rattle.picture_laws.proofs.Basics.{and_true, not_true}
 use Rattle.picture_laws.proofs.Slots.{Takes}
 use Rattle.picture_laws.proofs.Written.{below, below_all}
 use Rattle.picture_laws.proofs.Chains.{words, IsWalk, goes-walk}
@@ -27,7 +26,6 @@ use Rattle.picture_laws.proofs.Groups.{among_numbers, says-pspares}
 use Rattle.picture_laws.proofs.Pictures.{numbers_rise, take_all, says-header, says-picture, begun-picture}
 use Rattle.picture_laws.proofs.ReadBlocks.{IsRest, rest-after, rest-step, rest-more}
 use Rattle.picture_laws.proofs.ReadGroups.{IsOpening, ReadsSpares, read-pspares, ReadsGroups, opens, read-groups}
-use Rattle.vlc_codes.proofs.WordLaws.{either_way, if-true, if-false}
 
 -- ---- the picture header
 
@@ -131,9 +129,9 @@ good_stop : {E : Type 0} (s : Step E) (e : E) (n : ℕ) → s ≡ Good e n → s
 good_stop s e n good stop = cc
 
 whole_stop : {E : Type 0} (row : Row E) (bits : List Bool) → whole_word row bits ≡ Stop → ⊥
-whole_stop row bits h = elim (either_way (nat_lt (length bits) (length row.code + row.tail))) [
-  | inl short ↦ bad_stop (whole_word row bits) Cut (if-true (nat_lt (length bits) (length row.code + row.tail)) (Bad Cut) (Good (row.make (number (take row.tail (drop (length row.code) bits)))) (length row.code + row.tail)) short) h
-  | inr long ↦ good_stop (whole_word row bits) (row.make (number (take row.tail (drop (length row.code) bits)))) (length row.code + row.tail) (if-false (nat_lt (length bits) (length row.code + row.tail)) (Bad Cut) (Good (row.make (number (take row.tail (drop (length row.code) bits)))) (length row.code + row.tail)) long) h
+whole_stop row bits h = elim (cases_Bool (nat_lt (length bits) (length row.code + row.tail))) [
+  | inl short ↦ bad_stop (whole_word row bits) Cut (cond-true (nat_lt (length bits) (length row.code + row.tail)) (Bad Cut) (Good (row.make (number (take row.tail (drop (length row.code) bits)))) (length row.code + row.tail)) short) h
+  | inr long ↦ good_stop (whole_word row bits) (row.make (number (take row.tail (drop (length row.code) bits)))) (length row.code + row.tail) (cond-false (nat_lt (length bits) (length row.code + row.tail)) (Bad Cut) (Good (row.make (number (take row.tail (drop (length row.code) bits)))) (length row.code + row.tail)) long) h
 ]
 
 word_stop : {E : Type 0} (rows : List (Row E)) (bits : List Bool) (row : Option (Row E)) → word_at rows bits row ≡ Stop → ⊥
@@ -145,14 +143,14 @@ or_stop AtPsc (Bad NoCode) h = absurd cc
 or_stop _ found h = h
 
 slot_stop : (s : Slot) (left : List Bool) → at_slot s left ≡ Stop → (may_end s && is_end left) ≡ true
-slot_stop s left h = elim (either_way (may_end s && is_end left)) [
+slot_stop s left h = elim (cases_Bool (may_end s && is_end left)) [
   | inl end ↦ end
-  | inr on ↦ absurd (word_stop (rows s) left (find (λ row. begins row.code left) (rows s)) (or_stop s (read (rows s) left) (sym (if-false (may_end s && is_end left) Stop (or_no_start s (read (rows s) left)) on) ∙ h)))
+  | inr on ↦ absurd (word_stop (rows s) left (find (λ row. begins row.code left) (rows s)) (or_stop s (read (rows s) left) (sym (cond-false (may_end s && is_end left) Stop (or_no_start s (read (rows s) left)) on) ∙ h)))
 ]
 
 pub stopped : (format : Format) (before : List Element) (r : List Bool × ℕ) → next format before r ≡ Stop → (may_end (slot before) ≡ true) × (is_end r.0 ≡ true)
 unfolding next
-stopped format before r h = and_true (may_end (slot before)) (is_end r.0) (slot_stop (slot before) r.0 (judged_stop (λ e n. first_why (faults format before e)) (at_slot (slot before) r.0) h))
+stopped format before r h = and_parts (may_end (slot before)) (is_end r.0) (slot_stop (slot before) r.0 (judged_stop (λ e n. first_why (faults format before e)) (at_slot (slot before) r.0) h))
 
 all_false : (bits : List Bool) → list_any (λ b. b) bits ≡ false → bits ≡ replicate (length bits) false
 all_false [] h = refl
@@ -161,8 +159,8 @@ all_false (false ∷ bits) h = ap (λ t. false ∷ t) (all_false bits h)
 
 end_zeros : (bits : List Bool) → is_end bits ≡ true → (length bits < 8) × (bits ≡ replicate (length bits) false)
 end_zeros bits h =
-    let both = and_true (nat_lt (length bits) 8) (not (list_any (λ b. b) bits)) h in
-    (ltb-true (length bits) 8 both.0, all_false bits (not_true (list_any (λ b. b) bits) both.1))
+    let both = and_parts (nat_lt (length bits) 8) (not (list_any (λ b. b) bits)) h in
+    (ltb-true (length bits) 8 both.0, all_false bits (not-true (list_any (λ b. b) bits) both.1))
 
 headers_fit : (format : Format) → 26 * (group_count format - 0) ≤ limit format
 headers_fit Qcif = omega arith

@@ -1,15 +1,17 @@
 -- The word of a list of rows that stands at the front of bits, for every list of which no code is a front of another.
-use Rattle.std.proofs.Common.{◌≡◌, ℕ, zero, suc, ◌+◌, ◌||◌, Bool, true, false, List, [], ◌∷◌, ◌++◌, length, map, take, drop, Option, Some, None, nat_lt, refl, sym, ◌∙◌, ap, inl, inr, ◌⊎◌, arith}
+use Rattle.std.proofs.Common.{◌≡◌, ℕ, ◌+◌, ◌||◌, Bool, true, false, List, [], ◌∷◌, ◌++◌, length, map, take, drop, Option, Some, None, nat_lt, refl, sym, ◌∙◌, ap, inl, inr, ◌⊎◌, arith}
+use Rattle.std.proofs.lemmas.Option.{same_Some}
 use Rattle.std.specs.List.{list_any, list_all, find}
-use Rattle.std.proofs.lemmas.Bool.{false≢true, ltb-true, ltb-false}
-use Rattle.std.proofs.lemmas.List.{length-take-le, length-append, length-drop, drop-drop}
+use Rattle.std.proofs.lemmas.Bool.{false≢true, ltb-true, ltb-false, and_parts, cases_Bool, cond-false, cond-true, not-true, or_parts}
+use Rattle.std.proofs.lemmas.List.{length-take-le, length-append, length-drop, drop-drop, drop_at, take-append-drop, take_at}
 use Rattle.pel_model.specs.Bits.{number}
 use Rattle.pel_model.specs.Codes.{begins, is_prefix_free}
 use Rattle.pel_model.specs.Walk.{Good, Bad, Row, read, word_at, whole_word}
 use Rattle.pel_model.specs.declared.Why.{Why}
 use Rattle.pel_model.specs.declared.Why.TheVariants.{Cut}
-use Rattle.picture_laws.proofs.Basics.{or_false, not_true, some_same}
-use Rattle.vlc_codes.proofs.WordLaws.{begins_both, and_left, and_right, either_way, if-true, if-false, whole-good}
+use Rattle.pel_model.proofs.Walks.{good_same}
+use Rattle.vlc_codes.specs.Lookup.{codes_of_rows}
+use Rattle.vlc_codes.proofs.WordLaws.{begins_self, begins_both, whole-good}
 
 -- an element of a list
 abbrev pub Among : {A : Type 0} → A → List A → Type 0
@@ -39,16 +41,11 @@ among-mapped f x (y ∷ xs) h = elim h [ inl e ↦ inl (ap f e) | inr t ↦ inr 
 pub among-all : {A : Type 0} (test : A → Bool) (x : A) (xs : List A) → list_all test xs ≡ true → Among x xs → test x ≡ true
 among-all test x [] all h = absurd h
 among-all test x (y ∷ xs) all h = elim h [
-  | inl e ↦ ap test e ∙ and_left (test y) (list_all test xs) all
-  | inr t ↦ among-all test x xs (and_right (test y) (list_all test xs) all) t
+  | inl e ↦ ap test e ∙ (and_parts (test y) (list_all test xs) all).0
+  | inr t ↦ among-all test x xs (and_parts (test y) (list_all test xs) all).1 t
 ]
 
 -- ---- fronts
-
-pub begins_self : (w more : List Bool) → begins w (w ++ more) ≡ true
-begins_self [] more = refl
-begins_self (true ∷ w) more = begins_self w more
-begins_self (false ∷ w) more = begins_self w more
 
 pub begins-front : (w bits : List Bool) → begins w bits ≡ true → bits ≡ w ++ drop (length w) bits
 begins-front [] bits h = refl
@@ -57,19 +54,6 @@ begins-front (true ∷ w) (true ∷ bits) h = ap (λ t. true ∷ t) (begins-fron
 begins-front (false ∷ w) (false ∷ bits) h = ap (λ t. false ∷ t) (begins-front w bits h)
 begins-front (true ∷ w) (false ∷ bits) h = absurd cc
 begins-front (false ∷ w) (true ∷ bits) h = absurd cc
-
-pub take-drop-append : {A : Type 0} (k : ℕ) (xs : List A) → take k xs ++ drop k xs ≡ xs
-take-drop-append zero xs = refl
-take-drop-append (suc k) [] = refl
-take-drop-append (suc k) (x ∷ xs) = ap (λ t. x ∷ t) (take-drop-append k xs)
-
-pub drop-front : {A : Type 0} (xs ys : List A) (n : ℕ) → n ≡ length xs → drop n (xs ++ ys) ≡ ys
-drop-front [] ys n is = ap (λ k. drop k ys) is
-drop-front (x ∷ xs) ys n is = let e : n ≡ suc (length xs) = omega (arith, is) in ap (λ k. drop k (x ∷ (xs ++ ys))) e ∙ drop-front xs ys (length xs) refl
-
-pub take-front : {A : Type 0} (xs ys : List A) (n : ℕ) → n ≡ length xs → take n (xs ++ ys) ≡ xs
-take-front [] ys n is = ap (λ k. take k ys) is
-take-front (x ∷ xs) ys n is = let e : n ≡ suc (length xs) = omega (arith, is) in ap (λ k. take k (x ∷ (xs ++ ys))) e ∙ ap (λ t. x ∷ t) (take-front xs ys (length xs) refl)
 
 -- ---- what is read
 
@@ -85,23 +69,20 @@ pub record IsRead {E : Type 0} (rows : List (Row E)) (bits : List Bool) (e : E) 
 
 find_among : {A : Type 0} (test : A → Bool) (xs : List A) (x : A) → find test xs ≡ Some x → Among x xs × (test x ≡ true)
 find_among test [] x h = absurd cc
-find_among test (y ∷ xs) x h = elim (either_way (test y)) [
-  | inl yes_ ↦ let e : y ≡ x = some_same y x (sym (if-true (test y) (Some y) (find test xs) yes_) ∙ h) in (inl (sym e), ap test (sym e) ∙ yes_)
-  | inr no_ ↦ let r = find_among test xs x (sym (if-false (test y) (Some y) (find test xs) no_) ∙ h) in (inr r.0, r.1)
+find_among test (y ∷ xs) x h = elim (cases_Bool (test y)) [
+  | inl yes_ ↦ let e : y ≡ x = same_Some y x (sym (cond-true (test y) (Some y) (find test xs) yes_) ∙ h) in (inl (sym e), ap test (sym e) ∙ yes_)
+  | inr no_ ↦ let r = find_among test xs x (sym (cond-false (test y) (Some y) (find test xs) no_) ∙ h) in (inr r.0, r.1)
 ]
 
 bad_good : {E : Type 0} {why : Why} {e : E} {n : ℕ} → Bad why ≡ Good e n → ⊥
 bad_good h = cc
 
-good_parts : {E : Type 0} (x y : E) (n m : ℕ) → Good x n ≡ Good y m → (x ≡ y) × (n ≡ m)
-good_parts x y n m h = (cc, cc)
-
 whole_read : {E : Type 0} (rows : List (Row E)) (row : Row E) (bits : List Bool) (e : E) (n : ℕ) → Among row rows → begins row.code bits ≡ true → whole_word row bits ≡ Good e n → IsRead rows bits e n
 whole_read rows row bits e n among front h =
-    elim (either_way (nat_lt (length bits) (length row.code + row.tail))) [
-      | inl short ↦ absurd (bad_good (sym (if-true (nat_lt (length bits) (length row.code + row.tail)) (Bad Cut) (Good (row.make (number (take row.tail (drop (length row.code) bits)))) (length row.code + row.tail)) short) ∙ h))
+    elim (cases_Bool (nat_lt (length bits) (length row.code + row.tail))) [
+      | inl short ↦ absurd (bad_good (sym (cond-true (nat_lt (length bits) (length row.code + row.tail)) (Bad Cut) (Good (row.make (number (take row.tail (drop (length row.code) bits)))) (length row.code + row.tail)) short) ∙ h))
       | inr fits ↦
-          let parts = good_parts _ e _ n (sym (if-false (nat_lt (length bits) (length row.code + row.tail)) (Bad Cut) (Good (row.make (number (take row.tail (drop (length row.code) bits)))) (length row.code + row.tail)) fits) ∙ h) in
+          let parts = good_same _ e _ n (sym (cond-false (nat_lt (length bits) (length row.code + row.tail)) (Bad Cut) (Good (row.make (number (take row.tail (drop (length row.code) bits)))) (length row.code + row.tail)) fits) ∙ h) in
           let size : n ≡ length row.code + row.tail = sym parts.1 in
           let left : drop row.tail (drop (length row.code) bits) ≡ drop n bits = drop-drop row.tail (length row.code) bits ∙ ap (λ k. drop k bits) (sym size) in
           record {
@@ -109,7 +90,7 @@ whole_read rows row bits e n among front h =
             among = among;
             tail = take row.tail (drop (length row.code) bits);
             long = length-take-le row.tail (drop (length row.code) bits) (omega (arith, ltb-false (length bits) (length row.code + row.tail) fits, length-drop (length row.code) bits));
-            front = begins-front row.code bits front ∙ ap (λ t. row.code ++ t) (sym (take-drop-append row.tail (drop (length row.code) bits)) ∙ ap (λ t. take row.tail (drop (length row.code) bits) ++ t) left);
+            front = begins-front row.code bits front ∙ ap (λ t. row.code ++ t) (sym (take-append-drop row.tail (drop (length row.code) bits)) ∙ ap (λ t. take row.tail (drop (length row.code) bits) ++ t) left);
             is = sym parts.0;
             size = size;
           }
@@ -126,41 +107,38 @@ read-is rows bits e n h = read_found rows bits e n (find (λ row. begins row.cod
 
 -- ---- what is written is read
 
-abbrev pub codes_of : {E : Type 0} → List (Row E) → List (List Bool)
-codes_of rows = map (λ row. row.code) rows
-
 -- neither of two words of a prefix-free list is a front of the other
 pub apart : (w : List Bool) (ws : List (List Bool)) (v : List Bool) → list_any (λ v. begins w v || begins v w) ws ≡ false → Among v ws → (begins w v ≡ false) × (begins v w ≡ false)
 apart w [] v none h = absurd h
 apart w (u ∷ ws) v none h = elim h [
-  | inl e ↦ or_false (begins w v) (begins v w) (ap (λ v. begins w v || begins v w) e ∙ (or_false (begins w u || begins u w) (list_any (λ v. begins w v || begins v w) ws) none).0)
-  | inr t ↦ apart w ws v (or_false (begins w u || begins u w) (list_any (λ v. begins w v || begins v w) ws) none).1 t
+  | inl e ↦ or_parts (begins w v) (begins v w) (ap (λ v. begins w v || begins v w) e ∙ (or_parts (begins w u || begins u w) (list_any (λ v. begins w v || begins v w) ws) none).0)
+  | inr t ↦ apart w ws v (or_parts (begins w u || begins u w) (list_any (λ v. begins w v || begins v w) ws) none).1 t
 ]
 
 -- two words at the front of the same bits
 one_front : (v w rest : List Bool) → begins v (w ++ rest) ≡ true → begins v w ≡ false → begins w v ≡ false → ⊥
-one_front v w rest front a b = elim (either_way (nat_lt (length v) (length w))) [
+one_front v w rest front a b = elim (cases_Bool (nat_lt (length v) (length w))) [
   | inl short ↦ false≢true (sym a ∙ begins_both v w (w ++ rest) front (begins_self w rest) (omega (arith, ltb-true (length v) (length w) short)))
   | inr long ↦ false≢true (sym b ∙ begins_both w v (w ++ rest) (begins_self w rest) front (omega (arith, ltb-false (length v) (length w) long)))
 ]
 
-pub find-row : {E : Type 0} (rows : List (Row E)) (row : Row E) (rest : List Bool) → is_prefix_free (codes_of rows) ≡ true → Among row rows → find (λ other. begins other.code (row.code ++ rest)) rows ≡ Some row
+pub find-row : {E : Type 0} (rows : List (Row E)) (row : Row E) (rest : List Bool) → is_prefix_free (codes_of_rows rows) ≡ true → Among row rows → find (λ other. begins other.code (row.code ++ rest)) rows ≡ Some row
 find-row [] row rest free h = absurd h
 find-row (first ∷ rows) row rest free h =
     elim h [
-      | inl e ↦ if-true (begins first.code (row.code ++ rest)) (Some first) (find (λ other. begins other.code (row.code ++ rest)) rows) (ap (λ r. begins r.code (row.code ++ rest)) (sym e) ∙ begins_self row.code rest) ∙ ap Some (sym e)
+      | inl e ↦ cond-true (begins first.code (row.code ++ rest)) (Some first) (find (λ other. begins other.code (row.code ++ rest)) rows) (ap (λ r. begins r.code (row.code ++ rest)) (sym e) ∙ begins_self row.code rest) ∙ ap Some (sym e)
       | inr t ↦
-          let both = apart first.code (codes_of rows) row.code (not_true _ (and_left _ _ free)) (among-mapped (λ r. r.code) row rows t) in
-          elim (either_way (begins first.code (row.code ++ rest))) [
+          let both = apart first.code (codes_of_rows rows) row.code (not-true _ (and_parts _ _ free).0) (among-mapped (λ r. r.code) row rows t) in
+          elim (cases_Bool (begins first.code (row.code ++ rest))) [
             | inl here ↦ absurd (one_front first.code row.code rest here both.0 both.1)
-            | inr other ↦ if-false (begins first.code (row.code ++ rest)) (Some first) (find (λ other. begins other.code (row.code ++ rest)) rows) other ∙ find-row rows row rest (and_right _ _ free) t
+            | inr other ↦ cond-false (begins first.code (row.code ++ rest)) (Some first) (find (λ other. begins other.code (row.code ++ rest)) rows) other ∙ find-row rows row rest (and_parts _ _ free).1 t
           ]
     ]
 
-pub read-row : {E : Type 0} (rows : List (Row E)) (row : Row E) (tail rest : List Bool) → is_prefix_free (codes_of rows) ≡ true → Among row rows → length tail ≡ row.tail → read rows (row.code ++ (tail ++ rest)) ≡ Good (row.make (number tail)) (length row.code + row.tail)
+pub read-row : {E : Type 0} (rows : List (Row E)) (row : Row E) (tail rest : List Bool) → is_prefix_free (codes_of_rows rows) ≡ true → Among row rows → length tail ≡ row.tail → read rows (row.code ++ (tail ++ rest)) ≡ Good (row.make (number tail)) (length row.code + row.tail)
 read-row rows row tail rest free h long =
-    let behind : drop (length row.code) (row.code ++ (tail ++ rest)) ≡ tail ++ rest = drop-front row.code (tail ++ rest) (length row.code) refl in
-    let front : take row.tail (drop (length row.code) (row.code ++ (tail ++ rest))) ≡ tail = ap (λ t. take row.tail t) behind ∙ take-front tail rest row.tail (sym long) in
+    let behind : drop (length row.code) (row.code ++ (tail ++ rest)) ≡ tail ++ rest = drop_at row.code (tail ++ rest) (length row.code) refl in
+    let front : take row.tail (drop (length row.code) (row.code ++ (tail ++ rest))) ≡ tail = ap (λ t. take row.tail t) behind ∙ take_at tail rest row.tail long in
     ap (word_at rows (row.code ++ (tail ++ rest))) (find-row rows row (tail ++ rest) free h)
     ∙ (whole-good row (row.code ++ (tail ++ rest)) (omega (arith, long, length-append row.code (tail ++ rest), length-append tail rest))
     ∙ ap (λ t. Good (row.make (number t)) (length row.code + row.tail)) front)

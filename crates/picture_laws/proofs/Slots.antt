@@ -2,6 +2,7 @@
 use Rattle.std.proofs.Common.{◌≡◌, ℕ, ◌<◌, ◌≤◌, ◌==◌, ◌&&◌, Bool, true, false, List, [], ◌∷◌, ◌++◌, nat_lt, nat_le, refl, ap, ◌⊎◌, ℤ, pos, negsuc, nat_abs, codes, MatchBool, IsTrue}
 use Rattle.std.specs.List.{list_all}
 use Rattle.std.specs.Ordering.{int_eq}
+use Rattle.vlc_codes.specs.Lookup.{codes_of_rows}
 use Rattle.pel_model.specs.Bits.{field, number}
 use Rattle.pel_model.specs.declared.MbKind.{MbKind}
 use Rattle.pel_model.specs.Codes.{word, is_prefix_free, mba_table, stuffing_word, mtype_table, mvd_table, cbp_table, tcoeff_table, first_one_word, later_one_word, end_of_block_word}
@@ -9,7 +10,7 @@ use Rattle.pel_model.specs.Records.{Coefficient}
 use Rattle.pel_model.specs.Text.{word_of, coefficient_word, mtype_word}
 use Rattle.pel_model.specs.Valid.{has_code}
 use Rattle.pel_model.specs.Grammar.{Element, Psc, Tr, Ptype, Pei, Pspare, Gbsc, Gn, Gquant, Gei, Gspare, Stuffing, Mba, Mtype, Mquant, Mvd, Cbp, Dc, Tcoeff, Eob, Slot, AtPsc, AtTr, AtPtype, AtPei, AtPspare, AtGroup, AtGn, AtGquant, AtGei, AtGspare, AtMacroblock, AtMtype, AtMquant, AtMvd, AtCbp, AtDc, AtFirst, AtCoefficient, rows, signed}
-use Rattle.picture_laws.proofs.Rows.{Among, codes_of}
+use Rattle.picture_laws.proofs.Rows.{Among}
 
 -- ---- words of elements
 
@@ -136,7 +137,7 @@ unfolding tcoeff_table number coefficient_word
 pair_words_later true = refl
 pair_words_later false = refl
 
-pub rows_free : (s : Slot) → is_prefix_free (codes_of (rows s)) ≡ true
+pub rows_free : (s : Slot) → is_prefix_free (codes_of_rows (rows s)) ≡ true
 unfolding rows mba_table mtype_table mvd_table cbp_table tcoeff_table
 rows_free AtPsc = refl
 rows_free AtTr = refl

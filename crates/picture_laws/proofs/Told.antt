@@ -1,6 +1,7 @@
 -- The picture that elements tell, as a function of them: it gives back each picture from its elements.
 use Rattle.std.proofs.Common.{◌≡◌, ℕ, zero, suc, ◌+◌, ◌-◌, ◌<◌, ◌≤◌, ◌==◌, Bool, true, false, cond, List, [], ◌∷◌, ◌++◌, length, map, take, drop, get_or, replicate, Option, Some, None, refl, sym, ◌∙◌, ap, subst, inl, inr, append_assoc, ℤ, pos, ◌-ℤ◌, nat_abs, MatchBool, IsSomeAnd, IfSome, IsNone, IsSome, All, Any, is_some, arith}
-use Rattle.std.proofs.lemmas.Bool.{false≢true, eqb-true, eq-eqb}
+use Rattle.std.proofs.lemmas.List.Elements.{All-head, All-tail}
+use Rattle.std.proofs.lemmas.Bool.{false≢true, eqb-true, eq-eqb, cases_Bool, cond-false, cond-true}
 use Rattle.std.proofs.lemmas.List.{length-append, length-map}
 use Rattle.pel_model.specs.declared.Format.{Format}
 use Rattle.pel_model.specs.declared.MbKind.{MbKind}
@@ -17,13 +18,11 @@ use Rattle.picture_laws.specs.SoFar.{IsLast}
 use Rattle.picture_laws.specs.Elements.{pair_in, mvd_element, vector_elements, cbp_elements, macroblock_elements, macroblocks_elements, spare_elements, group_elements, groups_elements, elements, Tells}
 use Rattle.picture_laws.proofs.Words.{field-number}
 use Rattle.picture_laws.proofs.Vectors.{pair-of, predictor-small}
-use Rattle.picture_laws.proofs.Blocks.{all-head, all-tail}
 use Rattle.picture_laws.proofs.Macroblocks.{component_small, both_axes, body}
 use Rattle.picture_laws.proofs.ReadMacroblocks.{predictor_same, begun_macroblock, join3}
 use Rattle.picture_laws.proofs.Groups.{RiseFrom}
 use Rattle.picture_laws.proofs.ReadGroups.{empty}
 use Rattle.picture_laws.proofs.Pictures.{valid-rise, take_all}
-use Rattle.vlc_codes.proofs.WordLaws.{either_way, if-true, if-false}
 
 -- ---- blocks
 
@@ -89,17 +88,17 @@ unfolding told_vector
 vector_again format number last m rest is across down =
     let a = component_small format number Across m across in
     let d = component_small format number Down m down in
-    elim (either_way (has_vector m.kind)) [
+    elim (cases_Bool (has_vector m.kind)) [
       | inl has ↦
           let pa = pair-of Across (predictor Across last m) m.across (predictor-small Across last m is) a.0 in
           let pd = pair-of Down (predictor Down last m) m.down (predictor-small Down last m is) d.0 in
           ap (λ b. told_vector b (predictor Across last m) (predictor Down last m) (vector_elements last m ++ rest)) has
-          ∙ (ap (λ t. told_vector true (predictor Across last m) (predictor Down last m) (t ++ rest)) (if-true (has_vector m.kind) (mvd_element Across last m ∷ mvd_element Down last m ∷ []) [] has)
+          ∙ (ap (λ t. told_vector true (predictor Across last m) (predictor Down last m) (t ++ rest)) (cond-true (has_vector m.kind) (mvd_element Across last m ∷ mvd_element Down last m ∷ []) [] has)
           ∙ (ap (λ (z : ℤ). (z, component_from (predictor Down last m) (pair_in (m.down -ℤ predictor Down last m) mvd_table), rest)) pa.gives
           ∙ ap (λ (z : ℤ). (m.across, z, rest)) pd.gives))
       | inr none ↦
           ap (λ b. told_vector b (predictor Across last m) (predictor Down last m) (vector_elements last m ++ rest)) none
-          ∙ (ap (λ t. told_vector false (predictor Across last m) (predictor Down last m) (t ++ rest)) (if-false (has_vector m.kind) (mvd_element Across last m ∷ mvd_element Down last m ∷ []) [] none)
+          ∙ (ap (λ t. told_vector false (predictor Across last m) (predictor Down last m) (t ++ rest)) (cond-false (has_vector m.kind) (mvd_element Across last m ∷ mvd_element Down last m ∷ []) [] none)
           ∙ (ap (λ (z : ℤ). (z, pos 0, rest)) (sym (a.1 none)) ∙ ap (λ (z : ℤ). (m.across, z, rest)) (sym (d.1 none))))
     ]
 
@@ -112,18 +111,18 @@ all_some : (bs : List (Option Block)) (n : ℕ) → length bs ≡ n → All (λ 
 all_some [] zero n h = refl
 all_some [] (suc k) n h = absurd (omega (arith, n))
 all_some (b ∷ bs) zero n h = absurd (omega (arith, n))
-all_some (None ∷ bs) (suc k) n h = absurd (all-head (λ b. IsSomeAnd b IsIntraBlock) None bs h)
-all_some (Some b ∷ bs) (suc k) n h = ap (λ t. true ∷ t) (all_some bs k (omega (arith, n)) (all-tail (λ b. IsSomeAnd b IsIntraBlock) (Some b) bs h))
+all_some (None ∷ bs) (suc k) n h = absurd (All-head (λ b. IsSomeAnd b IsIntraBlock) None bs h)
+all_some (Some b ∷ bs) (suc k) n h = ap (λ t. true ∷ t) (all_some bs k (omega (arith, n)) (All-tail (λ b. IsSomeAnd b IsIntraBlock) (Some b) bs h))
 
 all_none : (bs : List (Option Block)) (n : ℕ) → length bs ≡ n → All IsNone bs → map is_some bs ≡ replicate n false
 all_none [] zero n h = refl
 all_none [] (suc k) n h = absurd (omega (arith, n))
 all_none (b ∷ bs) zero n h = absurd (omega (arith, n))
-all_none (Some b ∷ bs) (suc k) n h = absurd (false≢true (sym (all-head IsNone (Some b) bs h)))
-all_none (None ∷ bs) (suc k) n h = ap (λ t. false ∷ t) (all_none bs k (omega (arith, n)) (all-tail IsNone None bs h))
+all_none (Some b ∷ bs) (suc k) n h = absurd (false≢true (sym (All-head IsNone (Some b) bs h)))
+all_none (None ∷ bs) (suc k) n h = ap (λ t. false ∷ t) (all_none bs k (omega (arith, n)) (All-tail IsNone None bs h))
 
 flags_alone : (m : Macroblock) → length m.blocks ≡ 6 → has_cbp m.kind ≡ false → BlocksFit m.kind m.blocks → replicate 6 (is_intra m.kind) ≡ map is_some m.blocks
-flags_alone m six none fit = elim (either_way (is_intra m.kind)) [
+flags_alone m six none fit = elim (cases_Bool (is_intra m.kind)) [
   | inl intra ↦
       let all = subst (λ b. MatchBool b (All (λ b. IsSomeAnd b IsIntraBlock) m.blocks) (MatchBool (has_cbp m.kind) (Any IsSome m.blocks × All (λ b. IfSome b IsCodedBlock) m.blocks) (All IsNone m.blocks))) intra fit in
       ap (replicate 6) intra ∙ sym (all_some m.blocks 6 six all)
@@ -135,15 +134,15 @@ flags_alone m six none fit = elim (either_way (is_intra m.kind)) [
 
 flags_again : (m : Macroblock) (rest : List Element) → length m.blocks ≡ 6 → BlocksFit m.kind m.blocks → told_flags (has_cbp m.kind) m.kind (cbp_elements m ++ rest) ≡ (map is_some m.blocks, rest)
 unfolding told_flags
-flags_again m rest six fit = elim (either_way (has_cbp m.kind)) [
+flags_again m rest six fit = elim (cases_Bool (has_cbp m.kind)) [
   | inl has ↦
       let long : length (map is_some m.blocks) ≡ 6 = length-map m.blocks is_some ∙ six in
       ap (λ b. told_flags b m.kind (cbp_elements m ++ rest)) has
-      ∙ (ap (λ t. told_flags true m.kind (t ++ rest)) (if-true (has_cbp m.kind) (Cbp (coded_block_pattern m.blocks) ∷ []) [] has)
+      ∙ (ap (λ t. told_flags true m.kind (t ++ rest)) (cond-true (has_cbp m.kind) (Cbp (coded_block_pattern m.blocks) ∷ []) [] has)
       ∙ ap (λ (flags : List Bool). (flags, rest)) (ap (field (coded_block_pattern m.blocks)) (sym long) ∙ field-number (map is_some m.blocks)))
   | inr none ↦
       ap (λ b. told_flags b m.kind (cbp_elements m ++ rest)) none
-      ∙ (ap (λ t. told_flags false m.kind (t ++ rest)) (if-false (has_cbp m.kind) (Cbp (coded_block_pattern m.blocks) ∷ []) [] none)
+      ∙ (ap (λ t. told_flags false m.kind (t ++ rest)) (cond-false (has_cbp m.kind) (Cbp (coded_block_pattern m.blocks) ∷ []) [] none)
       ∙ ap (λ (flags : List Bool). (flags, rest)) (flags_alone m six none fit))
 ]
 
@@ -241,11 +240,11 @@ macroblocks_again (suc fuel) format number last (suc n) behind ms rest few is ri
     macroblocks_again fuel format number last n behind ms rest (omega (arith, few)) is rise valid opening
 macroblocks_again zero format number last zero behind (m ∷ ms) rest few is rise valid opening = absurd (omega (arith, few))
 macroblocks_again (suc fuel) format number last zero behind (m ∷ ms) rest few is rise valid opening =
-    let ok = all-head (IsValidMacroblock format number) m ms valid in
+    let ok = All-head (IsValidMacroblock format number) m ms valid in
     ap (told_macroblocks (suc fuel) last) (first_apart last behind m ms rest)
     ∙ told_next fuel (m.address - address_of last) last (Mtype m.kind ∷ body last m ++ behind_one m behind ms rest) (behind_one m behind ms rest) rest m ms
     (macroblock_again format number last m (behind_one m behind ms rest) is rise.0 ok)
-    (macroblocks_again fuel format number (Some m) (get_or behind 0 0) (drop 1 behind) ms rest (fewer_behind fuel last behind m ms rest few) (last_of format number m (omega (arith, rise.0)) ok) rise.2 (all-tail (IsValidMacroblock format number) m ms valid) opening)
+    (macroblocks_again fuel format number (Some m) (get_or behind 0 0) (drop 1 behind) ms rest (fewer_behind fuel last behind m ms rest few) (last_of format number m (omega (arith, rise.0)) ok) rise.2 (All-tail (IsValidMacroblock format number) m ms valid) opening)
 
 -- ---- groups
 
@@ -303,7 +302,7 @@ begins_opens low (Gbsc ∷ es) b = tt
 begins_opens low _ b = absurd b
 
 not_number : (g n : ℕ) → n < g → (g == n) ≡ false
-not_number g n h = elim (either_way (g == n)) [ inl same ↦ absurd (omega (arith, h, eqb-true g n same)) | inr no_ ↦ no_ ]
+not_number g n h = elim (cases_Bool (g == n)) [ inl same ↦ absurd (omega (arith, h, eqb-true g n same)) | inr no_ ↦ no_ ]
 
 -- where the group n is not sent
 left_again : (n : ℕ) (ns : List ℕ) (es : List Element) → BeginsAbove n es → told_groups (n ∷ ns) es ≡ empty n ∷ told_groups ns es
@@ -338,10 +337,10 @@ groups_again format low (f ∷ forms) [] fit rise valid = absurd fit
 groups_again format low (LeftOut ∷ forms) (g ∷ gs) fit rise valid =
     left_again g.number (map (λ (g : Group). g.number) gs) (groups_elements forms gs) (begins_above format g.number forms gs fit.1 rise.2)
     ∙ (ap (λ (x : Group). x ∷ told_groups (map (λ (g : Group). g.number) gs) (groups_elements forms gs)) (left_out_is g fit.0.0 fit.0.1)
-    ∙ ap (λ t. g ∷ t) (groups_again format g.number forms gs fit.1 rise.2 (all-tail (IsValidGroup format) g gs valid)))
+    ∙ ap (λ t. g ∷ t) (groups_again format g.number forms gs fit.1 rise.2 (All-tail (IsValidGroup format) g gs valid)))
 groups_again format low (Sent spares stuffings behind ∷ forms) (g ∷ gs) fit rise valid =
-    sent_again format g spares stuffings behind (map (λ (g : Group). g.number) gs) (groups_elements forms gs) (all-head (IsValidGroup format) g gs valid) (begins_opens g.number (groups_elements forms gs) (begins_above format g.number forms gs fit.1 rise.2))
-    ∙ ap (λ t. g ∷ t) (groups_again format g.number forms gs fit.1 rise.2 (all-tail (IsValidGroup format) g gs valid))
+    sent_again format g spares stuffings behind (map (λ (g : Group). g.number) gs) (groups_elements forms gs) (All-head (IsValidGroup format) g gs valid) (begins_opens g.number (groups_elements forms gs) (begins_above format g.number forms gs fit.1 rise.2))
+    ∙ ap (λ t. g ∷ t) (groups_again format g.number forms gs fit.1 rise.2 (All-tail (IsValidGroup format) g gs valid))
 
 -- ---- the picture
 

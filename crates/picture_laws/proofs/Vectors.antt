@@ -2,7 +2,7 @@
 use Rattle.std.proofs.Common.{◌≡◌, ◌≢◌, ℕ, zero, suc, ◌+◌, ◌-◌, ◌<◌, ◌≤◌, ◌==◌, ◌&&◌, ◌||◌, not, Bool, true, false, cond, List, [], ◌∷◌, ◌++◌, map, Option, Some, None, refl, sym, ◌∙◌, ap, inl, inr, ℤ, pos, negsuc, ◌-ℤ◌, nat_abs, arith}
 use Rattle.std.specs.List.{list_any, list_all}
 use Rattle.std.specs.Ordering.{int_eq}
-use Rattle.std.proofs.lemmas.Bool.{false≢true, ltb-true, leb-true, eqb-true, eq-eqb, lt-ltb, le-leb}
+use Rattle.std.proofs.lemmas.Bool.{false≢true, ltb-true, leb-true, eqb-true, eq-eqb, lt-ltb, le-leb, and_parts, cases_Bool, cond-false, cond-true}
 use Rattle.std.proofs.lemmas.Bool.Decides.{Decides-int_eq}
 use Rattle.pel_model.specs.Codes.{mvd_table, has_vector}
 use Rattle.pel_model.specs.Records.{Axis, Macroblock, component}
@@ -15,7 +15,6 @@ use Rattle.picture_laws.specs.Elements.{pair_in}
 use Rattle.picture_laws.proofs.Rows.{Among, among-all, among-left, among-right, among-mapped}
 use Rattle.picture_laws.proofs.Slots.{word_at, same_pair, same_bits-true, mvd_words}
 use Rattle.picture_laws.proofs.Written.{below}
-use Rattle.vlc_codes.proofs.WordLaws.{and_left, and_right, either_way, if-true, if-false}
 
 pub int_same : (x y : ℤ) → int_eq x y ≡ true → x ≡ y
 int_same x y h = (Decides-int_eq x y).0 h
@@ -27,7 +26,7 @@ components = map (λ n. pos n) (below 16) ++ map (λ n. negsuc n) (below 15)
 
 among_below : (m n : ℕ) → n < m → Among n (below m)
 among_below zero n h = absurd (omega arith)
-among_below (suc m) n h = elim (either_way (n == m)) [
+among_below (suc m) n h = elim (cases_Bool (n == m)) [
   | inl same ↦ inl (eqb-true n m same)
   | inr other ↦ let e : n ≢ m = λ same. false≢true (sym other ∙ eq-eqb n m same) in inr (among_below m n (omega (arith, e, h)))
 ]
@@ -57,11 +56,11 @@ all_back = refl
 
 pair_found : (d : ℤ) (table : List (List Bool × (ℤ × ℤ))) → list_any (has_difference d) table ≡ true → (row : List Bool × (ℤ × ℤ)) × Among row table × (row.1 ≡ pair_in d table) × (word_of (λ v. int_eq v.0 d || int_eq v.1 d) table ≡ row.0)
 pair_found d [] h = absurd cc
-pair_found d (row ∷ table) h = elim (either_way (has_difference d row)) [
-  | inl here ↦ (row, inl refl, sym (if-true (has_difference d row) row.1 (pair_in d table) here), if-true (has_difference d row) row.0 (word_of (λ v. int_eq v.0 d || int_eq v.1 d) table) here)
+pair_found d (row ∷ table) h = elim (cases_Bool (has_difference d row)) [
+  | inl here ↦ (row, inl refl, sym (cond-true (has_difference d row) row.1 (pair_in d table) here), cond-true (has_difference d row) row.0 (word_of (λ v. int_eq v.0 d || int_eq v.1 d) table) here)
   | inr no_ ↦
       let r = pair_found d table (sym (ap (λ b. b || list_any (has_difference d) table) no_) ∙ h) in
-      (r.0, inr r.1, r.2 ∙ sym (if-false (has_difference d row) row.1 (pair_in d table) no_), if-false (has_difference d row) row.0 (word_of (λ v. int_eq v.0 d || int_eq v.1 d) table) no_ ∙ r.3)
+      (r.0, inr r.1, r.2 ∙ sym (cond-false (has_difference d row) row.1 (pair_in d table) no_), cond-false (has_difference d row) row.0 (word_of (λ v. int_eq v.0 d || int_eq v.1 d) table) no_ ∙ r.3)
 ]
 
 -- the pair of a difference, its word, and the component that it gives
@@ -75,21 +74,21 @@ pub record IsPairOf (axis : Axis) (p c : ℤ) : Type 0 where
 pub pair-of : (axis : Axis) (p c : ℤ) → nat_abs p ≤ 15 → nat_abs c ≤ 15 → IsPairOf axis p c
 pair-of axis p c small small' =
     let all = among-all (reaches p) c components (among-all (λ p. list_all (reaches p) components) p components all_reached (among-components p small)) (among-components c small') in
-    let f = pair_found (c -ℤ p) mvd_table (and_left _ _ all) in
+    let f = pair_found (c -ℤ p) mvd_table (and_parts _ _ all).0 in
     record {
       row = f.0;
       among = f.1;
       is = f.2;
       word = ap (λ v. word_of (λ w. same_pair w v) mvd_table) (sym f.2) ∙ (same_bits-true _ _ (among-all _ f.0 mvd_table mvd_words f.1) ∙ sym f.3);
-      gives = int_same (component_from p (pair_in (c -ℤ p) mvd_table)) c (and_right _ _ all);
+      gives = int_same (component_from p (pair_in (c -ℤ p) mvd_table)) c (and_parts _ _ all).1;
     }
 
 -- a pair that was read is that of the difference of what it gives
 pub pair-back : (p : ℤ) (row : List Bool × (ℤ × ℤ)) → nat_abs p ≤ 15 → Among row mvd_table → pair_in (component_from p row.1 -ℤ p) mvd_table ≡ row.1
 pair-back p row small among =
     let all = among-all (comes_back p) row mvd_table (among-all (λ p. list_all (comes_back p) mvd_table) p components all_back (among-components p small)) among in
-    let a : (pair_in (component_from p row.1 -ℤ p) mvd_table).0 ≡ row.1.0 = int_same _ row.1.0 (and_left _ _ all) in
-    let b : (pair_in (component_from p row.1 -ℤ p) mvd_table).1 ≡ row.1.1 = int_same _ row.1.1 (and_right _ _ all) in
+    let a : (pair_in (component_from p row.1 -ℤ p) mvd_table).0 ≡ row.1.0 = int_same _ row.1.0 (and_parts _ _ all).0 in
+    let b : (pair_in (component_from p row.1 -ℤ p) mvd_table).1 ≡ row.1.1 = int_same _ row.1.1 (and_parts _ _ all).1 in
     ap (λ (x : ℤ). (x, (pair_in (component_from p row.1 -ℤ p) mvd_table).1)) a ∙ ap (λ (y : ℤ). (row.1.0, y)) b
 
 -- ---- tests
@@ -127,17 +126,17 @@ four_ways false false true = refl
 four_ways false false false = refl
 
 same_test : (a b c d : ℕ) → (a ≡ b → c ≡ d) → (c ≡ d → a ≡ b) → (a == b) ≡ (c == d)
-same_test a b c d there back = elim (either_way (a == b)) [
+same_test a b c d there back = elim (cases_Bool (a == b)) [
   | inl same ↦ same ∙ sym (eq-eqb c d (there (eqb-true a b same)))
-  | inr other ↦ other ∙ sym (elim (either_way (c == d)) [ inl same ↦ absurd (false≢true (sym other ∙ eq-eqb a b (back (eqb-true c d same)))) | inr no_ ↦ no_ ])
+  | inr other ↦ other ∙ sym (elim (cases_Bool (c == d)) [ inl same ↦ absurd (false≢true (sym other ∙ eq-eqb a b (back (eqb-true c d same)))) | inr no_ ↦ no_ ])
 ]
 
 -- the vector before, or nothing, predicts
 pub predicted : (axis : Axis) (last : Option Macroblock) (m : Macroblock) → IsLast last → address_of last < m.address → predictor axis last m ≡ cond (grammar.resets_predictor (m.address - address_of last) m.address) (pos 0) (last_component axis last)
 predicted axis None m is rise = sym (same_either (grammar.resets_predictor (m.address - 0) m.address) (pos 0) refl)
-predicted axis (Some l) m is rise = elim (either_way (has_vector l.kind)) [
+predicted axis (Some l) m is rise = elim (cases_Bool (has_vector l.kind)) [
   | inl has ↦
-      let far : (m.address == 1) ≡ false = elim (either_way (m.address == 1)) [ inl one ↦ absurd (omega (arith, is.0, rise, eqb-true m.address 1 one)) | inr no_ ↦ no_ ] in
+      let far : (m.address == 1) ≡ false = elim (cases_Bool (m.address == 1)) [ inl one ↦ absurd (omega (arith, is.0, rise, eqb-true m.address 1 one)) | inr no_ ↦ no_ ] in
       let next : (m.address - l.address == 1) ≡ (m.address == l.address + 1) = same_test (m.address - l.address) 1 m.address (l.address + 1) (λ h. omega (arith, h, rise)) (λ h. omega (arith, h)) in
       ap (λ b. cond ((m.address == 12) || (m.address == 23) || not (m.address == l.address + 1) || not b) (pos 0) (component axis l)) has
       ∙ (ap (λ b. cond b (pos 0) (component axis l)) (four_ways (m.address == 12) (m.address == 23) (m.address == l.address + 1))

@@ -1,8 +1,8 @@
 -- The word that stands at a slot, and what is read there.
 use Rattle.std.proofs.Common.{◌≡◌, ℕ, zero, suc, ◌+◌, ◌-◌, ◌*◌, ◌/◌, ◌%◌, ◌^◌, ◌<◌, ◌≤◌, ◌==◌, Bool, true, false, List, [], ◌∷◌, ◌++◌, length, map, drop, nat_lt, refl, sym, ◌∙◌, ap, subst, inl, inr, ◌⊎◌, append_assoc, append-nil, pos, negsuc, neg_ℤ, arith}
 use Rattle.std.specs.List.{list_all}
-use Rattle.std.proofs.lemmas.Bool.{ltb-true, ltb-false, leb-true}
-use Rattle.std.proofs.lemmas.List.{length-append}
+use Rattle.std.proofs.lemmas.Bool.{ltb-true, ltb-false, leb-true, and_parts, cases_Bool, cond-false, cond-true}
+use Rattle.std.proofs.lemmas.List.{length-append, nil_from_length}
 use Rattle.pel_bits.proofs.Fields as fields
 use Rattle.pel_bits.specs.Bits as low
 use Rattle.pel_model.specs.Bits.{field, number}
@@ -13,7 +13,6 @@ use Rattle.pel_model.specs.Walk.{Good, Row, read}
 use Rattle.pel_model.specs.Grammar.{Element, Psc, Tr, Ptype, Pei, Pspare, Gbsc, Gn, Gquant, Gei, Gspare, Stuffing, Mba, Mtype, Mquant, Mvd, Cbp, Dc, Tcoeff, Eob, Slot, AtPsc, AtTr, AtPtype, AtPei, AtPspare, AtGroup, AtGn, AtGquant, AtGei, AtGspare, AtMacroblock, AtMtype, AtMquant, AtMvd, AtCbp, AtDc, AtFirst, AtCoefficient, word_row, field_rows, table_rows, coefficient_row, escape_row, mba_rows, gbsc_row, rows, signed, from_twos_complement}
 use Rattle.picture_laws.proofs.Rows.{Among, IsRead, read-is, among-all, among-map, among-either}
 use Rattle.picture_laws.proofs.Slots.{word_at, one_at, Takes, IsSent, IsByteLevel, same_bits-true, mba_words, mtype_words, mvd_words, cbp_words, pair, pair_is_sent, pair_words, pair_words_later}
-use Rattle.vlc_codes.proofs.WordLaws.{and_left, and_right, either_way, if-true, if-false}
 
 -- ---- fields
 
@@ -69,14 +68,10 @@ field_case s w make words bits e n r =
     let whole : field (number r.tail) w ≡ r.tail = ap (field (number r.tail)) (sym long) ∙ field-number r.tail in
     (number r.tail, below, is, word_is s (field_rows w make) bits e n r (ap (λ t. t ++ r.tail) code ∙ (sym whole ∙ (sym (words (number r.tail) below) ∙ ap (word_at s) (sym is)))))
 
-no_tail : (bs : List Bool) → length bs ≡ 0 → bs ≡ []
-no_tail [] h = refl
-no_tail (b ∷ bs) h = absurd (omega arith)
-
 word_case : (s : Slot) (code : List Bool) (x : Element) → word_at s x ≡ code → (list : List (Row Element)) (bits : List Bool) (e : Element) (n : ℕ) → (r : IsRead list bits e n) → r.row ≡ word_row code x → (e ≡ x) × IsWord s bits e n
 word_case s code x word list bits e n r row_is =
     let c : r.row.code ≡ code = ap (λ (x : Row Element). x.code) row_is in
-    let none : r.tail ≡ [] = no_tail r.tail (r.long ∙ ap (λ (x : Row Element). x.tail) row_is) in
+    let none : r.tail ≡ [] = nil_from_length r.tail (r.long ∙ ap (λ (x : Row Element). x.tail) row_is) in
     let is : e ≡ x = r.is ∙ ap (λ (x : Row Element). x.make (number r.tail)) row_is in
     (is, word_is s list bits e n r (ap (λ t. r.row.code ++ t) none ∙ (append-nil r.row.code ∙ (c ∙ (sym word ∙ ap (word_at s) (sym is))))))
 
@@ -104,8 +99,8 @@ pair_word_case : (s : Slot) (table : List (List Bool × (ℕ × ℕ))) → ((b :
 pair_word_case s table checked row among list bits e n r code [] tail_is one is = absurd (omega (arith, one))
 pair_word_case s table checked row among list bits e n r code (b ∷ []) tail_is one is =
     let both = among-all (pair_is_sent (one_at s) b) row table (checked b) among in
-    let word : coefficient_word (one_at s) (pair row.1.0 row.1.1 b) ≡ row.0 ++ b ∷ [] = same_bits-true _ _ (and_left _ _ both) in
-    ((pair row.1.0 row.1.1 b, and_right _ _ both, is), word_is s list bits e n r (ap (λ t. t ++ r.tail) code ∙ (ap (λ t. row.0 ++ t) tail_is ∙ (sym word ∙ ap (word_at s) (sym is)))))
+    let word : coefficient_word (one_at s) (pair row.1.0 row.1.1 b) ≡ row.0 ++ b ∷ [] = same_bits-true _ _ (and_parts _ _ both).0 in
+    ((pair row.1.0 row.1.1 b, (and_parts _ _ both).1, is), word_is s list bits e n r (ap (λ t. t ++ r.tail) code ∙ (ap (λ t. row.0 ++ t) tail_is ∙ (sym word ∙ ap (word_at s) (sym is)))))
 pair_word_case s table checked row among list bits e n r code (b ∷ c ∷ tail) tail_is one is = absurd (omega (arith, one))
 
 pair_case : (s : Slot) (table : List (List Bool × (ℕ × ℕ))) → ((b : Bool) → list_all (pair_is_sent (one_at s) b) table ≡ true) → (bits : List Bool) (e : Element) (n : ℕ) → IsRead (map (λ row. pair_row row) table) bits e n → ((c : Coefficient) × IsSent c × (e ≡ Tcoeff c)) × IsWord s bits e n
@@ -117,13 +112,13 @@ pair_case s table checked bits e n r =
     pair_word_case s table checked a.0 a.1 (map (λ row. pair_row row) table) bits e n r code r.tail refl one is
 
 twos_again : (n : ℕ) → n < 256 → (twos_complement (from_twos_complement n) ≡ n) × IsByteLevel (from_twos_complement n)
-twos_again n fits = elim (either_way (nat_lt n 128)) [
+twos_again n fits = elim (cases_Bool (nat_lt n 128)) [
   | inl low_ ↦
-      let e : from_twos_complement n ≡ pos n = if-true (nat_lt n 128) (pos n) (neg_ℤ (pos (256 - n))) low_ in
+      let e : from_twos_complement n ≡ pos n = cond-true (nat_lt n 128) (pos n) (neg_ℤ (pos (256 - n))) low_ in
       (ap twos_complement e, subst IsByteLevel (sym e) (ltb-true n 128 low_))
   | inr high ↦
       let s : 256 - n ≡ suc (255 - n) = omega arith in
-      let e : from_twos_complement n ≡ negsuc (255 - n) = if-false (nat_lt n 128) (pos n) (neg_ℤ (pos (256 - n))) high ∙ ap (λ k. neg_ℤ (pos k)) s in
+      let e : from_twos_complement n ≡ negsuc (255 - n) = cond-false (nat_lt n 128) (pos n) (neg_ℤ (pos (256 - n))) high ∙ ap (λ k. neg_ℤ (pos k)) s in
       let b : 128 ≤ n = ltb-false n 128 high in
       (ap twos_complement e ∙ omega arith, subst IsByteLevel (sym e) (omega arith))
 ]
@@ -173,9 +168,9 @@ read-slot AtGspare bits e n h = let r = field_case AtGspare 8 Gspare (λ k _. re
 read-slot AtMacroblock bits e n h = elim (read_either mba_rows (gbsc_row ∷ []) bits e n (read-is (rows AtMacroblock) bits e n h)) [
   | inl a ↦ elim (read_either (table_rows mba_table Mba) (word_row _ Stuffing ∷ []) bits e n a) [
     | inl b ↦
-        let r = table_case AtMacroblock mba_table Mba (λ row among. same_bits-true _ _ (and_left _ _ (among-all _ row mba_table mba_words among))) bits e n b in
-        let ok = and_right _ _ (among-all _ r.0 mba_table mba_words r.1) in
-        (inl (r.0.1, (ltb-true 0 r.0.1 (and_left _ _ ok), leb-true r.0.1 33 (and_right _ _ ok)), r.2), r.3)
+        let r = table_case AtMacroblock mba_table Mba (λ row among. same_bits-true _ _ (and_parts _ _ (among-all _ row mba_table mba_words among)).0) bits e n b in
+        let ok = (and_parts _ _ (among-all _ r.0 mba_table mba_words r.1)).1 in
+        (inl (r.0.1, (ltb-true 0 r.0.1 (and_parts _ _ ok).0, leb-true r.0.1 33 (and_parts _ _ ok).1), r.2), r.3)
     | inr b ↦ let r = one_word_case AtMacroblock _ Stuffing refl bits e n b in (inr (inl r.0), r.1)
   ]
   | inr a ↦ let r = one_word_case AtMacroblock _ Gbsc refl bits e n a in (inr (inr r.0), r.1)
@@ -188,9 +183,9 @@ read-slot (AtMvd axis) bits e n h =
     let r = table_case (AtMvd axis) mvd_table (Mvd axis) (λ row among. same_bits-true _ _ (among-all _ row mvd_table mvd_words among)) bits e n (read-is (rows (AtMvd axis)) bits e n h) in
     ((r.0, r.1, r.2), r.3)
 read-slot AtCbp bits e n h =
-    let r = table_case AtCbp cbp_table Cbp (λ row among. same_bits-true _ _ (and_left _ _ (among-all _ row cbp_table cbp_words among))) bits e n (read-is (rows AtCbp) bits e n h) in
-    let ok = and_right _ _ (among-all _ r.0 cbp_table cbp_words r.1) in
-    ((r.0.1, (ltb-true 0 r.0.1 (and_left _ _ ok), ltb-true r.0.1 64 (and_right _ _ ok)), r.2), r.3)
+    let r = table_case AtCbp cbp_table Cbp (λ row among. same_bits-true _ _ (and_parts _ _ (among-all _ row cbp_table cbp_words among)).0) bits e n (read-is (rows AtCbp) bits e n h) in
+    let ok = (and_parts _ _ (among-all _ r.0 cbp_table cbp_words r.1)).1 in
+    ((r.0.1, (ltb-true 0 r.0.1 (and_parts _ _ ok).0, ltb-true r.0.1 64 (and_parts _ _ ok).1), r.2), r.3)
 read-slot AtDc bits e n h = let r = field_case AtDc 8 Dc (λ k _. refl) bits e n (read-is (rows AtDc) bits e n h) in ((r.0, r.1, r.2), r.3)
 read-slot AtFirst bits e n h = elim (read_either (map (λ row. pair_row row) ((first_one_word, (0, 1)) ∷ tcoeff_table)) (escape_row ∷ []) bits e n (read-is (rows AtFirst) bits e n h)) [
   | inl a ↦ pair_case AtFirst ((first_one_word, (0, 1)) ∷ tcoeff_table) pair_words bits e n a

@@ -1,8 +1,9 @@
 -- The word of an element that a slot takes is read there as that element, whatever follows.
 use Rattle.std.proofs.Common.{◌≡◌, ℕ, zero, suc, ◌+◌, ◌-◌, ◌*◌, ◌/◌, ◌%◌, ◌^◌, ◌<◌, ◌≤◌, ◌==◌, ◌&&◌, ◌||◌, Bool, true, false, List, [], ◌∷◌, ◌++◌, length, map, nat_lt, refl, sym, ◌∙◌, ap, subst, inl, inr, append_assoc, append-nil, ℤ, pos, negsuc, neg_ℤ, nat_abs, arith}
 use Rattle.std.specs.List.{list_any, list_all}
-use Rattle.std.proofs.lemmas.Bool.{eqb-true, lt-ltb}
+use Rattle.std.proofs.lemmas.Bool.{eqb-true, lt-ltb, and_parts, cases_Bool, cond-false, cond-true, eqb-false, le-ltb}
 use Rattle.std.proofs.lemmas.List.{length-append}
+use Rattle.vlc_codes.specs.Lookup.{codes_of_rows}
 use Rattle.pel_model.specs.Bits.{field, number}
 use Rattle.pel_model.specs.declared.MbKind.{MbKind}
 use Rattle.pel_model.specs.declared.MbKind.TheVariants.{Intra, IntraQuant, Inter, InterQuant, Mc, McCoded, McQuant, McFil, McFilCoded, McFilQuant}
@@ -11,41 +12,39 @@ use Rattle.pel_model.specs.Records.{Coefficient}
 use Rattle.pel_model.specs.Text.{word_of, coefficient_word, mtype_word, twos_complement, is_negative}
 use Rattle.pel_model.specs.Walk.{Good, Row, read}
 use Rattle.pel_model.specs.Grammar.{Element, Psc, Tr, Ptype, Pei, Pspare, Gbsc, Gn, Gquant, Gei, Gspare, Stuffing, Mba, Mtype, Mquant, Mvd, Cbp, Dc, Tcoeff, Eob, Slot, AtPsc, AtTr, AtPtype, AtPei, AtPspare, AtGroup, AtGn, AtGquant, AtGei, AtGspare, AtMacroblock, AtMtype, AtMquant, AtMvd, AtCbp, AtDc, AtFirst, AtCoefficient, word_row, field_rows, flag_rows, table_rows, escape_row, mba_rows, gbsc_row, rows, signed, from_twos_complement}
-use Rattle.picture_laws.proofs.Basics.{not_less, not_equal}
-use Rattle.picture_laws.proofs.Rows.{Among, read-row, among-all, among-mapped, among-left, among-right, codes_of}
+use Rattle.picture_laws.proofs.Rows.{Among, read-row, among-all, among-mapped, among-left, among-right}
 use Rattle.picture_laws.proofs.Slots.{word_at, Takes, IsSent, IsByteLevel, IsStep, IsPattern, same_bits-true, mvd_words, pair, pair_is_sent, pair_words, pair_words_later, rows_free}
 use Rattle.picture_laws.proofs.Words.{number-fits, length-field, field-join, pair_row}
-use Rattle.vlc_codes.proofs.WordLaws.{and_left, and_right, either_way, if-true, if-false}
 
 -- a row among the rows of a slot, and the bits behind its code
-written : (list : List (Row Element)) → is_prefix_free (codes_of list) ≡ true → (row : Row Element) → Among row list → (tail : List Bool) → length tail ≡ row.tail → (e : Element) → row.make (number tail) ≡ e → (w : List Bool) → row.code ++ tail ≡ w → (rest : List Bool) → read list (w ++ rest) ≡ Good e (length w)
+written : (list : List (Row Element)) → is_prefix_free (codes_of_rows list) ≡ true → (row : Row Element) → Among row list → (tail : List Bool) → length tail ≡ row.tail → (e : Element) → row.make (number tail) ≡ e → (w : List Bool) → row.code ++ tail ≡ w → (rest : List Bool) → read list (w ++ rest) ≡ Good e (length w)
 written list free row among tail long e is w word rest =
     let size : length row.code + row.tail ≡ length w = omega (arith, long, length-append row.code tail, ap length word) in
     ap (λ t. read list (t ++ rest)) (sym word)
     ∙ (ap (read list) (append_assoc row.code tail rest)
     ∙ (read-row list row tail rest free among long ∙ (ap (λ x. Good x (length row.code + row.tail)) is ∙ ap (Good e) size)))
 
-written_field : (w : ℕ) (make : ℕ → Element) (k : ℕ) → k < 2 ^ w → (rest : List Bool) → is_prefix_free (codes_of (field_rows w make)) ≡ true → read (field_rows w make) (field k w ++ rest) ≡ Good (make k) (length (field k w))
+written_field : (w : ℕ) (make : ℕ → Element) (k : ℕ) → k < 2 ^ w → (rest : List Bool) → is_prefix_free (codes_of_rows (field_rows w make)) ≡ true → read (field_rows w make) (field k w ++ rest) ≡ Good (make k) (length (field k w))
 written_field w make k below rest free =
     written (field_rows w make) free (record { code = []; tail = w; make = make }) (inl refl) (field k w) (length-field k w) (make k) (ap make (number-fits k w below)) (field k w) refl rest
 
-written_flag : (make : Bool → Element) (b : Bool) (rest : List Bool) → is_prefix_free (codes_of (flag_rows make)) ≡ true → read (flag_rows make) ((b ∷ []) ++ rest) ≡ Good (make b) 1
+written_flag : (make : Bool → Element) (b : Bool) (rest : List Bool) → is_prefix_free (codes_of_rows (flag_rows make)) ≡ true → read (flag_rows make) ((b ∷ []) ++ rest) ≡ Good (make b) 1
 unfolding number
 written_flag make true rest free = written (flag_rows make) free (record { code = []; tail = 1; make = λ n. make (n == 1) }) (inl refl) (true ∷ []) refl (make true) refl (true ∷ []) refl rest
 written_flag make false rest free = written (flag_rows make) free (record { code = []; tail = 1; make = λ n. make (n == 1) }) (inl refl) (false ∷ []) refl (make false) refl (false ∷ []) refl rest
 
-written_word : (list : List (Row Element)) → is_prefix_free (codes_of list) ≡ true → (w : List Bool) (e : Element) → Among (word_row w e) list → (v : List Bool) → w ≡ v → (rest : List Bool) → read list (v ++ rest) ≡ Good e (length v)
+written_word : (list : List (Row Element)) → is_prefix_free (codes_of_rows list) ≡ true → (w : List Bool) (e : Element) → Among (word_row w e) list → (v : List Bool) → w ≡ v → (rest : List Bool) → read list (v ++ rest) ≡ Good e (length v)
 written_word list free w e among v is rest = written list free (word_row w e) among [] refl e refl v (append-nil w ∙ is) rest
 
 -- ---- words of a meaning
 
 pub found_in : {A : Type 0} (test : A → Bool) (table : List (List Bool × A)) → list_any (λ row. test row.1) table ≡ true → (row : List Bool × A) × Among row table × (test row.1 ≡ true) × (word_of test table ≡ row.0)
 found_in test [] h = absurd cc
-found_in test (row ∷ table) h = elim (either_way (test row.1)) [
-  | inl yes_ ↦ (row, inl refl, yes_, if-true (test row.1) row.0 (word_of test table) yes_)
+found_in test (row ∷ table) h = elim (cases_Bool (test row.1)) [
+  | inl yes_ ↦ (row, inl refl, yes_, cond-true (test row.1) row.0 (word_of test table) yes_)
   | inr no_ ↦
       let r = found_in test table (sym (ap (λ b. b || list_any (λ row. test row.1) table) no_) ∙ h) in
-      (r.0, inr r.1, r.2, if-false (test row.1) row.0 (word_of test table) no_ ∙ r.3)
+      (r.0, inr r.1, r.2, cond-false (test row.1) row.0 (word_of test table) no_ ∙ r.3)
 ]
 
 -- the numbers below m
@@ -55,9 +54,9 @@ below (suc m) = m ∷ below m
 
 pub below_all : (test : ℕ → Bool) (m n : ℕ) → list_all test (below m) ≡ true → n < m → test n ≡ true
 below_all test zero n all h = absurd (omega arith)
-below_all test (suc m) n all h = elim (either_way (n == m)) [
-  | inl same ↦ ap test (eqb-true n m same) ∙ and_left _ _ all
-  | inr other ↦ below_all test m n (and_right _ _ all) (omega (arith, not_equal n m other, h))
+below_all test (suc m) n all h = elim (cases_Bool (n == m)) [
+  | inl same ↦ ap test (eqb-true n m same) ∙ (and_parts _ _ all).0
+  | inr other ↦ below_all test m n (and_parts _ _ all).1 (omega (arith, eqb-false n m other, h))
 ]
 
 steps_found : list_all (λ n. list_any (λ row. row.1 == n + 1) mba_table) (below 33) ≡ true
@@ -109,7 +108,7 @@ written_kind McFilQuant rest = written_word (rows AtMtype) (rows_free AtMtype) _
 
 any_found : {A : Type 0} (test : A → Bool) (table : List (List Bool × A)) → list_any test (map (λ row. row.1) table) ≡ true → list_any (λ row. test row.1) table ≡ true
 any_found test [] h = h
-any_found test (row ∷ table) h = elim (either_way (test row.1)) [
+any_found test (row ∷ table) h = elim (cases_Bool (test row.1)) [
   | inl yes_ ↦ ap (λ b. b || list_any (λ row. test row.1) table) yes_
   | inr no_ ↦ ap (λ b. b || list_any (λ row. test row.1) table) no_ ∙ any_found test table (sym (ap (λ b. b || list_any test (map (λ row. row.1) table)) no_) ∙ h)
 ]
@@ -119,24 +118,24 @@ unfolding number
 signed_again (pos n) = refl
 signed_again (negsuc n) = refl
 
-written_pair : (list : List (Row Element)) → is_prefix_free (codes_of list) ≡ true → (one : List Bool) (table : List (List Bool × (ℕ × ℕ))) → ((row : List Bool × (ℕ × ℕ)) → Among row table → Among (pair_row row) list) → ((b : Bool) → list_all (pair_is_sent one b) table ≡ true) → (run : ℕ) (level : ℤ) → list_any (λ p. p.0 == run && p.1 == nat_abs level) (map (λ row. row.1) table) ≡ true → (rest : List Bool) → read list (coefficient_word one (record { run = run; level = level; long = false }) ++ rest) ≡ Good (Tcoeff (record { run = run; level = level; long = false })) (length (coefficient_word one (record { run = run; level = level; long = false })))
+written_pair : (list : List (Row Element)) → is_prefix_free (codes_of_rows list) ≡ true → (one : List Bool) (table : List (List Bool × (ℕ × ℕ))) → ((row : List Bool × (ℕ × ℕ)) → Among row table → Among (pair_row row) list) → ((b : Bool) → list_all (pair_is_sent one b) table ≡ true) → (run : ℕ) (level : ℤ) → list_any (λ p. p.0 == run && p.1 == nat_abs level) (map (λ row. row.1) table) ≡ true → (rest : List Bool) → read list (coefficient_word one (record { run = run; level = level; long = false }) ++ rest) ≡ Good (Tcoeff (record { run = run; level = level; long = false })) (length (coefficient_word one (record { run = run; level = level; long = false })))
 written_pair list free one table inside checked run level any rest =
     let f = found_in (λ p. p.0 == run && p.1 == nat_abs level) table (any_found (λ p. p.0 == run && p.1 == nat_abs level) table any) in
-    let run_is : f.0.1.0 ≡ run = eqb-true f.0.1.0 run (and_left _ _ f.2) in
-    let level_is : f.0.1.1 ≡ nat_abs level = eqb-true f.0.1.1 (nat_abs level) (and_right _ _ f.2) in
+    let run_is : f.0.1.0 ≡ run = eqb-true f.0.1.0 run (and_parts _ _ f.2).0 in
+    let level_is : f.0.1.1 ≡ nat_abs level = eqb-true f.0.1.1 (nat_abs level) (and_parts _ _ f.2).1 in
     let same : pair f.0.1.0 f.0.1.1 (is_negative level) ≡ record { run = run; level = level; long = false } =
     ap (λ r. pair r f.0.1.1 (is_negative level)) run_is ∙ (ap (λ l. pair run l (is_negative level)) level_is ∙ ap (λ (l : ℤ). record { run = run; level = l; long = false }) (signed_again level)) in
-    let word : coefficient_word one (pair f.0.1.0 f.0.1.1 (is_negative level)) ≡ f.0.0 ++ is_negative level ∷ [] = same_bits-true _ _ (and_left _ _ (among-all (pair_is_sent one (is_negative level)) f.0 table (checked (is_negative level)) f.1)) in
+    let word : coefficient_word one (pair f.0.1.0 f.0.1.1 (is_negative level)) ≡ f.0.0 ++ is_negative level ∷ [] = same_bits-true _ _ (and_parts _ _ (among-all (pair_is_sent one (is_negative level)) f.0 table (checked (is_negative level)) f.1)).0 in
     written list free (pair_row f.0) (inside f.0 f.1) (is_negative level ∷ []) refl (Tcoeff (record { run = run; level = level; long = false })) (ap Tcoeff same) (coefficient_word one (record { run = run; level = level; long = false })) (sym word ∙ ap (coefficient_word one) same) rest
 
 twos_fit : (level : ℤ) → IsByteLevel level → (twos_complement level < 256) × (from_twos_complement (twos_complement level) ≡ level)
-twos_fit (pos n) h = (omega arith, if-true (nat_lt n 128) (pos n) (neg_ℤ (pos (256 - n))) (lt-ltb n 128 h))
+twos_fit (pos n) h = (omega arith, cond-true (nat_lt n 128) (pos n) (neg_ℤ (pos (256 - n))) (lt-ltb n 128 h))
 twos_fit (negsuc n) h =
-    let high : nat_lt (255 - n) 128 ≡ false = not_less (255 - n) 128 (omega arith) in
+    let high : nat_lt (255 - n) 128 ≡ false = le-ltb (255 - n) 128 (omega arith) in
     let back : 256 - (255 - n) ≡ suc n = omega arith in
-    (omega arith, if-false (nat_lt (255 - n) 128) (pos (255 - n)) (neg_ℤ (pos (256 - (255 - n)))) high ∙ ap (λ m. neg_ℤ (pos m)) back)
+    (omega arith, cond-false (nat_lt (255 - n) 128) (pos (255 - n)) (neg_ℤ (pos (256 - (255 - n)))) high ∙ ap (λ m. neg_ℤ (pos m)) back)
 
-written_escape : (list : List (Row Element)) → is_prefix_free (codes_of list) ≡ true → Among escape_row list → (one : List Bool) (run : ℕ) (level : ℤ) → run ≤ 63 → IsByteLevel level → (rest : List Bool) → read list (coefficient_word one (record { run = run; level = level; long = true }) ++ rest) ≡ Good (Tcoeff (record { run = run; level = level; long = true })) (length (coefficient_word one (record { run = run; level = level; long = true })))
+written_escape : (list : List (Row Element)) → is_prefix_free (codes_of_rows list) ≡ true → Among escape_row list → (one : List Bool) (run : ℕ) (level : ℤ) → run ≤ 63 → IsByteLevel level → (rest : List Bool) → read list (coefficient_word one (record { run = run; level = level; long = true }) ++ rest) ≡ Good (Tcoeff (record { run = run; level = level; long = true })) (length (coefficient_word one (record { run = run; level = level; long = true })))
 unfolding coefficient_word
 written_escape list free among one run level small byte rest =
     let t = twos_fit level byte in
@@ -152,11 +151,11 @@ written_escape list free among one run level small byte rest =
 
 -- ---- each slot
 
-takes_parts : (list : List (Row Element)) → is_prefix_free (codes_of list) ≡ true → (one : List Bool) → ((row : List Bool × (ℕ × ℕ)) → Among row ((one, (0, 1)) ∷ tcoeff_table) → Among (pair_row row) list) → Among escape_row list → ((b : Bool) → list_all (pair_is_sent one b) ((one, (0, 1)) ∷ tcoeff_table) ≡ true) → (run : ℕ) (level : ℤ) (long : Bool) → IsSent (record { run = run; level = level; long = long }) → (rest : List Bool) → read list (coefficient_word one (record { run = run; level = level; long = long }) ++ rest) ≡ Good (Tcoeff (record { run = run; level = level; long = long })) (length (coefficient_word one (record { run = run; level = level; long = long })))
+takes_parts : (list : List (Row Element)) → is_prefix_free (codes_of_rows list) ≡ true → (one : List Bool) → ((row : List Bool × (ℕ × ℕ)) → Among row ((one, (0, 1)) ∷ tcoeff_table) → Among (pair_row row) list) → Among escape_row list → ((b : Bool) → list_all (pair_is_sent one b) ((one, (0, 1)) ∷ tcoeff_table) ≡ true) → (run : ℕ) (level : ℤ) (long : Bool) → IsSent (record { run = run; level = level; long = long }) → (rest : List Bool) → read list (coefficient_word one (record { run = run; level = level; long = long }) ++ rest) ≡ Good (Tcoeff (record { run = run; level = level; long = long })) (length (coefficient_word one (record { run = run; level = level; long = long })))
 takes_parts list free one inside escape checked run level true sent rest = written_escape list free escape one run level sent.0 sent.1 rest
 takes_parts list free one inside escape checked run level false sent rest = written_pair list free one ((one, (0, 1)) ∷ tcoeff_table) inside checked run level sent rest
 
-takes_pair : (list : List (Row Element)) → is_prefix_free (codes_of list) ≡ true → (one : List Bool) → ((row : List Bool × (ℕ × ℕ)) → Among row ((one, (0, 1)) ∷ tcoeff_table) → Among (pair_row row) list) → Among escape_row list → ((b : Bool) → list_all (pair_is_sent one b) ((one, (0, 1)) ∷ tcoeff_table) ≡ true) → (c : Coefficient) → IsSent c → (rest : List Bool) → read list (coefficient_word one c ++ rest) ≡ Good (Tcoeff c) (length (coefficient_word one c))
+takes_pair : (list : List (Row Element)) → is_prefix_free (codes_of_rows list) ≡ true → (one : List Bool) → ((row : List Bool × (ℕ × ℕ)) → Among row ((one, (0, 1)) ∷ tcoeff_table) → Among (pair_row row) list) → Among escape_row list → ((b : Bool) → list_all (pair_is_sent one b) ((one, (0, 1)) ∷ tcoeff_table) ≡ true) → (c : Coefficient) → IsSent c → (rest : List Bool) → read list (coefficient_word one c ++ rest) ≡ Good (Tcoeff c) (length (coefficient_word one c))
 takes_pair list free one inside escape checked c sent rest = takes_parts list free one inside escape checked c.run c.level c.long sent rest
 
 -- an element that a slot takes

@@ -3,7 +3,7 @@ use Rattle.std.proofs.Common.{◌≡◌, ℕ, ◌<◌, ◌≤◌, nat_lt, nat_le
 use mathlib.Core.Path.{fun_ext}
 use Rattle.std.specs.Option.{option_or}
 use Rattle.std.specs.List.{list_all}
-use Rattle.std.proofs.lemmas.Bool.{false≢true}
+use Rattle.std.proofs.lemmas.Bool.{false≢true, or_parts}
 use Rattle.std.proofs.lemmas.Bool.Decides.{nat_tests}
 use Rattle.pel_model.specs.declared.Quad.{Quad}
 use Rattle.pel_model.specs.declared.Quad.TheVariants.{One, Two, Three, Four}
@@ -88,10 +88,6 @@ Obeys-done command old new lanes done carried = record {
   kept = λ e. absurd (false≢true (sym e));
 }
 
-or_false_left : (a b : Bool) → (a || b) ≡ false → a ≡ false
-or_false_left false b e = refl
-or_false_left true b e = e
-
 -- of two places, either may be looked at first
 swapped : (p q r : Quad) (x y z : Option ℕ) → is_same p q ≡ false →
     (if is_same q r then x else if is_same p r then y else z) ≡ (if is_same p r then y else if is_same q r then x else z)
@@ -121,7 +117,7 @@ pub Obeys-swap : (p q : Quad) (old : PlanView) (seats : PerPlace (Option ℕ)) �
 Obeys-swap p q old seats able moved = Obeys-done (Swap p q) old (record old { seats = seats }) refl
     (λ speakers order. rw able refl)
     (λ speakers order. record {
-      seats = λ r. moved r ∙ swapped p q r _ _ _ (or_false_left (is_same p q) _ able);
+      seats = λ r. moved r ∙ swapped p q r _ _ _ (or_parts (is_same p q) _ able).0;
       pins = λ r. refl;
       order = order;
     })

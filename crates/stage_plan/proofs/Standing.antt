@@ -1,7 +1,8 @@
 -- Where lanes stand, whatever the commands were.
 use Rattle.std.proofs.Common.{◌≡◌, ℕ, ◌<◌, nat_le, Bool, true, false, not, ◌&&◌, ◌||◌, ◌==◌, Option, Some, None, List, [], ◌∷◌, refl, sym, ap, subst, ◌∙◌, arith, if◌then◌else◌}
+use Rattle.std.proofs.lemmas.Option.{none-some, same_Some}
 use Rattle.std.proofs.Math.Bool.{or-true}
-use Rattle.std.proofs.lemmas.Bool.{false≢true}
+use Rattle.std.proofs.lemmas.Bool.{false≢true, and_parts}
 use Rattle.std.proofs.lemmas.Bool.Decides.{nat_tests}
 use Rattle.pel_model.specs.declared.Quad.{Quad}
 use Rattle.pel_model.specs.declared.Quad.TheVariants.{One, Two, Three, Four}
@@ -41,25 +42,19 @@ pub record IsSeating (lanes : ℕ) (s : Stage) : Type 0 where
   pub once : (p q : Quad) (c : ℕ) → s.lane_in p ≡ Some c → s.lane_in q ≡ Some c → p ≡ q
   pub real : (q : Quad) (c : ℕ) → s.lane_in q ≡ Some c → c < lanes
 
-some_same : (c d : ℕ) → Some c ≡ Some d → c ≡ d
-some_same c d e = cc
-
-none_some : (c : ℕ) → ◌≡◌ {A = Option ℕ} None (Some c) → ⊥
-none_some c e = let apart : false ≡ true = cc in false≢true apart
-
 without-some : (c : ℕ) (seat : Option ℕ) (d : ℕ) → without c seat ≡ Some d → seat ≡ Some d
 without-some c seat d =
     elim (is_lane c seat) as (λ v. (if v then None else seat) ≡ Some d → seat ≡ Some d) [
-      | true ↦ λ e. absurd (none_some d e)
+      | true ↦ λ e. absurd (none-some d e)
       | false ↦ λ e. e
     ]
 
 without-other : (c : ℕ) (seat : Option ℕ) → without c seat ≡ Some c → ⊥
-without-other c None e = none_some c e
+without-other c None e = none-some c e
 without-other c (Some d) e =
     elim (c == d) as (λ v. (c == d) ≡ v → (if v then None else Some d) ≡ Some c → ⊥) [
-      | true ↦ λ t f. none_some c f
-      | false ↦ λ t f. let same : d ≡ c = some_same d c f in false≢true (sym t ∙ grind (arith, nat_tests))
+      | true ↦ λ t f. none-some c f
+      | false ↦ λ t f. let same : d ≡ c = same_Some d c f in false≢true (sym t ∙ grind (arith, nat_tests))
     ] refl e
 
 -- what a value gives that is one of two, by a test
@@ -82,7 +77,7 @@ seating-place lanes s q c h inside = record {
       (λ u y. h.once p r d (without-some c (s.lane_in p) d x) (without-some c (s.lane_in r) d y)));
   real = λ p d e.
       either (is_same q p) (Some c) (without c (s.lane_in p)) (Some d) (d < lanes) e
-      (λ t x. subst (λ n. n < lanes) (some_same c d x) inside)
+      (λ t x. subst (λ n. n < lanes) (same_Some c d x) inside)
       (λ t x. h.real p d (without-some c (s.lane_in p) d x));
 }
 
@@ -90,10 +85,10 @@ seating-clear : (lanes : ℕ) (s : Stage) (q : Quad) → IsSeating lanes s → I
 seating-clear lanes s q h = record {
   once = λ p r d e f.
       either (is_same q p) None (s.lane_in p) (Some d) (p ≡ r) e
-      (λ t x. absurd (none_some d x))
-      (λ t x. either (is_same q r) None (s.lane_in r) (Some d) (p ≡ r) f (λ u y. absurd (none_some d y)) (λ u y. h.once p r d x y));
+      (λ t x. absurd (none-some d x))
+      (λ t x. either (is_same q r) None (s.lane_in r) (Some d) (p ≡ r) f (λ u y. absurd (none-some d y)) (λ u y. h.once p r d x y));
   real = λ p d e.
-      either (is_same q p) None (s.lane_in p) (Some d) (d < lanes) e (λ t x. absurd (none_some d x)) (λ t x. h.real p d x);
+      either (is_same q p) None (s.lane_in p) (Some d) (d < lanes) e (λ t x. absurd (none-some d x)) (λ t x. h.real p d x);
 }
 
 -- the place whose lane stands in place r after an exchange
@@ -151,14 +146,6 @@ standing_at s c Four e =
 not_standing : (s : Stage) (c : ℕ) (q : Quad) → is_standing s c ≡ false → s.lane_in q ≡ Some c → ⊥
 not_standing s c q none here = false≢true (sym none ∙ standing_at s c q (ap (is_lane c) here ∙ grind (arith, nat_tests)))
 
-and_left : (a b : Bool) → (a && b) ≡ true → a ≡ true
-and_left true b e = refl
-and_left false b e = e
-
-and_right : (a b : Bool) → (a && b) ≡ true → b ≡ true
-and_right true b e = e
-and_right false b e = absurd (false≢true e)
-
 not_false : (b : Bool) → not b ≡ true → b ≡ false
 not_false false e = refl
 not_false true e = sym e
@@ -172,14 +159,14 @@ seating-speaker lanes s c h inside = record {
   once = λ p r d e f.
       either (given p) (Some c) (s.lane_in p) (Some d) (p ≡ r) e
       (λ t x. either (given r) (Some c) (s.lane_in r) (Some d) (p ≡ r) f
-      (λ u y. one_place (place_for_speaker s) p r (and_right _ _ t) (and_right _ _ u))
+      (λ u y. one_place (place_for_speaker s) p r (and_parts _ _ t).1 (and_parts _ _ u).1)
       (λ u y. absurd (not_standing s c r (is_new p t) (y ∙ sym x))))
       (λ t x. either (given r) (Some c) (s.lane_in r) (Some d) (p ≡ r) f
       (λ u y. absurd (not_standing s c p (is_new r u) (x ∙ sym y)))
       (λ u y. h.once p r d x y));
   real = λ p d e.
       either (given p) (Some c) (s.lane_in p) (Some d) (d < lanes) e
-      (λ t x. subst (λ n. n < lanes) (some_same c d x) inside)
+      (λ t x. subst (λ n. n < lanes) (same_Some c d x) inside)
       (λ t x. h.real p d x);
 }
   where
@@ -187,7 +174,7 @@ seating-speaker lanes s c h inside = record {
     given p = not (is_standing s c) && is_place (place_for_speaker s) p
 
     is_new : (p : Quad) → given p ≡ true → is_standing s c ≡ false
-    is_new p t = not_false _ (and_left _ _ t)
+    is_new p t = not_false _ (and_parts _ _ t).0
 
 -- a command on a lane is done for lanes of the conference alone
 lane_known : (lanes c : ℕ) (r : Reply) → is_done (if nat_le lanes c then NoLane else r) ≡ true → c < lanes
@@ -206,7 +193,7 @@ seating-carried lanes s (Pin q) h done = record { once = h.once; real = h.real }
 seating-carried lanes s (Unpin q) h done = record { once = h.once; real = h.real }
 
 pub seating : (lanes : ℕ) (commands : List Command) → IsSeating lanes (stage lanes commands)
-seating lanes [] = record { once = λ p q c e f. absurd (none_some c e); real = λ q c e. absurd (none_some c e) }
+seating lanes [] = record { once = λ p q c e f. absurd (none-some c e); real = λ q c e. absurd (none-some c e) }
 seating lanes (command ∷ commands) =
     let s = stage lanes commands in
     elim (is_done (answer_at lanes s command)) as (λ v. is_done (answer_at lanes s command) ≡ v → IsSeating lanes (if v then carried_out s command else s)) [

@@ -1,6 +1,6 @@
 -- Cells: what stands at a table's index, and why it is what stands at the front of the bits.
 use Rattle.std.proofs.Common.{◌≡◌, ℕ, zero, suc, ◌+◌, ◌-◌, ◌*◌, ◌/◌, ◌%◌, ◌^◌, ◌<◌, ◌≤◌, ◌&&◌, Bool, true, false, List, [], ◌∷◌, ◌++◌, length, get_or, nat_lt, if◌then◌else◌, refl, sym, ◌∙◌, ap, subst, inl, inr, zero-add, arith}
-use Rattle.std.proofs.lemmas.Bool.{ltb-true, ltb-false}
+use Rattle.std.proofs.lemmas.Bool.{ltb-true, ltb-false, and_parts, cases_Bool, cond-false, cond-true}
 use Rattle.std.proofs.Math.Nat.{pow-le-pow_right}
 use Rattle.std.specs.Int.{leading_zeros, w32}
 use Rattle.std.proofs.lemmas.Nat.{leading_length, shr_below, le-div, pow-add, pow_pos}
@@ -9,7 +9,6 @@ use Rattle.pel_bits.specs.Reading.{zeros}
 use Rattle.pel_bits.proofs.Fields.{field-add, field-zero}
 use Rattle.pel_model.specs.Codes.{begins}
 use Rattle.vlc_codes.specs.declared.lookup.Cell.{Cell}
-use Rattle.vlc_codes.proofs.WordLaws.{either_way, if-true, if-false}
 use Rattle.vlc_codes.specs.Lookup.{cell_of, no_cell}
 use Rattle.vlc_codes.specs.Inner.{cell_in}
 
@@ -49,14 +48,10 @@ begins-settled (false ∷ w) (false ∷ bits) more h = begins-settled w bits mor
 begins-settled (true ∷ w) (false ∷ bits) more h = refl
 begins-settled (false ∷ w) (true ∷ bits) more h = refl
 
-and_both : (a b : Bool) → (a && b) ≡ true → (a ≡ true) × (b ≡ true)
-and_both true b h = (refl, h)
-and_both false b h = absurd cc
-
 pub cell-settled : (ws : List (List Bool)) (i : ℕ) (bits more : List Bool) → all_settled ws bits ≡ true → cell_of ws i (bits ++ more) ≡ cell_of ws i bits
 cell-settled [] i bits more h = refl
 cell-settled (w ∷ ws) i bits more h =
-    let both = and_both (is_settled w bits) (all_settled ws bits) h in
+    let both = and_parts (is_settled w bits) (all_settled ws bits) h in
     ap (λ (b : Bool). if b then record { len = length w; value = i } else cell_of ws (i + 1) (bits ++ more)) (begins-settled w bits more both.0)
     ∙ ap (λ (c : Cell). if begins w bits then record { len = length w; value = i } else c) (cell-settled ws (i + 1) bits more both.1)
 
@@ -118,11 +113,11 @@ pub cell-in : (lens places : List ℕ) (ws : List (List Bool)) → lens ≡ list
 cell-in lens places ws lens_are places_are settled low none top fits =
     let z : ℕ = leading_zeros w32 top in
     let here : Cell = cell (get_or lens (index top (leading_zeros w32 top)) 0) (get_or places (index top (leading_zeros w32 top)) 0) in
-    elim (either_way (nat_lt 9 (leading_zeros w32 top))) [
+    elim (cases_Bool (nat_lt 9 (leading_zeros w32 top))) [
       | inl many ↦
-          if-true (nat_lt 9 (leading_zeros w32 top)) no_cell here many
+          cond-true (nat_lt 9 (leading_zeros w32 top)) no_cell here many
           ∙ sym (cell_of-zeros ws low none top (no_bits top fits (ltb-true 9 (leading_zeros w32 top) many)))
       | inr few ↦
-          if-false (nat_lt 9 (leading_zeros w32 top)) no_cell here few
+          cond-false (nat_lt 9 (leading_zeros w32 top)) no_cell here few
           ∙ cell_of-front lens places ws lens_are places_are settled top (leading_zeros w32 top) fits refl (ltb-false 9 (leading_zeros w32 top) few)
     ]

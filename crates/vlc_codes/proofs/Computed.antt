@@ -1,7 +1,7 @@
 -- What is computed of the six tables.
 use Rattle.std.proofs.Common.{◌≡◌, ℕ, ℤ, pos, negsuc, ◌≤ℤ◌, ◌≤◌, ◌&&◌, arith, ◌+◌, ◌^◌, ◌<◌, Bool, true, false, cond, List, [], ◌∷◌, ◌++◌, refl, sym, ap, ◌∙◌, map, take, get_or, length, nat_le, nat_lt}
 use Rattle.std.specs.List.{list_all}
-use Rattle.std.proofs.lemmas.Bool.{leb-true}
+use Rattle.std.proofs.lemmas.Bool.{leb-true, and_parts}
 use Rattle.std.proofs.lemmas.List.{get_or_append_left, get_or-take}
 use Rattle.std.proofs.lemmas.Int.{ints}
 use Rattle.pel_bits.specs.Bits.{field}
@@ -19,7 +19,7 @@ use Rattle.pel_model.specs.Walk.{Row}
 use Rattle.pel_model.specs.Grammar as grammar
 use Rattle.pel_model.specs.Grammar.{Element, Eob, Slot, AtPsc, AtTr, AtPtype, AtPei, AtPspare, AtGroup, AtGn, AtGquant, AtGei, AtGspare, AtMacroblock, AtMtype, AtMquant, AtCbp, AtDc, AtFirst, AtCoefficient, AtMvd, rows, mba_rows, table_rows, first_rows, later_rows, coefficient_row, escape_row, word_row}
 use Rattle.vlc_codes.specs.Rows.{mba_element}
-use Rattle.vlc_codes.proofs.WordLaws.{and_left, and_right, all_at}
+use Rattle.vlc_codes.proofs.WordLaws.{all_at}
 use Rattle.vlc_codes.specs.declared.lookup.Table.TheVariants.{Mba, Mtype, Mvd, Cbp, CoefFirst, Coef}
 use Rattle.vlc_codes.specs.Lookup.{words, codes_of_rows, cell_of, no_cell}
 use Rattle.vlc_codes.specs.Inner.{cell_in, code_word}
@@ -285,8 +285,8 @@ pub differences_bounds : (k : ℕ) (d : ℤ × ℤ) → k < 32 → (negsuc 29 �
 differences_bounds k d inside =
     let v : ℤ × ℤ = get_or codes.DIFFERENCES k d in
     let near = all_at both_near codes.DIFFERENCES k d differences_near inside in
-    let first = near_bounds v.0 (and_left (is_near v.0) (is_near v.1) near) in
-    let second = near_bounds v.1 (and_right (is_near v.0) (is_near v.1) near) in
+    let first = near_bounds v.0 (and_parts (is_near v.0) (is_near v.1) near).0 in
+    let second = near_bounds v.1 (and_parts (is_near v.0) (is_near v.1) near).1 in
     (first.0, first.1, second.0, second.1)
 
 pub level_bound : (k : ℕ) (d : ℕ × ℕ) → k < 63 → (get_or codes.PAIRS k d).1 ≤ 15

@@ -1,6 +1,6 @@
 -- Words at the front of bits, and of bits with zeros behind them.
-use Rattle.std.proofs.Common.{◌≡◌, ◌≢◌, Result, Ok, Err, Option, Some, None, ℕ, zero, suc, ◌+◌, ◌-◌, ◌*◌, ◌/◌, ◌%◌, ◌^◌, ◌<◌, ◌≤◌, ◌==◌, ◌&&◌, ◌||◌, not, Bool, true, false, List, [], ◌∷◌, ◌++◌, length, map, take, drop, get_or, nat_lt, nat_le, if◌then◌else◌, refl, sym, ◌∙◌, ap, subst, inl, inr, ◌⊎◌, min, zero-add, arith}
-use Rattle.std.proofs.lemmas.Bool.{false≢true, ltb-true, lt-ltb, leb-true, leb-false, le-leb, eqb-true, eq-eqb}
+use Rattle.std.proofs.Common.{◌≡◌, ◌≢◌, Result, Ok, Err, Option, Some, None, ℕ, zero, suc, ◌+◌, ◌-◌, ◌*◌, ◌/◌, ◌%◌, ◌^◌, ◌<◌, ◌≤◌, ◌==◌, ◌||◌, Bool, true, false, List, [], ◌∷◌, ◌++◌, length, map, take, drop, get_or, nat_lt, nat_le, if◌then◌else◌, refl, sym, ◌∙◌, ap, subst, inl, inr, min, zero-add, arith}
+use Rattle.std.proofs.lemmas.Bool.{false≢true, ltb-true, lt-ltb, leb-true, leb-false, le-leb, eqb-true, eq-eqb, and_parts, cases_Bool, cond-false, cond-true, le-ltb, not-true, or_parts}
 use Rattle.std.specs.List.{list_any, list_all, find}
 use Rattle.std.proofs.lemmas.Nat.{one_shl}
 use Rattle.std.proofs.Math.Nat.{pow-le-pow_right, div-eq_of_lt, min-eq_left, min-eq_right}
@@ -58,62 +58,30 @@ begins_both (false ∷ v) (true ∷ w) (false ∷ bits) p q h = absurd cc
 begins_both (false ∷ v) (false ∷ w) (true ∷ bits) p q h = absurd cc
 begins_both (false ∷ v) (false ∷ w) (false ∷ bits) p q h = begins_both v w bits p q (omega arith)
 
-pub and_left : (a b : Bool) → (a && b) ≡ true → a ≡ true
-and_left true b h = refl
-and_left false b h = h
-
-pub and_right : (a b : Bool) → (a && b) ≡ true → b ≡ true
-and_right true b h = h
-and_right false b h = absurd cc
-
-or_left : (a b : Bool) → (a || b) ≡ false → a ≡ false
-or_left true b h = h
-or_left false b h = refl
-
-or_right : (a b : Bool) → (a || b) ≡ false → b ≡ false
-or_right true b h = absurd cc
-or_right false b h = h
-
-not_true : (a : Bool) → not a ≡ true → a ≡ false
-not_true true h = absurd cc
-not_true false h = refl
-
-pub either_way : (b : Bool) → (b ≡ true) ⊎ (b ≡ false)
-either_way true = inl refl
-either_way false = inr refl
-
 -- no word of the list stands at the front of the bits: a word w that no other is a front of reaches past them
 none_left : (w : List Bool) (ws : List (List Bool)) (i : ℕ) (bits more : List Bool) (n : ℕ) → list_any (λ v. begins w v || begins v w) ws ≡ false → begins w (take n (bits ++ more)) ≡ true → length bits < length w → list_all (λ v. nat_le (length v) n) ws ≡ true → cell_of ws i bits ≡ no_cell
 none_left w [] i bits more n free front longer short = refl
 none_left w (v ∷ ws) i bits more n free front longer short =
-    let rest : cell_of ws (i + 1) bits ≡ no_cell = none_left w ws (i + 1) bits more n (or_right _ _ free) front longer (and_right _ _ short) in
-    let fits : length v ≤ n = leb-true (length v) n (and_left _ _ short) in
-    elim (either_way (begins v bits)) [
+    let rest : cell_of ws (i + 1) bits ≡ no_cell = none_left w ws (i + 1) bits more n (or_parts _ _ free).1 front longer (and_parts _ _ short).1 in
+    let fits : length v ≤ n = leb-true (length v) n (and_parts _ _ short).0 in
+    elim (cases_Bool (begins v bits)) [
       | inl here ↦
           let seen : begins v (take n (bits ++ more)) ≡ true = begins-cut v bits more n fits (begins_length v bits here) ∙ here in
           let inner : begins v w ≡ true = begins_both v w (take n (bits ++ more)) seen front (omega (arith, begins_length v bits here)) in
-          absurd (false≢true (sym (or_right (begins w v) (begins v w) (or_left _ _ free)) ∙ inner))
+          absurd (false≢true (sym (or_parts (begins w v) (begins v w) (or_parts _ _ free).0).1 ∙ inner))
       | inr other ↦ subst (λ (b : Bool). (if b then record { len = length v; value = i } else cell_of ws (i + 1) bits) ≡ no_cell) (sym other) rest
     ]
-
-pub if-true : {A : Type 0} (b : Bool) (x y : A) → b ≡ true → (if b then x else y) ≡ x
-if-true true x y h = refl
-if-true false x y h = absurd cc
-
-pub if-false : {A : Type 0} (b : Bool) (x y : A) → b ≡ false → (if b then x else y) ≡ y
-if-false true x y h = absurd cc
-if-false false x y h = refl
 
 -- a word that is no longer than n
 abbrev pub within : ℕ → Cell → Cell
 within n cell = if nat_le cell.len n then cell else no_cell
 
 within-none : (n : ℕ) → within n no_cell ≡ no_cell
-within-none n = elim (either_way (nat_le 0 n)) [ inl h ↦ if-true (nat_le 0 n) no_cell no_cell h | inr h ↦ if-false (nat_le 0 n) no_cell no_cell h ]
+within-none n = elim (cases_Bool (nat_le 0 n)) [ inl h ↦ cond-true (nat_le 0 n) no_cell no_cell h | inr h ↦ cond-false (nat_le 0 n) no_cell no_cell h ]
 
 no_front : (w bits more : List Bool) (n : ℕ) → length w ≤ n → begins w (take n (bits ++ more)) ≡ false → begins w bits ≡ false
 no_front w bits more n fits other =
-    elim (either_way (begins w bits)) [
+    elim (cases_Bool (begins w bits)) [
       | inl here ↦ absurd (false≢true (sym other ∙ (begins-cut w bits more n fits (begins_length w bits here) ∙ here)))
       | inr h ↦ h
     ]
@@ -122,32 +90,32 @@ no_front w bits more n fits other =
 pub cell-cut : (ws : List (List Bool)) (i : ℕ) (bits more : List Bool) (n : ℕ) → is_prefix_free ws ≡ true → list_all (λ v. nat_le (length v) n) ws ≡ true → cell_of ws i bits ≡ within (length bits) (cell_of ws i (take n (bits ++ more)))
 cell-cut [] i bits more n free short = sym (within-none (length bits))
 cell-cut (w ∷ ws) i bits more n free short =
-    let fits : length w ≤ n = leb-true (length w) n (and_left _ _ short) in
+    let fits : length w ≤ n = leb-true (length w) n (and_parts _ _ short).0 in
     let padded : List Bool = take n (bits ++ more) in
     let word : Cell = record { len = length w; value = i } in
     let front = begins w padded in
     let later = cell_of ws (i + 1) padded in
     let few = nat_le (length w) (length bits) in
-    elim (either_way (begins w (take n (bits ++ more)))) [
+    elim (cases_Bool (begins w (take n (bits ++ more)))) [
       | inl here ↦
-          let seen : within (length bits) (if front then word else later) ≡ within (length bits) word = ap (within (length bits)) (if-true front word later here) in
-          elim (either_way (nat_le (length w) (length bits))) [
+          let seen : within (length bits) (if front then word else later) ≡ within (length bits) word = ap (within (length bits)) (cond-true front word later here) in
+          elim (cases_Bool (nat_le (length w) (length bits))) [
             | inl whole ↦
                 let there : begins w bits ≡ true = sym (begins-cut w bits more n fits (leb-true (length w) (length bits) whole)) ∙ here in
-                if-true (begins w bits) word (cell_of ws (i + 1) bits) there ∙ sym (seen ∙ if-true few word no_cell whole)
+                cond-true (begins w bits) word (cell_of ws (i + 1) bits) there ∙ sym (seen ∙ cond-true few word no_cell whole)
             | inr longer ↦
                 let long : length bits < length w = leb-false (length w) (length bits) longer in
-                if-false (begins w bits) word (cell_of ws (i + 1) bits) (begins_longer w bits long)
-                ∙ (none_left w ws (i + 1) bits more n (not_true _ (and_left _ _ free)) here long (and_right _ _ short) ∙ sym (seen ∙ if-false few word no_cell longer))
+                cond-false (begins w bits) word (cell_of ws (i + 1) bits) (begins_longer w bits long)
+                ∙ (none_left w ws (i + 1) bits more n (not-true _ (and_parts _ _ free).0) here long (and_parts _ _ short).1 ∙ sym (seen ∙ cond-false few word no_cell longer))
           ]
       | inr other ↦
-          if-false (begins w bits) word (cell_of ws (i + 1) bits) (no_front w bits more n fits other)
-          ∙ (cell-cut ws (i + 1) bits more n (and_right _ _ free) (and_right _ _ short) ∙ ap (within (length bits)) (sym (if-false front word later other)))
+          cond-false (begins w bits) word (cell_of ws (i + 1) bits) (no_front w bits more n fits other)
+          ∙ (cell-cut ws (i + 1) bits more n (and_parts _ _ free).1 (and_parts _ _ short).1 ∙ ap (within (length bits)) (sym (cond-false front word later other)))
     ]
 
 -- ---- words as their bits and the number of these
 
-begins_self : (w more : List Bool) → begins w (w ++ more) ≡ true
+pub begins_self : (w more : List Bool) → begins w (w ++ more) ≡ true
 begins_self [] more = refl
 begins_self (true ∷ w) more = begins_self w more
 begins_self (false ∷ w) more = begins_self w more
@@ -164,12 +132,12 @@ begins_same (false ∷ v) (true ∷ w) more len h = absurd cc
 -- a number's last bits are the front of bits exactly where they spell it
 begins-field : (front q len : ℕ) (more : List Bool) → front < 2 ^ len → (q % 2 ^ len == front) ≡ begins (field front len) (field q len ++ more)
 begins-field front q len more fits =
-    elim (either_way (q % 2 ^ len == front)) [
+    elim (cases_Bool (q % 2 ^ len == front)) [
       | inl same ↦
           let e : field q len ≡ field front len = sym (field-mod q 0 len) ∙ (ap (λ (k : ℕ). field (q % 2 ^ k) len) (zero-add len) ∙ ap (λ (n : ℕ). field n len) (eqb-true (q % 2 ^ len) front same)) in
           same ∙ sym (ap (λ (t : List Bool). begins (field front len) (t ++ more)) e ∙ begins_self (field front len) more)
       | inr other ↦
-          other ∙ sym (elim (either_way (begins (field front len) (field q len ++ more))) [
+          other ∙ sym (elim (cases_Bool (begins (field front len) (field q len ++ more))) [
             | inl here ↦
                 let e = begins_same (field front len) (field q len) more (length-field front len ∙ sym (length-field q len)) here in
                 let n : q % 2 ^ len ≡ front = sym (number-field q len) ∙ (ap number (sym e) ∙ number-fits front len fits) in
@@ -181,7 +149,7 @@ begins-field front q len more fits =
 -- a shift by more than all bits
 shift-min : (bits s : ℕ) → bits < 2 ^ 16 → bits / 2 ^ min s 16 ≡ bits / 2 ^ s
 shift-min bits s fits =
-    elim (either_way (nat_le s 16)) [
+    elim (cases_Bool (nat_le s 16)) [
       | inl h ↦ ap (λ (k : ℕ). bits / 2 ^ k) (min-eq_left (leb-true s 16 h))
       | inr h ↦
           let far : 16 ≤ s = omega (arith, leb-false s 16 h) in
@@ -201,7 +169,7 @@ front-of-code bits width front len short fits word inside =
 
 pub no_front-of-code : (bits width front len : ℕ) → width < len → nat_le len width ≡ begins (field front len) (field bits width)
 no_front-of-code bits width front len longer =
-    let no : nat_le len width ≡ false = elim (either_way (nat_le len width)) [ inl h ↦ absurd (omega (arith, leb-true len width h)) | inr h ↦ h ] in
+    let no : nat_le len width ≡ false = elim (cases_Bool (nat_le len width)) [ inl h ↦ absurd (omega (arith, leb-true len width h)) | inr h ↦ h ] in
     no ∙ sym (begins_longer (field front len) (field bits width) (omega (arith, length-field front len, length-field bits width)))
 
 -- the bits are the front of one of the words
@@ -211,17 +179,17 @@ begins_any front len codes = list_any (λ w. begins (field front len) w) (map co
 -- ---- why no word stands at the front
 
 pub cause-cut : (ws : List (List Bool)) (bits : List Bool) → list_any (λ w. begins bits w) ws ≡ true → cause ws bits ≡ Cut
-cause-cut ws bits h = if-true (list_any (λ w. begins bits w) ws) Cut NoCode h
+cause-cut ws bits h = cond-true (list_any (λ w. begins bits w) ws) Cut NoCode h
 
 pub cause-none : (ws : List (List Bool)) (bits : List Bool) → list_any (λ w. begins bits w) ws ≡ false → cause ws bits ≡ NoCode
-cause-none ws bits h = if-false (list_any (λ w. begins bits w) ws) Cut NoCode h
+cause-none ws bits h = cond-false (list_any (λ w. begins bits w) ws) Cut NoCode h
 
 -- bits longer than all words are the front of none
 pub none_longer : (ws : List (List Bool)) (bits : List Bool) (n : ℕ) → list_all (λ w. nat_le (length w) n) ws ≡ true → n < length bits → list_any (λ w. begins bits w) ws ≡ false
 none_longer [] bits n short long = refl
 none_longer (w ∷ ws) bits n short long =
-    let fits : length w ≤ n = leb-true (length w) n (and_left _ _ short) in
-    ap (λ (b : Bool). b || list_any (λ w. begins bits w) ws) (begins_longer bits w (omega arith)) ∙ none_longer ws bits n (and_right _ _ short) long
+    let fits : length w ≤ n = leb-true (length w) n (and_parts _ _ short).0 in
+    ap (λ (b : Bool). b || list_any (λ w. begins bits w) ws) (begins_longer bits w (omega arith)) ∙ none_longer ws bits n (and_parts _ _ short).1 long
 
 -- ---- the word of the bits, by that of the next 32
 
@@ -241,31 +209,28 @@ placed ws bits cell free short is =
 
 pub placed-found : (ws : List (List Bool)) (bits : List Bool) (cell : Cell) → cell.len ≢ 0 → cell.len ≤ length bits → cell_or_cause ws bits (within (length bits) cell) ≡ Ok cell
 placed-found ws bits cell some fits =
-    ap (cell_or_cause ws bits) (if-true (nat_le cell.len (length bits)) cell no_cell (le-leb cell.len (length bits) fits))
-    ∙ elim (either_way (cell.len == 0)) [
+    ap (cell_or_cause ws bits) (cond-true (nat_le cell.len (length bits)) cell no_cell (le-leb cell.len (length bits) fits))
+    ∙ elim (cases_Bool (cell.len == 0)) [
       | inl none ↦ absurd (some (eqb-true cell.len 0 none))
-      | inr h ↦ if-false (cell.len == 0) (Err (cause ws bits)) (Ok cell) h
+      | inr h ↦ cond-false (cell.len == 0) (Err (cause ws bits)) (Ok cell) h
     ]
 
 pub placed-none : (ws : List (List Bool)) (bits : List Bool) (cell : Cell) → cell.len ≡ 0 → cell_or_cause ws bits (within (length bits) cell) ≡ Err (cause ws bits)
 placed-none ws bits cell none =
-    ap (cell_or_cause ws bits) (if-true (nat_le cell.len (length bits)) cell no_cell (le-leb cell.len (length bits) (omega arith)))
-    ∙ if-true (cell.len == 0) (Err (cause ws bits)) (Ok cell) (eq-eqb cell.len 0 none)
+    ap (cell_or_cause ws bits) (cond-true (nat_le cell.len (length bits)) cell no_cell (le-leb cell.len (length bits) (omega arith)))
+    ∙ cond-true (cell.len == 0) (Err (cause ws bits)) (Ok cell) (eq-eqb cell.len 0 none)
 
 pub placed-longer : (ws : List (List Bool)) (bits : List Bool) (cell : Cell) → length bits < cell.len → cell_or_cause ws bits (within (length bits) cell) ≡ Err (cause ws bits)
 placed-longer ws bits cell longer =
-    elim (either_way (nat_le cell.len (length bits))) [
+    elim (cases_Bool (nat_le cell.len (length bits))) [
       | inl h ↦ absurd (omega (arith, leb-true cell.len (length bits) h))
-      | inr h ↦ ap (cell_or_cause ws bits) (if-false (nat_le cell.len (length bits)) cell no_cell h)
+      | inr h ↦ ap (cell_or_cause ws bits) (cond-false (nat_le cell.len (length bits)) cell no_cell h)
     ]
 
 pub err_is : {why other : Why} {place : Result Cell Why} → why ≡ other → place ≡ Err other → ◌≡◌ {A = Result Cell Why} (Err why) place
 err_is same is = cc
 
 -- ---- the word of some rows
-
-no_less : (a b : ℕ) → b ≤ a → nat_lt a b ≡ false
-no_less a b h = elim (either_way (nat_lt a b)) [ inl less ↦ absurd (omega (arith, ltb-true a b less)) | inr e ↦ e ]
 
 abbrev word_of_rows : {E : Type 0} → List (Row E) → List Bool → Option (Row E) → Step E
 word_of_rows rows bits row = word_at rows bits row
@@ -285,14 +250,14 @@ find_some (row ∷ rows) i bits some =
     let word : Cell = record { len = length row.code; value = i } in
     let later = cell_of (codes_of_rows rows) (i + 1) bits in
     let front = begins row.code bits in
-    elim (either_way (begins row.code bits)) [
+    elim (cases_Bool (begins row.code bits)) [
       | inl here ↦
-          let is : (if front then word else later) ≡ word = if-true front word later here in
-          (row, 0, if-true front (Some row) (find (λ row. begins row.code bits) rows) here, λ d. refl, omega arith, ap (λ (c : Cell). c.value) is ∙ omega arith, sym (ap (λ (c : Cell). c.len) is), here)
+          let is : (if front then word else later) ≡ word = cond-true front word later here in
+          (row, 0, cond-true front (Some row) (find (λ row. begins row.code bits) rows) here, λ d. refl, omega arith, ap (λ (c : Cell). c.value) is ∙ omega arith, sym (ap (λ (c : Cell). c.len) is), here)
       | inr other ↦
-          let is : (if front then word else later) ≡ later = if-false front word later other in
+          let is : (if front then word else later) ≡ later = cond-false front word later other in
           let rest = find_some rows (i + 1) bits (λ none. some (ap (λ (c : Cell). c.len) is ∙ none)) in
-          (rest.0, suc rest.1, if-false front (Some row) (find (λ row. begins row.code bits) rows) other ∙ rest.2, rest.3, omega (arith, rest.4), ap (λ (c : Cell). c.value) is ∙ (rest.5 ∙ omega arith), rest.6 ∙ sym (ap (λ (c : Cell). c.len) is), rest.7)
+          (rest.0, suc rest.1, cond-false front (Some row) (find (λ row. begins row.code bits) rows) other ∙ rest.2, rest.3, omega (arith, rest.4), ap (λ (c : Cell). c.value) is ∙ (rest.5 ∙ omega arith), rest.6 ∙ sym (ap (λ (c : Cell). c.len) is), rest.7)
     ]
 
 find_none : {E : Type 0} (rows : List (Row E)) (i : ℕ) (bits : List Bool) → list_all (λ w. nat_lt 0 (length w)) (codes_of_rows rows) ≡ true → (cell_of (codes_of_rows rows) i bits).len ≡ 0 → find (λ row. begins row.code bits) rows ≡ None
@@ -301,23 +266,23 @@ find_none (row ∷ rows) i bits some none =
     let word : Cell = record { len = length row.code; value = i } in
     let later = cell_of (codes_of_rows rows) (i + 1) bits in
     let front = begins row.code bits in
-    let long : 0 < length row.code = ltb-true 0 (length row.code) (and_left _ _ some) in
-    elim (either_way (begins row.code bits)) [
-      | inl here ↦ absurd (omega (arith, ap (λ (c : Cell). c.len) (if-true front word later here), none, long))
+    let long : 0 < length row.code = ltb-true 0 (length row.code) (and_parts _ _ some).0 in
+    elim (cases_Bool (begins row.code bits)) [
+      | inl here ↦ absurd (omega (arith, ap (λ (c : Cell). c.len) (cond-true front word later here), none, long))
       | inr other ↦
-          if-false front (Some row) (find (λ row. begins row.code bits) rows) other
-          ∙ find_none rows (i + 1) bits (and_right _ _ some) (sym (ap (λ (c : Cell). c.len) (if-false front word later other)) ∙ none)
+          cond-false front (Some row) (find (λ row. begins row.code bits) rows) other
+          ∙ find_none rows (i + 1) bits (and_parts _ _ some).1 (sym (ap (λ (c : Cell). c.len) (cond-false front word later other)) ∙ none)
     ]
 
 place_ok : (ws : List (List Bool)) (bits : List Bool) (cell : Cell) → place_of ws bits ≡ Ok cell → (cell_of ws 0 bits ≡ cell) × (cell.len ≢ 0)
 place_ok ws bits cell is =
     let found = cell_of ws 0 bits in
-    elim (either_way ((cell_of ws 0 bits).len == 0)) [
+    elim (cases_Bool ((cell_of ws 0 bits).len == 0)) [
       | inl none ↦
-          let e : place_of ws bits ≡ Err (cause ws bits) = if-true (found.len == 0) (Err (cause ws bits)) (Ok found) none in
+          let e : place_of ws bits ≡ Err (cause ws bits) = cond-true (found.len == 0) (Err (cause ws bits)) (Ok found) none in
           absurd cc
       | inr some ↦
-          let e : place_of ws bits ≡ Ok found = if-false (found.len == 0) (Err (cause ws bits)) (Ok found) some in
+          let e : place_of ws bits ≡ Ok found = cond-false (found.len == 0) (Err (cause ws bits)) (Ok found) some in
           let same : found ≡ cell = cc in
           (same, λ zero_long. false≢true (sym some ∙ eq-eqb found.len 0 (ap (λ (c : Cell). c.len) same ∙ zero_long)))
     ]
@@ -325,12 +290,12 @@ place_ok ws bits cell is =
 place_err : (ws : List (List Bool)) (bits : List Bool) (why : Why) → place_of ws bits ≡ Err why → ((cell_of ws 0 bits).len ≡ 0) × (cause ws bits ≡ why)
 place_err ws bits why is =
     let found = cell_of ws 0 bits in
-    elim (either_way ((cell_of ws 0 bits).len == 0)) [
+    elim (cases_Bool ((cell_of ws 0 bits).len == 0)) [
       | inl none ↦
-          let e : place_of ws bits ≡ Err (cause ws bits) = if-true (found.len == 0) (Err (cause ws bits)) (Ok found) none in
+          let e : place_of ws bits ≡ Err (cause ws bits) = cond-true (found.len == 0) (Err (cause ws bits)) (Ok found) none in
           (eqb-true found.len 0 none, cc)
       | inr some ↦
-          let e : place_of ws bits ≡ Ok found = if-false (found.len == 0) (Err (cause ws bits)) (Ok found) some in
+          let e : place_of ws bits ≡ Ok found = cond-false (found.len == 0) (Err (cause ws bits)) (Ok found) some in
           absurd cc
     ]
 
@@ -356,11 +321,11 @@ read-none rows ws bits why codes some is =
 
 pub whole-good : {E : Type 0} (row : Row E) (bits : List Bool) → length row.code + row.tail ≤ length bits → whole_word row bits ≡ Good (row.make (model.number (take row.tail (drop (length row.code) bits)))) (length row.code + row.tail)
 whole-good row bits fits =
-    if-false (nat_lt (length bits) (length row.code + row.tail)) (Bad Cut) (Good (row.make (model.number (take row.tail (drop (length row.code) bits)))) (length row.code + row.tail)) (no_less (length bits) (length row.code + row.tail) fits)
+    cond-false (nat_lt (length bits) (length row.code + row.tail)) (Bad Cut) (Good (row.make (model.number (take row.tail (drop (length row.code) bits)))) (length row.code + row.tail)) (le-ltb (length bits) (length row.code + row.tail) fits)
 
 pub whole-cut : {E : Type 0} (row : Row E) (bits : List Bool) → length bits < length row.code + row.tail → whole_word row bits ≡ Bad Cut
 whole-cut row bits short =
-    if-true (nat_lt (length bits) (length row.code + row.tail)) (Bad Cut) (Good (row.make (model.number (take row.tail (drop (length row.code) bits)))) (length row.code + row.tail)) (lt-ltb (length bits) (length row.code + row.tail) short)
+    cond-true (nat_lt (length bits) (length row.code + row.tail)) (Bad Cut) (Good (row.make (model.number (take row.tail (drop (length row.code) bits)))) (length row.code + row.tail)) (lt-ltb (length bits) (length row.code + row.tail) short)
 
 -- ---- rows that are their code alone
 
@@ -379,8 +344,8 @@ place_within ws bits cell is =
 
 pub all_at : {A : Type 0} (test : A → Bool) (xs : List A) (k : ℕ) (d : A) → list_all test xs ≡ true → k < length xs → test (get_or xs k d) ≡ true
 all_at test [] k d all inside = absurd (omega arith)
-all_at test (x ∷ xs) zero d all inside = and_left (test x) (list_all test xs) all
-all_at test (x ∷ xs) (suc k) d all inside = all_at test xs k d (and_right (test x) (list_all test xs) all) (omega arith)
+all_at test (x ∷ xs) zero d all inside = (and_parts (test x) (list_all test xs) all).0
+all_at test (x ∷ xs) (suc k) d all inside = all_at test xs k d (and_parts (test x) (list_all test xs) all).1 (omega arith)
 
 -- its length is that of the list's word
 pub place_length : (ws : List (List Bool)) (bits : List Bool) (cell : Cell) → place_of ws bits ≡ Ok cell → length (get_or ws cell.value []) ≡ cell.len

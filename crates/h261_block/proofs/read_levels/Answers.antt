@@ -1,17 +1,14 @@
-use Rattle.std.proofs.Common.{◌≡◌, ◌+◌, Bool, true, false, cond, [], None, refl, sym, ◌∙◌, ap, arith, rules, w8, w16, ◌≤◌, ◌-◌}
+use Rattle.std.proofs.Common.{◌≡◌, ◌+◌, true, false, [], None, refl, sym, ◌∙◌, ap, arith, rules, w8, w16, ◌≤◌, ◌-◌}
 use Rattle.std.proofs.lemmas.Int.{to_z-of_z}
 use Rattle.std.proofs.lemmas.Result.{err_from_is_err_and}
 use Rattle.pel_model.specs.Records.{Block}
 use Rattle.pel_model.specs.Elements.{coefficient_elements, block_elements}
 use Rattle.pel_model.specs.Walk.{Good, after}
-use Rattle.pel_model.specs.Grammar.{Element, Slot, AtDc, AtFirst, next}
+use Rattle.pel_model.specs.Grammar.{Element, next}
+use Rattle.h261_block.proofs.BlockSteps.{due_at}
 use Rattle.h261_block.proofs.SoFar.{no_levels, dc_level_only, more_levels, whole_walk, failed, row-end, row-coefficient, row-filled}
 use Rattle.h261_block.proofs.read_levels.Goals as goal
 use Rattle.h261_block.proofs.read_levels.Goals.{then-intra+in_ok-n, else-intra}
-
--- the slot of a block's first element
-due_at : (here : Slot) (intra known : Bool) → here ≡ cond intra AtDc AtFirst → intra ≡ known → here ≡ cond known AtDc AtFirst
-due_at here intra known due is = due ∙ ap (λ (b : Bool). cond b AtDc AtFirst) is
 
 abbrev no_elements : Block
 no_elements = record { dc = None; coefficients = [] }

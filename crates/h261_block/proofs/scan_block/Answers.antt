@@ -1,16 +1,13 @@
-use Rattle.std.proofs.Common.{◌≡◌, ◌+◌, Bool, true, false, cond, [], None, refl, sym, ◌∙◌, ap, arith}
+use Rattle.std.proofs.Common.{◌≡◌, ◌+◌, true, false, [], None, refl, sym, ◌∙◌, ap, arith}
 use Rattle.std.proofs.lemmas.Result.{err_from_is_err_and}
 use Rattle.pel_model.specs.Records.{Block}
 use Rattle.pel_model.specs.Elements.{coefficient_elements, block_elements}
 use Rattle.pel_model.specs.Walk.{Good, after}
-use Rattle.pel_model.specs.Grammar.{Element, Slot, AtDc, AtFirst, next}
+use Rattle.pel_model.specs.Grammar.{Element, next}
+use Rattle.h261_block.proofs.BlockSteps.{due_at}
 use Rattle.h261_block.proofs.SoFar.{none_yet, dc_only, more, whole_walk, failed, row-end, row-coefficient, row-filled}
 use Rattle.h261_block.proofs.scan_block.Goals as goal
 use Rattle.h261_block.proofs.scan_block.Goals.{then-intra+in_ok-dc, else-intra}
-
--- the slot of a block's first element
-due_at : (here : Slot) (intra known : Bool) → here ≡ cond intra AtDc AtFirst → intra ≡ known → here ≡ cond known AtDc AtFirst
-due_at here intra known due is = due ∙ ap (λ (b : Bool). cond b AtDc AtFirst) is
 
 abbrev no_elements : Block
 no_elements = record { dc = None; coefficients = [] }

@@ -1,8 +1,8 @@
 use Rattle.std.proofs.Common.{◌≤◌, ◌++◌, length, take, refl, arith, length-take}
-use Rattle.std.proofs.lemmas.Bool.{eq-eqb}
+use Rattle.std.proofs.lemmas.Bool.{eq-eqb, ne_eqb}
 use Rattle.pel_bits.specs.Reading.{zeros}
 use Rattle.pel_bits.proofs.RunBits.{number-fits_in}
-use Rattle.h261_mb.proofs.Slots.{mquant-cut, mquant-good, mquant-bad, is_other}
+use Rattle.h261_mb.proofs.Slots.{mquant-cut, mquant-good, mquant-bad}
 use Rattle.h261_mb.proofs.head.take_quant.Goals as goal
 
 pub returns-then-left-lt5-clause-taken : goal.returns-then-left-lt5-clause-taken
@@ -21,4 +21,4 @@ returns-then-quant-eq0-clause-taken c = λ format before due.
 
 pub returns-clause-taken : goal.returns-clause-taken
 returns-clause-taken c = λ format before due.
-    (5, mquant-good format before c.args.r.now due c.peek-quant.result (omega arith) c.peek-quant.ensures (is_other c.peek-quant.result 0 c.if-quant-eq0.false), c.skip.ensures)
+    (5, mquant-good format before c.args.r.now due c.peek-quant.result (omega arith) c.peek-quant.ensures (ne_eqb c.peek-quant.result 0 c.if-quant-eq0.false), c.skip.ensures)

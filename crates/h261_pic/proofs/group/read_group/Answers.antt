@@ -97,7 +97,7 @@ joins c bits before from comes =
     let ok = c.in_ok-macroblock_within-in-Macroblock.ensures.walk there came.0 came.1 s.stands word ends.0 place in
     let goes = subst (λ (x : List Bool × ℕ). Goes (picture format) there x ok.0 c.macroblock_within.new.r) came.3 ok.1 in
     let is = subst (λ (x : List Bool × ℕ). IsRead header.number x.1 there c.macroblock_within.new.state c.in_ok-macroblock_within-in-Macroblock.field-0 ok.0 c.macroblock_within.new.r) came.3 ok.2 in
-    (macroblock-read format bits c.args.begun before from c.loop-marks.r c.macroblock_within.new.r header.number header.quant c.loop-marks.state c.macroblock_within.new.state c.loop-marks.marks.items c.in_ok-macroblock_within-in-Macroblock.field-0 ok.0 s comes.place goes is, fewer format there c.loop-marks.r c.macroblock_within.new.r ok.0 goes (macroblock-on format there c.loop-marks.r c.macroblock_within.new.r header.number c.macroblock_within.new.state c.in_ok-macroblock_within-in-Macroblock.field-0 ok.0 s.stands.due goes is))
+    (macroblock-read format bits c.args.begun before from c.loop-marks.r c.macroblock_within.new.r header.number header.quant c.loop-marks.state c.macroblock_within.new.state c.loop-marks.marks.items c.in_ok-macroblock_within-in-Macroblock.field-0 ok.0 s comes.place goes is, fewer format there c.loop-marks.r c.macroblock_within.new.r ok.0 goes (macroblock-on format there c.loop-marks.r c.macroblock_within.new.r header.number c.macroblock_within.new.state c.in_ok-macroblock_within-in-Macroblock.field-0 ok.0 goes is))
 
 pub push-requires : goal.push-requires
 push-requires c =

@@ -1,9 +1,9 @@
 use Rattle.std.proofs.Common.{ℕ, ◌==◌, Bool, true, ◌∷◌, refl, ◌∙◌, ap}
+use Rattle.std.proofs.lemmas.Bool.{ne_eqb}
 use Rattle.std.proofs.lemmas.Result.{err_from_is_err_and}
 use Rattle.pel_model.specs.Walk.{Good, after}
 use Rattle.pel_model.specs.Grammar.{next}
 use Rattle.h261_pic.specs.HeaderElements.{flag_of, spare_of, flag_slot, spare_slot, spares_of}
-use Rattle.picture_laws.proofs.Basics.{not_same}
 use Rattle.h261_pic.proofs.HeaderSteps.{at-flag, at-spare}
 use Rattle.h261_pic.proofs.Spares.{none_yet, had, cut_flag, cut_spare, one_passed, all_passed, slot-flag}
 use Rattle.h261_pic.proofs.input_headers.pass_spares.Goals as goal
@@ -50,6 +50,6 @@ returns c =
           let so_far = c.loop-r.invariant format before layer due in
           let before' = after before (had (next format) before layer c.args.r.now c.loop-r.r so_far) in
           let took = c.in_ok-take_field.ensures.taken format before' (flag_slot layer) (λ n. flag_of layer (n == 1)) so_far.due (at-flag layer) in
-          let flag = took.1 ∙ ap (λ (b : Bool). Good (flag_of layer b) took.0) (not_same c.in_ok-take_field.field-0 1 c.if-branch-eq1.false) in
+          let flag = took.1 ∙ ap (λ (b : Bool). Good (flag_of layer b) took.0) (ne_eqb c.in_ok-take_field.field-0 1 c.if-branch-eq1.false) in
           (spares_of layer so_far.octets, all_passed (next format) before layer c.args.r.now c.loop-r.r so_far c.take_field.new.r took.0 flag took.2, (so_far.octets, refl));
     }

@@ -1,11 +1,10 @@
 use Rattle.std.proofs.Common.{Bool, cond, not, ◌&&◌, ℕ, nat_lt, Some, None, refl, sym, ◌∙◌, ap}
-use Rattle.std.proofs.lemmas.Bool.{ltb-true}
+use Rattle.std.proofs.lemmas.Bool.{ltb-true, and_parts}
 use Rattle.std.proofs.lemmas.Result.{err_from_is_err_and}
 use Rattle.pel_model.specs.declared.Fault.{Fault}
 use Rattle.pel_model.specs.declared.Why.TheVariants.{BadGroup}
 use Rattle.pel_model.specs.Walk.{Bad}
 use Rattle.pel_model.specs.Grammar.{Gn, AtGn, is_group}
-use Rattle.vlc_codes.proofs.WordLaws.{and_left, and_right}
 use Rattle.h261_pic.proofs.HeaderSteps.{field-is-cut, field-is-good, field-is-bad, at-gn}
 use Rattle.h261_pic.proofs.input_headers.take_number.Goals as goal
 
@@ -31,4 +30,4 @@ pub returns-clause-within : goal.returns-clause-within
 returns-clause-within c =
     let number = c.in_ok-number.field-0 in
     let both = sym c.may_come.ensures ∙ c.if-not-may_come.false in
-    (and_left (is_group c.args.format number) (nat_lt c.args.last number) both, ltb-true c.args.last number (and_right (is_group c.args.format number) (nat_lt c.args.last number) both))
+    ((and_parts (is_group c.args.format number) (nat_lt c.args.last number) both).0, ltb-true c.args.last number (and_parts (is_group c.args.format number) (nat_lt c.args.last number) both).1)

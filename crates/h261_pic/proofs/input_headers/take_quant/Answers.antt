@@ -1,11 +1,10 @@
 use Rattle.std.proofs.Common.{Bool, cond, Some, None, refl, sym, ◌∙◌, ap}
-use Rattle.std.proofs.lemmas.Bool.{eq-eqb}
+use Rattle.std.proofs.lemmas.Bool.{eq-eqb, ne_eqb}
 use Rattle.std.proofs.lemmas.Result.{err_from_is_err_and}
 use Rattle.pel_model.specs.declared.Fault.{Fault}
 use Rattle.pel_model.specs.declared.Why.TheVariants.{BadQuant}
 use Rattle.pel_model.specs.Walk.{Bad}
 use Rattle.pel_model.specs.Grammar.{Gquant, AtGquant}
-use Rattle.picture_laws.proofs.Basics.{not_same}
 use Rattle.h261_pic.proofs.HeaderSteps.{field-is-cut, field-is-good, field-is-bad, at-gquant}
 use Rattle.h261_pic.proofs.input_headers.take_quant.Goals as goal
 
@@ -25,4 +24,4 @@ pub returns-clause-taken : goal.returns-clause-taken
 returns-clause-taken c = λ format before due.
     let seen = c.in_ok-quant.ensures.value in
     let quant = c.in_ok-quant.field-0 in
-    (5, field-is-good format before c.args.r.now AtGquant 5 Gquant due at-gquant quant seen.0 seen.1 (ap (λ (b : Bool). cond b (Some BadQuant) None) (not_same quant 0 c.if-quant-eq0.false)), c.skip.ensures)
+    (5, field-is-good format before c.args.r.now AtGquant 5 Gquant due at-gquant quant seen.0 seen.1 (ap (λ (b : Bool). cond b (Some BadQuant) None) (ne_eqb quant 0 c.if-quant-eq0.false)), c.skip.ensures)

@@ -1,11 +1,10 @@
 use Rattle.std.proofs.Common.{Bool, cond, not, ◌∷◌, [], ◌==◌, ◌/◌, ◌%◌, Some, None, refl, sym, ◌∙◌, ap}
-use Rattle.std.proofs.lemmas.Bool.{eq-eqb}
+use Rattle.std.proofs.lemmas.Bool.{eq-eqb, ne_eqb}
 use Rattle.std.proofs.lemmas.Result.{err_from_is_err_and}
 use Rattle.pel_model.specs.declared.Fault.{Fault}
 use Rattle.pel_model.specs.declared.Why.TheVariants.{WrongFormat, StillImage}
 use Rattle.pel_model.specs.Walk.{Bad}
 use Rattle.pel_model.specs.Grammar.{Ptype, AtPtype, first_why}
-use Rattle.picture_laws.proofs.Basics.{not_same}
 use Rattle.h261_pic.proofs.HeaderSteps.{field-is-cut, field-is-good, field-is-bad, at-ptype}
 use Rattle.h261_pic.proofs.input_headers.take_type.Goals as goal
 
@@ -42,5 +41,5 @@ returns c =
       taken = λ before due.
           let seen = c.in_ok-ptype.ensures.value in
           let ptype = c.in_ok-ptype.ptype in
-          (6, field-is-good c.args.format before c.args.r.now AtPtype 6 Ptype due at-ptype ptype seen.0 seen.1 (ap (λ (b : Bool). first_why ((not b, WrongFormat) ∷ (ptype / 2 % 2 == 0, StillImage) ∷ [])) (sym c.names.ensures ∙ c.if-not-names.false) ∙ ap (λ (b : Bool). cond b (Some StillImage) None) (not_same (ptype / 2 % 2) 0 c.if-ptype-eq0.false)), c.skip.ensures);
+          (6, field-is-good c.args.format before c.args.r.now AtPtype 6 Ptype due at-ptype ptype seen.0 seen.1 (ap (λ (b : Bool). first_why ((not b, WrongFormat) ∷ (ptype / 2 % 2 == 0, StillImage) ∷ [])) (sym c.names.ensures ∙ c.if-not-names.false) ∙ ap (λ (b : Bool). cond b (Some StillImage) None) (ne_eqb (ptype / 2 % 2) 0 c.if-ptype-eq0.false)), c.skip.ensures);
     }
