@@ -5,15 +5,13 @@ use Rattle.std.proofs.lemmas.List.FromFn.{get_or-range_with_len}
 use borrow.Author.Tests.{eqb-true}
 use Rattle.bridge_cli.specs.FirstForm.{most_bits}
 use Rattle.bridge_cli.specs.Shown.{index_in, group_shown, groups_shown}
-use Rattle.h261_pic.specs.Coded.{Coding, coding, grown, next_number, group_of, macroblock_bits, marks_in, placed, Belongs, IsFinished}
-use Rattle.h261_pic.proofs.Grows.{bits-of-view, placed-of-view, view-quant, no_group}
-use Rattle.h261_pic.proofs.Texts.{coding-with_group, length-views, length-text, length-group_text}
+use Rattle.h261_pic.specs.Coded.{Coding, coding, next_number, view_of, group_in, Belongs, IsFinished}
+use Rattle.h261_pic.proofs.Texts.{length-views, length-text, length-group_text}
 use Rattle.pel_model.specs.declared.Format.TheVariants.{Qcif, Cif}
-use Rattle.pel_model.specs.declared.Mark.{Mark}
+use Rattle.pel_model.specs.declared.Format.{Format}
 use Rattle.pel_model.specs.declared.Quad.{Quad}
 use Rattle.pel_model.specs.declared.Quad.TheVariants.{One, Two, Three, Four}
-use Rattle.pel_model.specs.Marks.{macroblock_marks}
-use Rattle.pel_model.specs.Records.{Group, Picture}
+use Rattle.pel_model.specs.Records.{Group, Picture, with_group}
 use Rattle.pel_model.specs.Regions.{number_in, renumbered, empty_group, shown_in}
 use Rattle.pel_model.specs.Text.{text, group_text, macroblocks_text}
 use Rattle.pel_model.specs.Valid.{group_numbers, group_count, limit, IsValid}
@@ -181,19 +179,19 @@ may-grow place tr p k below = record {
 pub record MayCopy (picture whole : Coding) (i : ℕ) : Type 0 where
   pub finished : IsFinished picture
   pub there : i < length picture.groups
-  pub belongs : Belongs picture.format (group_of picture i).number whole.format (next_number whole)
-  pub room : length whole.bits + (group_of picture i).len + 26 * (group_count whole.format - length whole.groups) ≤ limit whole.format
+  pub belongs : Belongs picture.format (view_of picture i).number whole.format (next_number whole)
+  pub room : length whole.bits + (view_of picture i).len + 26 * (group_count whole.format - length whole.groups) ≤ limit whole.format
 
 -- where a group of a picture of three groups belongs
 three-belongs : (tr : ℕ) (a b c : Group) (place : Quad) (number i : ℕ) → IndexIs place number i
-    → Belongs Qcif (group_of (coding Qcif (of_three tr a b c)) i).number Cif number
+    → Belongs Qcif (view_of (coding Qcif (of_three tr a b c)) i).number Cif number
 unfolding IndexIs
 three-belongs tr a b c place number i (inl is) =
-    subst (λ j. Belongs Qcif (group_of (coding Qcif (of_three tr a b c)) j).number Cif number) (sym is.0) (place, is.1)
+    subst (λ j. Belongs Qcif (view_of (coding Qcif (of_three tr a b c)) j).number Cif number) (sym is.0) (place, is.1)
 three-belongs tr a b c place number i (inr (inl is)) =
-    subst (λ j. Belongs Qcif (group_of (coding Qcif (of_three tr a b c)) j).number Cif number) (sym is.0) (place, is.1)
+    subst (λ j. Belongs Qcif (view_of (coding Qcif (of_three tr a b c)) j).number Cif number) (sym is.0) (place, is.1)
 three-belongs tr a b c place number i (inr (inr is)) =
-    subst (λ j. Belongs Qcif (group_of (coding Qcif (of_three tr a b c)) j).number Cif number) (sym is.0) (place, is.1)
+    subst (λ j. Belongs Qcif (view_of (coding Qcif (of_three tr a b c)) j).number Cif number) (sym is.0) (place, is.1)
 
 index-below : (place : Quad) (number i : ℕ) → IndexIs place number i → i < 3
 unfolding IndexIs
@@ -201,7 +199,7 @@ index-below place number i (inl is) = omega (arith, is.0)
 index-below place number i (inr (inl is)) = omega (arith, is.0)
 index-below place number i (inr (inr is)) = omega (arith, is.0)
 
-three-len : (tr : ℕ) (a b c : Group) (i : ℕ) → i < 3 → (group_of (coding Qcif (of_three tr a b c)) i).len ≤ total (of_three tr a b c).groups
+three-len : (tr : ℕ) (a b c : Group) (i : ℕ) → i < 3 → (view_of (coding Qcif (of_three tr a b c)) i).len ≤ total (of_three tr a b c).groups
 unfolding total
 three-len tr a b c zero below = omega arith
 three-len tr a b c (suc zero) below = omega arith
@@ -222,59 +220,22 @@ may-copy-three place tr k i tr' a b c below is short =
     record {
       finished = (omega (arith, length-text Qcif p), refl);
       there = small;
-      belongs = subst (λ n. Belongs Qcif (group_of (coding Qcif p) i).number Cif n) (sym (next-is place tr p k below)) (three-belongs tr' a b c place (k + 1) i index);
+      belongs = subst (λ n. Belongs Qcif (view_of (coding Qcif p) i).number Cif n) (sym (next-is place tr p k below)) (three-belongs tr' a b c place (k + 1) i index);
       room = omega (arith, length-text Cif (shown_so_far place tr p k), groups-fit place p k short, three-len tr' a b c i small, length-text Qcif p, length-groups p.groups);
     }
 
 may-copy : (place : Quad) (tr : ℕ) (p : Picture) (k i : ℕ) → IsValid Qcif p → MayCopyNext place tr k i p
 may-copy place tr p k i valid = by-three (MayCopyNext place tr k i) p (may-copy-three place tr k i) valid
 
-number-shown : (o : Option ℕ) (picture : Picture) (n : ℕ) → (group_shown o picture n).number ≡ n
-number-shown None picture n = refl
-number-shown (Some i) picture n = refl
-
--- what is to be written as group `number`
-record IsNext (g : Group) (number quant : ℕ) (bits : List Bool) (marks : List Mark) : Type 0 where
-  quant_is : quant ≡ g.quant
-  bits_are : bits ≡ macroblocks_text None g.macroblocks
-  marks_are : (at : ℕ) → placed at number marks ≡ macroblock_marks at number g.quant None g.macroblocks
+suc-is : (k n : ℕ) → n ≡ k + 1 → suc k ≡ n
+suc-is k n is = omega arith
 
 -- the picture has grown by the group that comes next
-grown-shown : (place : Quad) (tr : ℕ) (p : Picture) (k : ℕ) (o : Option ℕ) (quant : ℕ) (bits : List Bool) (marks : List Mark) → k < 12 → index_in place (k + 1) ≡ o
-    → IsNext (group_shown o p (k + 1)) (k + 1) quant bits marks
-    → grown (coding Cif (shown_so_far place tr p k)) quant bits marks ≡ coding Cif (shown_so_far place tr p (suc k))
-grown-shown place tr p k o quant bits marks below is next =
-    let q : Picture = shown_so_far place tr p k in
-    let g : Group = group_shown o p (k + 1) in
-    let number_is : g.number ≡ k + 1 = number-shown o p (k + 1) in
-    ap₂ (λ (n : ℕ) (bs : List Bool). grown (coding Cif q) n bs marks) next.quant_is next.bits_are
-    ∙ coding-with_group Cif q g marks (number_is ∙ sym (next-is place tr p k below))
-    (λ at. subst (λ (n : ℕ). placed at n marks ≡ macroblock_marks at n g.quant None g.macroblocks) (sym number_is) (next.marks_are at))
-    ∙ ap (λ (x : Option ℕ). coding Cif (record { tr = tr; groups = groups_shown place p k ++ group_shown x p (k + 1) ∷ [] })) (sym is)
-
-empty-shown : (place : Quad) (tr : ℕ) (p : Picture) (k : ℕ) → k < 12 → index_in place (k + 1) ≡ None
-    → grown (coding Cif (shown_so_far place tr p k)) 1 [] [] ≡ coding Cif (shown_so_far place tr p (suc k))
-unfolding macroblocks_text
-empty-shown place tr p k below is =
-    grown-shown place tr p k None 1 [] [] below is (record { quant_is = refl; bits_are = refl; marks_are = λ at. refl })
-
--- the copied group of a picture
-same-default : (groups : List Group) (i : ℕ) (d e : Group) → i < length groups → slice_index_or groups i d ≡ slice_index_or groups i e
-same-default [] i d e below = absurd (omega arith)
-same-default (g ∷ gs) zero d e below = refl
-same-default (g ∷ gs) (suc i) d e below = same-default gs i d e (omega arith)
-
-copied-shown : (place : Quad) (tr : ℕ) (p : Picture) (k i : ℕ) → k < 12 → index_in place (k + 1) ≡ Some i → i < length p.groups
-    → (let picture : Coding = coding Qcif p in
-    grown (coding Cif (shown_so_far place tr p k)) (group_of picture i).quant (macroblock_bits picture i) (marks_in picture i) ≡ coding Cif (shown_so_far place tr p (suc k)))
-copied-shown place tr p k i below is there =
-    let same : slice_index_or p.groups i no_group ≡ slice_index_or p.groups i (empty_group 0) = same-default p.groups i no_group (empty_group 0) there in
-    grown-shown place tr p k (Some i) (group_of (coding Qcif p) i).quant (macroblock_bits (coding Qcif p) i) (marks_in (coding Qcif p) i) below is (record {
-      quant_is = view-quant 32 0 p.groups i there ∙ ap (λ (g : Group). g.quant) same;
-      bits_are = bits-of-view Qcif p i there ∙ ap (λ (g : Group). macroblocks_text None g.macroblocks) same;
-      marks_are =
-          λ at. placed-of-view Qcif p i at (k + 1) there ∙ ap (λ (g : Group). macroblock_marks at (k + 1) g.quant None g.macroblocks) same;
-    })
+next-shown : (place : Quad) (tr : ℕ) (p : Picture) (k n : ℕ) (o : Option ℕ) → n ≡ k + 1 → index_in place (k + 1) ≡ o
+    → coding Cif (with_group (shown_so_far place tr p k) (group_shown o p (k + 1))) ≡ coding Cif (shown_so_far place tr p n)
+next-shown place tr p k n o n_is is =
+    ap (λ (x : Option ℕ). coding Cif (record { tr = tr; groups = groups_shown place p k ++ group_shown x p (k + 1) ∷ [] })) (sym is)
+    ∙ ap (λ (m : ℕ). coding Cif (shown_so_far place tr p m)) (suc-is k n n_is)
 
 -- ---- of any picture and any whole that are these
 
@@ -297,21 +258,28 @@ showing-may-copy place tr picture whole k n i below n_is is s =
     (subst (λ (c : Coding). MayCopy (coding Qcif s.sent) c i) (sym s.whole_is)
     (may-copy place tr s.sent k i s.valid below (ap (index_in place) (sym n_is) ∙ is) short))
 
-suc-is : (k n : ℕ) → n ≡ k + 1 → suc k ≡ n
-suc-is k n is = omega arith
-
+-- the whole with one group more, by what is said of the group for every picture that was written
 pub showing-empty : (place : Quad) (tr : ℕ) (whole new : Coding) (k n : ℕ) (p : Picture) → k < 12 → n ≡ k + 1 → index_in place n ≡ None
-    → whole ≡ coding Cif (shown_so_far place tr p k) → new ≡ grown whole 1 [] [] → new ≡ coding Cif (shown_so_far place tr p n)
-showing-empty place tr whole new k n p below n_is is whole_is new_is =
-    new_is ∙ ap (λ (c : Coding). grown c 1 [] []) whole_is ∙ empty-shown place tr p k below (ap (index_in place) (sym n_is) ∙ is)
-    ∙ ap (λ (m : ℕ). coding Cif (shown_so_far place tr p m)) (suc-is k n n_is)
+    → whole ≡ coding Cif (shown_so_far place tr p k)
+    → ((q : Picture) → whole ≡ coding whole.format q → new ≡ coding whole.format (with_group q (empty_group (next_number whole))))
+    → new ≡ coding Cif (shown_so_far place tr p n)
+showing-empty place tr whole new k n p below n_is is whole_is added =
+    let q : Picture = shown_so_far place tr p k in
+    let format : whole.format ≡ Cif = ap (λ (c : Coding). c.format) whole_is in
+    let next : next_number whole ≡ k + 1 = ap next_number whole_is ∙ next-is place tr p k below in
+    added q (whole_is ∙ ap (λ (f : Format). coding f q) (sym format))
+    ∙ ap₂ (λ (f : Format) (m : ℕ). coding f (with_group q (empty_group m))) format next
+    ∙ next-shown place tr p k n None n_is (ap (index_in place) (sym n_is) ∙ is)
 
-pub showing-copied : (place : Quad) (tr : ℕ) (picture whole new : Coding) (k n i : ℕ) (p : Picture) → k < 12 → n ≡ k + 1 → index_in place n ≡ Some i → IsValid Qcif p
+pub showing-copied : (place : Quad) (tr : ℕ) (picture whole new : Coding) (k n i : ℕ) (p : Picture) → k < 12 → n ≡ k + 1 → index_in place n ≡ Some i
     → picture ≡ coding Qcif p → whole ≡ coding Cif (shown_so_far place tr p k)
-    → new ≡ grown whole (group_of picture i).quant (macroblock_bits picture i) (marks_in picture i) → new ≡ coding Cif (shown_so_far place tr p n)
-showing-copied place tr picture whole new k n i p below n_is is valid picture_is whole_is new_is =
-    let here : index_in place (k + 1) ≡ Some i = ap (index_in place) (sym n_is) ∙ is in
-    new_is
-    ∙ ap₂ (λ (c : Coding) (d : Coding). grown c (group_of d i).quant (macroblock_bits d i) (marks_in d i)) whole_is picture_is
-    ∙ copied-shown place tr p k i below here (omega (arith, index-below place (k + 1) i (index-is place (k + 1) i here), valid.whole))
-    ∙ ap (λ (m : ℕ). coding Cif (shown_so_far place tr p m)) (suc-is k n n_is)
+    → ((q r : Picture) → whole ≡ coding whole.format q → picture ≡ coding picture.format r → new ≡ coding whole.format (with_group q (renumbered (next_number whole) (group_in r i))))
+    → new ≡ coding Cif (shown_so_far place tr p n)
+showing-copied place tr picture whole new k n i p below n_is is picture_is whole_is added =
+    let q : Picture = shown_so_far place tr p k in
+    let format : whole.format ≡ Cif = ap (λ (c : Coding). c.format) whole_is in
+    let sent : picture.format ≡ Qcif = ap (λ (c : Coding). c.format) picture_is in
+    let next : next_number whole ≡ k + 1 = ap next_number whole_is ∙ next-is place tr p k below in
+    added q p (whole_is ∙ ap (λ (f : Format). coding f q) (sym format)) (picture_is ∙ ap (λ (f : Format). coding f p) (sym sent))
+    ∙ ap₂ (λ (f : Format) (m : ℕ). coding f (with_group q (renumbered m (group_in p i)))) format next
+    ∙ next-shown place tr p k n (Some i) n_is (ap (index_in place) (sym n_is) ∙ is)

@@ -1,6 +1,7 @@
 -- Inner contracts alone use this; nothing here has to be believed.
 -- The groups of a CIF picture that shows a QCIF picture in one place, one after another.
-use Rattle.std.specs.Prelude.{ℕ, zero, suc, ◌+◌, ◌==◌, if◌then◌else◌, List, [], ◌∷◌, ◌++◌, slice_index_or, Option, None, Some}
+use Rattle.std.specs.Prelude.{ℕ, zero, suc, ◌+◌, ◌==◌, if◌then◌else◌, List, [], ◌∷◌, ◌++◌, Option, None, Some}
+use Rattle.h261_pic.specs.Coded.{group_in}
 use Rattle.pel_model.specs.declared.Quad.{Quad}
 use Rattle.pel_model.specs.Records.{Group, Picture}
 use Rattle.pel_model.specs.Regions.{number_in, renumbered, empty_group}
@@ -16,7 +17,7 @@ index_in place number =
 -- that group of the picture, or an empty one
 abbrev pub group_shown : Option ℕ → Picture → ℕ → Group
 group_shown None picture number = empty_group number
-group_shown (Some i) picture number = renumbered number (slice_index_or picture.groups i (empty_group 0))
+group_shown (Some i) picture number = renumbered number (group_in picture i)
 
 -- the first groups
 abbrev pub groups_shown : Quad → Picture → ℕ → List Group

@@ -1,8 +1,9 @@
 -- A coded picture that gets groups with quantiser 1 and no macroblocks.
 use Rattle.std.proofs.Common.{◌≡◌, ℕ, suc, ◌+◌, ◌-◌, ◌<◌, ◌≤◌, [], ◌∷◌, ◌++◌, length, refl, ◌∙◌, ap, arith, length-append}
 use Rattle.h261_pic.specs.declared.coded.GroupView.{GroupView}
-use Rattle.h261_pic.specs.Coded.{Coding, grown, emptied, next_number}
+use Rattle.h261_pic.specs.Coded.{Coding, grown, next_number}
 use Rattle.pel_model.specs.Text.{group_header}
+use Rattle.h261_pic.specs.Adding.{emptied}
 
 -- such groups were added, up to this place at most
 pub record IsEmptied (old now : Coding) (place : ℕ) : Type 0 where

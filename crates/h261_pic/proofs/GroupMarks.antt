@@ -3,7 +3,7 @@ use Rattle.std.proofs.Common.{◌≡◌, ℕ, zero, suc, ◌+◌, ◌<◌, ◌�
 use Rattle.std.proofs.lemmas.List.{take_at}
 use Rattle.std.proofs.lemmas.List.Sums.{sum_by-cons}
 use Rattle.std.proofs.Math.Seq.{drop-append_seam}
-use Rattle.h261_pic.specs.Coded.{views, bits_at}
+use Rattle.h261_pic.specs.Coded.{views}
 use Rattle.h261_pic.proofs.PlacedMarks.{length-macroblock_marks, bits_at-macroblock_marks, macroblock_marks-inside, LieWithin}
 use Rattle.pel_model.specs.Bits.{field}
 use Rattle.pel_model.specs.declared.Mark.{Mark}
@@ -11,6 +11,7 @@ use Rattle.h261_pic.specs.declared.coded.GroupView.{GroupView}
 use Rattle.pel_model.specs.Marks.{macroblock_marks, group_marks}
 use Rattle.pel_model.specs.Records.{Macroblock, Group}
 use Rattle.pel_model.specs.Text.{group_header, group_text, macroblocks_text}
+use Rattle.h261_pic.specs.Adding.{bits_at}
 
 pub length-group_header : (number quant : ℕ) → length (group_header number quant) ≡ 26
 unfolding group_header field

@@ -20,7 +20,7 @@ use Rattle.picture_laws.proofs.Slots.{word_at}
 use Rattle.h261_mb.specs.declared.state.MbState.{MbState}
 use Rattle.h261_mb.specs.State.{Stands, IsReady}
 use Rattle.std.proofs.lemmas.Int.{ints}
-use Rattle.h261_pic.specs.Coded.{placed, bits_at}
+use Rattle.h261_pic.specs.Coded.{placed}
 use Rattle.h261_pic.specs.HeaderElements.{OfGroup, spares_of, group_header_elements}
 use Rattle.h261_pic.specs.Reached.{EndsAt}
 use Rattle.h261_pic.specs.ReadGroup.{GroupComes}
@@ -28,6 +28,7 @@ use Rattle.h261_pic.proofs.HeaderLengths.{group_header_long}
 use Rattle.h261_pic.proofs.HeadersInside.{inside-spares, slot-spares, begun-inside}
 use Rattle.h261_pic.proofs.PlacedMarks.{LieWithin, length-risen}
 use Rattle.h261_pic.proofs.Texts.{nothing_sent}
+use Rattle.h261_pic.specs.Adding.{bits_at}
 
 -- ---- places of a walk
 

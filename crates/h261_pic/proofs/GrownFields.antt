@@ -1,7 +1,7 @@
 -- The fields of a coded picture that has one more group.
 use Rattle.std.proofs.Common.{◌≡◌, ℕ, ◌+◌, ◌-◌, ◌*◌, ◌<◌, ◌≤◌, Bool, List, [], ◌∷◌, ◌++◌, length, sym, ◌∙◌, ap, subst, slice_index, arith, length-append}
 use Rattle.h261_pic.specs.declared.coded.GroupView.{GroupView}
-use Rattle.h261_pic.specs.Coded.{Coding, placed, grown, next_number, HasPicture, IsGroupText}
+use Rattle.h261_pic.specs.Coded.{Coding, placed, grown, next_number, HasPicture}
 use Rattle.h261_pic.proofs.Texts.{length-group_header}
 use Rattle.h261_pic.proofs.PlacedMarks.{length-placed}
 use Rattle.pel_model.specs.declared.Format.{Format}
@@ -11,6 +11,7 @@ use Rattle.pel_model.specs.Text.{text, group_header}
 use Rattle.pel_model.specs.Valid.{group_numbers, group_count, limit}
 use Rattle.pel_bits.specs.Buffer.{Buffer}
 use Rattle.h261_pic.proofs.Grows.{marks-fit, has-grown, written-grown}
+use Rattle.h261_pic.specs.Adding.{IsGroupText}
 
 pub length-grown : (list list' bits : List Bool) (number quant : ℕ) → list' ≡ list ++ group_header number quant ++ bits → length list' ≡ length list + 26 + length bits
 length-grown list list' bits number quant is =

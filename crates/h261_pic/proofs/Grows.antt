@@ -4,8 +4,7 @@ use Rattle.std.proofs.Math.Logic.{∥∥₁_elim, ∥∥₁_map, ∥∥₁_prop}
 use Rattle.std.proofs.Math.Bridge.{le_prop}
 use Rattle.std.proofs.Props.{props}
 use Rattle.h261_pic.specs.declared.coded.GroupView.{GroupView}
-use Rattle.picture_laws.specs.SoFar.{with_group}
-use Rattle.h261_pic.specs.Coded.{Coding, coding, placed, bits_at, marks_in, grown, next_number, HasPicture, IsGroupText, Belongs, group_of, macroblock_bits, IsFinished, views}
+use Rattle.h261_pic.specs.Coded.{Coding, coding, placed, marks_in, grown, next_number, HasPicture, Belongs, view_of, macroblock_bits, IsFinished, views, group_in}
 use Rattle.h261_pic.proofs.Texts.{same_coding, same_view, coding-with_group, length-views, length-picture_header, views-bits}
 use Rattle.h261_pic.proofs.PlacedMarks.{LieWithin, length-risen, length-from_placed, placed-macroblock_marks}
 use Rattle.h261_pic.proofs.GroupMarks.{StandsIn, views-marks, views-marks-inside, views-stand, bits_at-standing, marks-standing, length-group_marks}
@@ -14,11 +13,12 @@ use Rattle.pel_model.specs.declared.Format.{Format}
 use Rattle.pel_model.specs.declared.Format.TheVariants.{Qcif, Cif}
 use Rattle.pel_model.specs.declared.Mark.{Mark}
 use Rattle.pel_model.specs.Marks.{macroblock_marks}
-use Rattle.pel_model.specs.Records.{Group, Picture}
+use Rattle.pel_model.specs.Records.{Group, Picture, with_group}
 use Rattle.pel_model.specs.Text.{text, group_header, macroblocks_text, group_text, picture_header}
-use Rattle.pel_model.specs.Regions.{renumbered}
+use Rattle.pel_model.specs.Regions.{renumbered, empty_group}
 use Rattle.pel_model.specs.Valid.{group_numbers, group_count, IsValidMacroblock, IsValidGroup, IsValidSoFar, limit}
 use Rattle.std.proofs.lemmas.List.Elements.{All-nil}
+use Rattle.h261_pic.specs.Adding.{bits_at, IsGroupText}
 
 -- a quantiser of a valid group fits its field
 pub quant-fits : (format : Format) (number quant : ℕ) (bits : List Bool) (marks : List Mark) → IsGroupText format number quant bits marks → quant < 32
@@ -78,7 +78,7 @@ abbrev pub no_view : GroupView
 no_view = record { number = 0; quant = 0; from = 0; len = 0; first_mark = 0; marks = 0 }
 
 abbrev pub no_group : Group
-no_group = record { number = 0; quant = 0; macroblocks = [] }
+no_group = empty_group 0
 
 pub view-number : (at before : ℕ) (gs : List Group) (i : ℕ) → i < length gs → (slice_index_or (views at before gs) i no_view).number ≡ (slice_index_or gs i no_group).number
 view-number at before [] i below = absurd (omega arith)
@@ -107,7 +107,7 @@ bits-of-view format p i below =
 -- the marks of the macroblocks of a picture's group, and what stands at them
 pub marks-of-view : (format : Format) (p : Picture) (i : ℕ) → i < length p.groups
     → marks_in (coding format p) i
-    ≡ macroblock_marks (group_of (coding format p) i).from (slice_index_or p.groups i no_group).number (slice_index_or p.groups i no_group).quant None (slice_index_or p.groups i no_group).macroblocks
+    ≡ macroblock_marks (view_of (coding format p) i).from (slice_index_or p.groups i no_group).number (slice_index_or p.groups i no_group).quant None (slice_index_or p.groups i no_group).macroblocks
 marks-of-view format p i below = views-marks [] 32 p.groups i no_view no_group below
 
 pub placed-of-view : (format : Format) (p : Picture) (i at number : ℕ) → i < length p.groups
@@ -116,10 +116,10 @@ pub placed-of-view : (format : Format) (p : Picture) (i at number : ℕ) → i <
 placed-of-view format p i at number below =
     let g : Group = slice_index_or p.groups i no_group in
     ap (placed at number) (marks-of-view format p i below)
-    ∙ placed-macroblock_marks (group_of (coding format p) i).from at g.number number g.quant None g.macroblocks
+    ∙ placed-macroblock_marks (view_of (coding format p) i).from at g.number number g.quant None g.macroblocks
 
 view-stands : (format : Format) (p : Picture) (i : ℕ) → i < length p.groups
-    → StandsIn (coding format p).bits (group_of (coding format p) i).from (macroblocks_text None (slice_index_or p.groups i no_group).macroblocks)
+    → StandsIn (coding format p).bits (view_of (coding format p) i).from (macroblocks_text None (slice_index_or p.groups i no_group).macroblocks)
 view-stands format p i below =
     subst (λ (n : ℕ). StandsIn (text format p) (slice_index_or (views n 0 p.groups) i no_view).from (macroblocks_text None (slice_index_or p.groups i no_group).macroblocks))
     (length-picture_header format p.tr)
@@ -129,15 +129,15 @@ view-stands format p i below =
 pub record HoldsMarks (c : Coding) (i : ℕ) : Type 0 where
   pub bits : bits_at c.bits (marks_in c i) ≡ macroblock_bits c i
   pub inside : LieWithin (length c.bits) (marks_in c i)
-  pub within : (group_of c i).first_mark + (group_of c i).marks ≤ length c.marks
-  pub long : length (macroblock_bits c i) ≡ (group_of c i).len
+  pub within : (view_of c i).first_mark + (view_of c i).marks ≤ length c.marks
+  pub long : length (macroblock_bits c i) ≡ (view_of c i).len
 
 marks-coding : (format : Format) (p : Picture) (i : ℕ) → i < length (views 32 0 p.groups) → HoldsMarks (coding format p) i
 marks-coding format p i there =
     let below : i < length p.groups = omega (arith, length-views 32 0 p.groups) in
     let g : Group = slice_index_or p.groups i no_group in
     let stands = view-stands format p i below in
-    let from = (group_of (coding format p) i).from in
+    let from = (view_of (coding format p) i).from in
     record {
       bits = ap (bits_at (text format p)) (marks-of-view format p i below) ∙ bits_at-standing (text format p) from g.number g.quant g.macroblocks stands
           ∙ sym (bits-of-view format p i below);
@@ -160,8 +160,8 @@ odd-number format p i valid below whole qcif =
     ∙ odd_place i (omega (arith, whole ∙ ap group_count qcif))
 
 copied-coding : (format to : Format) (p : Picture) (i number : ℕ) → IsValidSoFar format p → IsFinished (coding format p) → i < length (views 32 0 p.groups)
-    → Belongs format (group_of (coding format p) i).number to number
-    → IsGroupText to number (group_of (coding format p) i).quant (macroblock_bits (coding format p) i) (marks_in (coding format p) i)
+    → Belongs format (view_of (coding format p) i).number to number
+    → IsGroupText to number (view_of (coding format p) i).quant (macroblock_bits (coding format p) i) (marks_in (coding format p) i)
 copied-coding format to p i number valid finished there belongs =
     let count : length (views 32 0 p.groups) ≡ length p.groups = length-views 32 0 p.groups in
     let below : i < length p.groups = omega arith in
@@ -173,11 +173,11 @@ copied-coding format to p i number valid finished there belongs =
     ∣ (g.macroblocks, bits-of-view format p i below, λ at. placed-of-view format p i at number below, group) ∣₁
 
 pub copied-text : (from : Coding) (to : Format) (i number : ℕ) → HasPicture from → IsFinished from → i < length from.groups
-    → Belongs from.format (group_of from i).number to number → IsGroupText to number (group_of from i).quant (macroblock_bits from i) (marks_in from i)
+    → Belongs from.format (view_of from i).number to number → IsGroupText to number (view_of from i).quant (macroblock_bits from i) (marks_in from i)
 copied-text from to i number has finished there belongs =
     ∥∥₁_elim has ∥∥₁_prop (λ h.
-    let P : Coding → Type 0 = λ c. IsFinished c → i < length c.groups → Belongs c.format (group_of c i).number to number
-    → IsGroupText to number (group_of c i).quant (macroblock_bits c i) (marks_in c i) in
+    let P : Coding → Type 0 = λ c. IsFinished c → i < length c.groups → Belongs c.format (view_of c i).number to number
+    → IsGroupText to number (view_of c i).quant (macroblock_bits c i) (marks_in c i) in
     subst P (sym h.1) (copied-coding from.format to h.0 i number h.2) finished there belongs)
 
 -- the marks of a group, and what stands at them
@@ -186,6 +186,26 @@ group-marks c i has there =
     ∥∥₁_elim has (hlevel props) (λ h.
     let P : Coding → Type 0 = λ k. i < length k.groups → HoldsMarks k i in
     subst P (sym h.1) (marks-coding c.format h.0 i) there)
+
+-- ---- the picture with one group more
+
+pub empty-added : (old new : Coding) (p : Picture) → old ≡ coding old.format p → new ≡ grown old 1 [] [] → new ≡ coding old.format (with_group p (empty_group (next_number old)))
+unfolding macroblocks_text
+empty-added old new p old_is new_is =
+    new_is ∙ ap (λ (c : Coding). grown c 1 [] []) old_is
+    ∙ coding-with_group old.format p (empty_group (next_number old)) [] (ap next_number old_is) (λ at. refl)
+
+pub copied-added : (old from new : Coding) (p q : Picture) (i : ℕ) → i < length from.groups → old ≡ coding old.format p → from ≡ coding from.format q
+    → new ≡ grown old (view_of from i).quant (macroblock_bits from i) (marks_in from i) → new ≡ coding old.format (with_group p (renumbered (next_number old) (group_in q i)))
+copied-added old from new p q i there old_is from_is new_is =
+    let count : length from.groups ≡ length q.groups = ap (λ (c : Coding). length c.groups) from_is ∙ length-views 32 0 q.groups in
+    let below : i < length q.groups = omega (arith, there, count) in
+    let marks = marks_in (coding from.format q) i in
+    new_is
+    ∙ ap₂ (λ (c : Coding) (d : Coding). grown c (view_of d i).quant (macroblock_bits d i) (marks_in d i)) old_is from_is
+    ∙ ap₂ (λ (k : ℕ) (bs : List Bool). grown (coding old.format p) k bs marks) (view-quant 32 0 q.groups i below) (bits-of-view from.format q i below)
+    ∙ coding-with_group old.format p (renumbered (next_number old) (group_in q i)) marks (ap next_number old_is)
+    (λ at. placed-of-view from.format q i at (next_number old) below)
 
 -- ---- a picture of no groups
 

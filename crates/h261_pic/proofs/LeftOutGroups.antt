@@ -4,16 +4,17 @@ use Rattle.std.proofs.lemmas.Grind.{flat_map-append}
 use Rattle.std.proofs.lemmas.List.FromFn.{get_or-range_with_len}
 use Rattle.pel_model.specs.declared.Format.{Format}
 use Rattle.pel_model.specs.declared.Format.TheVariants.{Qcif, Cif}
-use Rattle.pel_model.specs.Records.{Group, Picture}
+use Rattle.pel_model.specs.Records.{Group, Picture, with_group}
 use Rattle.pel_model.specs.Text.{text, group_text, macroblocks_text}
 use Rattle.pel_model.specs.Valid.{group_numbers, group_count}
 use Rattle.pel_model.specs.Grammar.{Element}
-use Rattle.picture_laws.specs.SoFar.{IsPictureSoFar, IsGroupSoFar, group_of, with_group}
+use Rattle.picture_laws.specs.SoFar.{IsPictureSoFar, IsGroupSoFar, group_of}
 use Rattle.picture_laws.specs.SoFar as law
 use Rattle.picture_laws.proofs.Joins.{group-left-out}
-use Rattle.h261_pic.specs.Coded.{Coding, coding, grown, emptied, next_number}
+use Rattle.h261_pic.specs.Coded.{Coding, coding, grown, next_number}
 use Rattle.h261_pic.proofs.Texts.{length-group_text, length-views, length-text, coding-with_group}
 use Rattle.h261_pic.proofs.Texts.{nothing_sent}
+use Rattle.h261_pic.specs.Adding.{emptied}
 
 -- ---- the groups' numbers
 

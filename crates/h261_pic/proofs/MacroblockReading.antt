@@ -24,10 +24,11 @@ use Rattle.picture_laws.proofs.Limits.{goes-next, goes-within}
 use Rattle.picture_laws.proofs.Longs.{word-some}
 use Rattle.h261_mb.specs.declared.state.MbState.{MbState}
 use Rattle.h261_mb.specs.State.{Stands, IsRead}
-use Rattle.h261_pic.specs.Coded.{placed, bits_at}
+use Rattle.h261_pic.specs.Coded.{placed}
 use Rattle.h261_pic.proofs.HeadersInside.{begun-inside}
 use Rattle.h261_pic.proofs.PlacedMarks.{bits_at-push, placed-push}
 use Rattle.h261_pic.proofs.GroupReading.{GroupSoFar, walk-place}
+use Rattle.h261_pic.specs.Adding.{bits_at}
 
 -- ---- its mark
 

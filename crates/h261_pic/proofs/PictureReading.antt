@@ -6,18 +6,18 @@ use Rattle.pel_model.specs.declared.Format.{Format}
 use Rattle.pel_model.specs.declared.Format.TheVariants.{Qcif, Cif}
 use Rattle.pel_model.specs.declared.Mark.{Mark}
 use Rattle.pel_model.specs.declared.Why.{Why}
-use Rattle.pel_model.specs.Records.{Group, Picture}
+use Rattle.pel_model.specs.Records.{Group, Picture, with_group}
 use Rattle.pel_model.specs.Text.{text, macroblocks_text}
 use Rattle.pel_model.specs.Valid.{group_numbers, group_count, limit}
 use Rattle.pel_model.specs.Accepts.{Accepts}
 use Rattle.pel_model.specs.Walk.{Bad, start, after, Goes, FirstFault}
 use Rattle.pel_model.specs.Grammar.{Element, Psc, Tr, Ptype, Pei, Pspare, AtGroup, slot, may_end, begun, group, counted, next, picture}
 use Rattle.pel_model.proofs.Walks.{goes-append, after-append}
-use Rattle.picture_laws.specs.SoFar.{IsPictureSoFar, IsGroupSoFar, group_of, with_group}
+use Rattle.picture_laws.specs.SoFar.{IsPictureSoFar, IsGroupSoFar, group_of}
 use Rattle.picture_laws.specs.SoFar as law
 use Rattle.picture_laws.proofs.Joins.{header-begins, group-sent, picture-accepted}
 use Rattle.picture_laws.proofs.Limits.{goes-next, goes-within}
-use Rattle.h261_pic.specs.Coded.{Coding, coding, grown, emptied, next_number, bits_at, IsGroupText}
+use Rattle.h261_pic.specs.Coded.{Coding, coding, grown, next_number}
 use Rattle.h261_pic.specs.HeaderElements.{OfPicture, spares_of, picture_header_elements}
 use Rattle.h261_pic.specs.Reached.{Follows}
 use Rattle.h261_pic.specs.ReadGroup.{GroupComes, IsGroupRead}
@@ -27,6 +27,7 @@ use Rattle.h261_pic.proofs.HeaderLengths.{picture_header_long}
 use Rattle.h261_pic.proofs.HeadersInside.{inside-spares, slot-spares, begun-inside}
 use Rattle.h261_pic.proofs.Texts.{length-views, length-text, coding-with_group}
 use Rattle.h261_pic.proofs.LeftOutGroups.{rising, filled, length-filled, next-same, emptied-filled, filled-so-far, length-more, length-filled_text}
+use Rattle.h261_pic.specs.Adding.{emptied, bits_at, IsGroupText}
 
 -- ---- the picture so far
 

@@ -4,13 +4,14 @@ use Rattle.std.proofs.Math.Seq.{take-add}
 use Rattle.std.proofs.lemmas.List.{flat_map_more, length-drop, length-take-le, take_at, drop_at, drop-drop, take-append-drop}
 use Rattle.std.proofs.lemmas.List.Concat.{flat_map-append}
 use Rattle.std.proofs.lemmas.List.Elements.{All-nil, All-cons, All-head, All-tail}
-use Rattle.h261_pic.specs.Coded.{bits_at, placed}
+use Rattle.h261_pic.specs.Coded.{placed}
 use Rattle.pel_bits.specs.Buffer.{Buffer}
 use Rattle.pel_model.specs.declared.Mark.{Mark}
 use Rattle.pel_model.specs.Marks.{quant_behind, mark_of, macroblock_marks}
 use Rattle.pel_model.specs.Records.{Macroblock}
 use Rattle.pel_model.specs.Text.{macroblock_text, macroblocks_text}
 use Rattle.pel_model.specs.Valid.{AddressesRise}
+use Rattle.h261_pic.specs.Adding.{bits_at}
 
 -- the marks lie within so many bits
 abbrev pub LieWithin : ℕ → List Mark → Type 0

@@ -4,7 +4,6 @@ use Rattle.std.proofs.lemmas.List.{drop_at}
 use Rattle.std.proofs.Math.Seq.{drop-append-add, take-append_seam}
 use Rattle.std.proofs.lemmas.List.{flat_map_more}
 use Rattle.h261_pic.specs.declared.coded.GroupView.{GroupView}
-use Rattle.picture_laws.specs.SoFar.{with_group}
 use Rattle.h261_pic.specs.Coded.{Coding, views, coding, grown, next_number, placed}
 pub use Rattle.h261_pic.proofs.GroupMarks.{length-group_header}
 use Rattle.h261_pic.proofs.GroupMarks.{sent, sent-cons, length-group_marks, group_marks-append}
@@ -14,7 +13,7 @@ use Rattle.pel_model.specs.Marks.{macroblock_marks, marks_of}
 use Rattle.pel_model.specs.declared.Format.{Format}
 use Rattle.pel_model.specs.declared.Format.TheVariants.{Qcif, Cif}
 use Rattle.pel_model.specs.Bits.{field}
-use Rattle.pel_model.specs.Records.{Group, Picture}
+use Rattle.pel_model.specs.Records.{Group, Picture, with_group}
 use Rattle.pel_model.specs.Text.{text, picture_header, group_header, group_text, macroblocks_text}
 
 pub length-picture_header : (format : Format) (tr : ℕ) → length (picture_header format tr) ≡ 32

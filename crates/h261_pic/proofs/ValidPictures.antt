@@ -2,14 +2,13 @@
 use Rattle.std.proofs.Common.{◌≡◌, ℕ, ◌%◌, ◌<◌, Bool, true, false, List, [], ◌∷◌, ◌++◌, length, take, slice_index, slice_index_or, refl, sym, ◌∙◌, ap, ap₂, subst, ℤ, pos, negsuc, MatchBool, arith, length-append}
 use Rattle.std.proofs.lemmas.List.{take_more, get_or-map, get_or-take, map-append}
 use Rattle.std.proofs.lemmas.List.Elements.{All-push}
-use Rattle.picture_laws.specs.SoFar.{with_group}
 use Rattle.h261_pic.specs.Coded.{Belongs}
 use Rattle.pel_model.specs.declared.Format.{Format}
 use Rattle.pel_model.specs.declared.Format.TheVariants.{Qcif, Cif}
 use Rattle.pel_model.specs.declared.Quad.{Quad}
 use Rattle.pel_model.specs.declared.Quad.TheVariants.{One, Two, Three, Four}
 use Rattle.pel_model.specs.Codes.{has_vector}
-use Rattle.pel_model.specs.Records.{Axis, Across, Down, Macroblock, Group, Picture, component}
+use Rattle.pel_model.specs.Records.{Axis, Across, Down, Macroblock, Group, Picture, component, with_group}
 use Rattle.pel_model.specs.Regions.{number_in, renumbered, below}
 use Rattle.pel_model.specs.Valid.{side, corner, StaysWithin, ComponentFits, IsValidMacroblock, IsValidGroup, IsValidSoFar, group_numbers, group_count}
 

@@ -1,16 +1,16 @@
 -- What contracts see of a coded picture: its format, its TR, the bits of its strict text (H.261, 4.2) as far as it
 -- was written, where the macroblocks of each of its groups stand, and the marks of all macroblocks.
-use Rattle.std.specs.Prelude.{◌≡◌, ℕ, zero, suc, ◌+◌, ◌<◌, Bool, List, [], ◌∷◌, ◌++◌, length, take, drop, flat_map, slice_index, slice_index_or, None}
+use Rattle.std.specs.Prelude.{◌≡◌, ℕ, ◌+◌, ◌<◌, Bool, List, [], ◌∷◌, ◌++◌, length, take, drop, slice_index, slice_index_or, None}
 use Rattle.h261_pic.specs.declared.coded.GroupView.{GroupView}
 use Rattle.pel_model.specs.declared.Format.{Format}
 use Rattle.pel_model.specs.declared.Format.TheVariants.{Qcif, Cif}
 use Rattle.pel_model.specs.declared.Mark.{Mark}
 use Rattle.pel_model.specs.declared.Quad.{Quad}
-use Rattle.pel_model.specs.Marks.{macroblock_marks, marks_of}
-use Rattle.pel_model.specs.Records.{Macroblock, Group, Picture}
+use Rattle.pel_model.specs.Marks.{marks_of}
+use Rattle.pel_model.specs.Records.{Group, Picture}
 use Rattle.pel_model.specs.Text.{text, picture_header_length, group_header, group_header_length, group_text, macroblocks_text}
-use Rattle.pel_model.specs.Regions.{number_in}
-use Rattle.pel_model.specs.Valid.{group_numbers, group_count, IsValidGroup, IsValidSoFar}
+use Rattle.pel_model.specs.Regions.{number_in, empty_group}
+use Rattle.pel_model.specs.Valid.{group_numbers, group_count, IsValidSoFar}
 
 pub record Coding : Type 0 where
   pub format : Format
@@ -48,19 +48,19 @@ IsFinished coded = (0 < length coded.bits) × (length coded.groups ≡ group_cou
 abbrev pub next_number : Coding → ℕ
 next_number coded = slice_index (group_numbers coded.format) (length coded.groups)
 
--- one of its groups, the macroblock bits of it, and their marks
-abbrev pub group_of : Coding → ℕ → GroupView
-group_of coded i = slice_index_or coded.groups i (record { number = 0; quant = 0; from = 0; len = 0; first_mark = 0; marks = 0 })
+-- where one of its groups stands, the macroblock bits of it, and their marks
+abbrev pub view_of : Coding → ℕ → GroupView
+view_of coded i = slice_index_or coded.groups i (record { number = 0; quant = 0; from = 0; len = 0; first_mark = 0; marks = 0 })
 
 abbrev pub macroblock_bits : Coding → ℕ → List Bool
-macroblock_bits coded i = take (group_of coded i).len (drop (group_of coded i).from coded.bits)
+macroblock_bits coded i = take (view_of coded i).len (drop (view_of coded i).from coded.bits)
 
 abbrev pub marks_in : Coding → ℕ → List Mark
-marks_in coded i = take (group_of coded i).marks (drop (group_of coded i).first_mark coded.marks)
+marks_in coded i = take (view_of coded i).marks (drop (view_of coded i).first_mark coded.marks)
 
--- the bits that stand at these marks
-abbrev pub bits_at : List Bool → List Mark → List Bool
-bits_at bits marks = flat_map (λ (m : Mark). take m.len (drop m.at bits)) marks
+-- one of the groups of a picture
+abbrev pub group_in : Picture → ℕ → Group
+group_in picture i = slice_index_or picture.groups i (empty_group 0)
 
 -- the marks of these macroblocks when they stand one behind another from `at` on, in a group with this number
 abbrev pub placed : (at number : ℕ) → List Mark → List Mark
@@ -75,11 +75,6 @@ grown coded quant bits marks = record coded {
   marks = coded.marks ++ placed (length coded.bits + group_header_length) (next_number coded) marks;
 }
 
--- so many groups with quantiser 1 and no macroblocks were written
-abbrev pub emptied : ℕ → Coding → Coding
-emptied zero coded = coded
-emptied (suc n) coded = grown (emptied n coded) 1 [] []
-
 -- group `from` of a picture of one format may stand as group `to` of a picture of another: the same group of the same
 -- format, or a QCIF group in one of the places of a CIF picture
 abbrev pub Belongs : Format → ℕ → Format → ℕ → Type 0
@@ -92,8 +87,3 @@ Belongs Cif from Qcif to = ⊥
 abbrev pub HasPicture : Coding → Type 0
 HasPicture coded =
     ∥ ((picture : Picture) × (coded ≡ coding coded.format picture) × IsValidSoFar coded.format picture) ∥₁
-
--- these are the macroblock bits of a valid group, and the marks of its macroblocks, wherever they stood
-abbrev pub IsGroupText : Format → (number quant : ℕ) → List Bool → List Mark → Type 0
-IsGroupText format number quant bits marks =
-    ∥ ((macroblocks : List Macroblock) × (bits ≡ macroblocks_text None macroblocks) × ((at : ℕ) → placed at number marks ≡ macroblock_marks at number quant None macroblocks) × IsValidGroup format (record { number = number; quant = quant; macroblocks = macroblocks })) ∥₁

@@ -1,5 +1,5 @@
 -- Inner contracts alone use this; nothing here has to be believed.
--- What comes behind a group's header, a macroblock or stuffing (H.261, 4.2.2 and 4.2.3).
+-- What may come behind a picture's header, a group's header, a macroblock or stuffing (H.261, 4.2.1 to 4.2.3).
 use Rattle.std.specs.Prelude.{◌≡◌, ℕ, Bool, List, Result, Ok, Err}
 use Rattle.pel_model.specs.declared.Fault.{Fault}
 use Rattle.pel_model.specs.Walk.{Step, Good, Stop, Bad, skipped, read}

@@ -1,3 +1,4 @@
+pub mod Adding
 pub mod Coded
 pub mod Sound
 pub mod HeaderElements

@@ -11,8 +11,9 @@ use Rattle.pel_model.specs.Walk.{Good, Bad, skipped, after, Goes}
 use Rattle.pel_model.specs.Grammar.{Element, Gbsc, begun as begun_before, group as group_before, slot, may_end, picture}
 use Rattle.picture_laws.specs.SoFar.{IsGroupSoFar}
 use Rattle.h261_pic.specs.declared.group.SentGroup.{SentGroup}
-use Rattle.h261_pic.specs.Coded.{placed, bits_at}
+use Rattle.h261_pic.specs.Coded.{placed}
 use Rattle.h261_pic.specs.Reached.{Follows}
+use Rattle.h261_pic.specs.Adding.{bits_at}
 
 -- behind these elements, at `from`, the start code of a group was taken; group `last` came before, and this is the one
 -- with the number `begun` in the order in which they are sent
@@ -40,9 +41,9 @@ pub record IsGroupRead (format : Format) (bits : List Bool) (before : List Eleme
   pub follows : Follows (picture format (after before es) end) another end new
 
 -- a group was read; or good elements were, and what stands behind them is at fault
-abbrev pub IsRead : Format → List Bool → List Element → List Bool × ℕ → Result SentGroup Fault → List Bool × ℕ → Type 0
-IsRead format bits before from (Ok g) new =
+abbrev pub GroupIsReadOrFails : Format → List Bool → List Element → List Bool × ℕ → Result SentGroup Fault → List Bool × ℕ → Type 0
+GroupIsReadOrFails format bits before from (Ok g) new =
     IsGroupRead format bits before from g.header.number g.header.quant g.marks.items g.another new
-IsRead format bits before from (Err f) new =
+GroupIsReadOrFails format bits before from (Err f) new =
     (es : List Element) × (end : List Bool × ℕ) × Goes (picture format) before from es end
     × (picture format (after before es) end ≡ Bad f.why) × (f.place ≡ end.1)

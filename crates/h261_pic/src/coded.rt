@@ -5,13 +5,15 @@ ghost use Rattle.std.specs.Prelude.{◌≡◌, ℕ, ◌+◌, ◌-◌, ◌*◌, �
 ghost use Rattle.pel_bits.specs.Bits.{bits};
 ghost use Rattle.pel_bits.specs.Buffer.{filled_up};
 ghost use Rattle.pel_model.specs.declared.Mark.{Mark as MarkOf};
-ghost use Rattle.pel_model.specs.Records.{Picture};
+ghost use Rattle.pel_model.specs.Records.{Picture, with_group};
 ghost use Rattle.pel_model.specs.Refresh.{IsRefresh};
+ghost use Rattle.pel_model.specs.Regions.{renumbered, empty_group as group_without_macroblocks};
 ghost use Rattle.pel_model.specs.Text.{picture_header, group_header, group_header_length};
 ghost use Rattle.pel_model.specs.Valid.{group_numbers, group_count, limit};
-ghost use Rattle.h261_pic.specs.Coded.{Coding, nothing, coding, grown, emptied, next_number, group_of, macroblock_bits, marks_in, bits_at, placed, Belongs, IsFinished, HasPicture, IsGroupText};
+ghost use Rattle.h261_pic.specs.Coded.{Coding, nothing, coding, grown, next_number, view_of, group_in, macroblock_bits, marks_in, placed, Belongs, IsFinished, HasPicture};
+ghost use Rattle.h261_pic.specs.Adding.{emptied, bits_at, IsGroupText};
 
-use crate::formats::{group_number, most_bits};
+use crate::formats::{group_number, longest};
 use arrayvec::ArrayVec;
 use pel_bits::{BitBuf, Bits, NoMemory};
 use pel_model::{Format, Mark};
@@ -61,14 +63,15 @@ impl Model for Coded {
 }
 
 impl Coded {
-    /// An empty picture with room for the longest strict text of its format. It takes all its memory here.
+    /// An empty picture with room for the longest strict text of its format. It takes all its memory here; NoMemory where
+    /// there is none.
     pub fn reserve(alloc: Global, format: Format) -> Result<Coded, NoMemory>
         ensures { IfOk result (λ coded. coded ≡ nothing format) }
     {
         Ok(Coded {
             format,
             tr: 0,
-            text: BitBuf::with_capacity(alloc, most_bits(format))?,
+            text: BitBuf::with_capacity(alloc, longest(format))?,
             groups: ArrayVec::new(),
             marks: ArrayVec::new(),
         })
@@ -142,7 +145,7 @@ impl Coded {
             && self.marks.iter().all(|mark| mark.intra)
     }
 
-    /// The view of a group, from 0 on.
+    /// Where group `i` stands, from 0 on, of those that were written.
     pub fn group(&self, i: usize) -> GroupView
         requires { i < length self.now.groups }
         ensures { slice_get self.now.groups i ≡ Some result }
@@ -160,7 +163,7 @@ impl Coded {
         self.marks.clear();
     }
 
-    /// Begins a picture of no groups.
+    /// Takes everything away and writes a picture header with this TR, at most 31. The picture has no groups yet.
     pub fn start(&mut self, tr: u8)
         requires { tr < 32 }
         ensures { self.new ≡ coding self.old.format (record { tr = tr; groups = [] }) }
@@ -172,26 +175,31 @@ impl Coded {
         push_picture_header(&mut self.text, self.format, tr);
     }
 
-    /// Adds the next group with GQUANT 1 and no macroblocks.
+    /// Adds the next group with GQUANT 1 and no macroblocks. A picture has to be begun that has not all its groups.
     pub fn empty_group(&mut self)
         requires begun { 0 < length self.old.bits }
         requires next { length self.old.groups < group_count self.old.format }
-        ensures { self.new ≡ grown self.old 1 [] [] }
+        ensures grown { self.new ≡ grown self.old 1 [] [] }
+        ensures picture { (p : Picture) → self.old ≡ coding self.old.format p →
+            self.new ≡ coding self.old.format (with_group p (group_without_macroblocks (next_number self.old))) }
     {
         self.valid_so_far();
         self.add_group(1, &Bits::new(&[], 0, 0), &[]);
     }
 
-    /// Adds the next group with the quantiser and the macroblocks of group `i` of another picture. It has to be one where
-    /// that group belongs, and to leave room for the headers of the groups behind it.
+    /// Adds the next group, with the quantiser and the macroblocks of group `i`, from 0 on, of another picture that has all
+    /// its groups. That group has to belong where the next one stands: the same group of the same format, or a QCIF group
+    /// in one of the places of a CIF picture. Room has to be left for the headers of the groups behind it.
     pub fn copy_group(&mut self, from: &Coded, i: usize)
         requires begun { 0 < length self.old.bits }
         requires next { length self.old.groups < group_count self.old.format }
         requires finished { IsFinished from.now }
         requires there { i < length from.now.groups }
-        requires belongs { Belongs from.now.format (group_of from.now i).number self.old.format (next_number self.old) }
-        requires room { length self.old.bits + (group_of from.now i).len + group_header_length * (group_count self.old.format - length self.old.groups) ≤ limit self.old.format }
-        ensures { self.new ≡ grown self.old (group_of from.now i).quant (macroblock_bits from.now i) (marks_in from.now i) }
+        requires belongs { Belongs from.now.format (view_of from.now i).number self.old.format (next_number self.old) }
+        requires room { length self.old.bits + (view_of from.now i).len + group_header_length * (group_count self.old.format - length self.old.groups) ≤ limit self.old.format }
+        ensures grown { self.new ≡ grown self.old (view_of from.now i).quant (macroblock_bits from.now i) (marks_in from.now i) }
+        ensures picture { (p q : Picture) → self.old ≡ coding self.old.format p → from.now ≡ coding from.now.format q →
+            self.new ≡ coding self.old.format (with_group p (renumbered (next_number self.old) (group_in q i))) }
     {
         let view = from.groups[i];
         let first = usize::from(view.first_mark);

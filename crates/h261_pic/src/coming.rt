@@ -1,4 +1,5 @@
-//! What comes behind a group's header, a macroblock or stuffing (H.261, 4.2.2 and 4.2.3).
+//! What may come behind a picture's header, a group's header, a macroblock or stuffing: the end, a group, stuffing or a
+//! macroblock (H.261, 4.2.1 to 4.2.3).
 #![tactic(auto)]
 
 ghost use Rattle.std.specs.Prelude.{◌≡◌, ◌≤◌, false, List, IfOk};
@@ -66,7 +67,8 @@ fn is_end(r: &Reader<'_>) -> bool
     left < 8 && r.peek(left) == 0
 }
 
-// Takes GBSC (4.2.2.1), where no word of MBA stands for that reason, or where no other word may stand.
+// Takes GBSC (4.2.2.1). `why` is the reason why no word of MBA stands here, or NoCode behind a picture header, where none
+// may.
 fn take_group_code(r: &mut Reader<'_>, why: Why) -> Result<Coming, Fault>
     ensures behind_a_group { (format : Format) (before : List Element) → slot before ≡ AtMacroblock → is_end_of r.old.0 ≡ false →
         read mba_rows r.old.0 ≡ Bad why → Comes (next format before r.old) result r.old r.new }

@@ -13,7 +13,7 @@ use pel_model::Format;
 pub const GROUP_HEADER_BITS: u32 = 26;
 
 /// The greatest number of bits of a picture.
-pub fn most_bits(format: Format) -> u32
+pub fn longest(format: Format) -> u32
     ensures { result ≡ limit format }
 {
     match format {

@@ -3,7 +3,7 @@
 
 ghost use Rattle.std.specs.Prelude.{◌≡◌, ◌<◌, ◌≤◌, ℕ, Bool, true, List, Result, IfOk};
 ghost use Rattle.pel_model.specs.Grammar.{Element, is_group as is_group_of};
-ghost use Rattle.h261_pic.specs.ReadGroup.{GroupComes, IsRead};
+ghost use Rattle.h261_pic.specs.ReadGroup.{GroupComes, GroupIsReadOrFails};
 
 use crate::coming::Coming;
 use crate::input_headers::GroupHeader;
@@ -26,8 +26,8 @@ pub struct SentGroup {
     pub another: bool,
 }
 
-/// Reads a group behind its start code, which is the one with the number `begun` in the order in which groups are sent;
-/// `last` is the number of the group before, 0 where none came.
+/// Reads a group behind its start code. `begun` counts the start codes that were read, this one too; `last` is the number of
+/// the group before, 0 where none came.
 pub fn read_group(
     r: &mut Reader<'_>,
     format: Format,
@@ -35,9 +35,9 @@ pub fn read_group(
     begun: u32,
 ) -> Result<SentGroup, Fault>
     requires here { (bits : List Bool) × (before : List Element) × (from : List Bool × ℕ) × GroupComes format bits last begun before from r.old }
-    requires few { begun ≤ 100 }
+    requires few { begun ≤ 13 }
     ensures read { (bits : List Bool) (before : List Element) (from : List Bool × ℕ) → GroupComes format bits last begun before from r.old →
-        IsRead format bits before from result r.new }
+        GroupIsReadOrFails format bits before from result r.new }
     ensures within { IfOk result (λ group. (is_group_of format group.header.number ≡ true) × (last < group.header.number)) }
 {
     let end = last_end(format, begun);

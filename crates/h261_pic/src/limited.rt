@@ -1,5 +1,5 @@
 //! The parts of a coded picture, each read within the limit of its format (H.261, 5.2): an element that ends past the limit
-//! is too long. A group's header that is still to come counts as if it were sent.
+//! is too long. A group's header that is still to come counts as if it were sent, so that the strict text has room for it.
 #![tactic(auto)]
 
 ghost use Rattle.std.specs.Prelude.{◌≡◌, ◌+◌, ◌-◌, ◌*◌, ◌<◌, ◌≤◌, ℕ, true, List, [], take, IfOk};
@@ -14,7 +14,7 @@ ghost use Rattle.h261_pic.specs.Comes.{Comes};
 ghost use Rattle.h261_pic.specs.Reached.{EndsAt, Reached, FollowsOrFails};
 
 use crate::coming::{Coming, take_coming, take_group_or_end};
-use crate::formats::{GROUP_HEADER_BITS, group_count, most_bits};
+use crate::formats::{GROUP_HEADER_BITS, group_count, longest};
 use crate::input_headers::{GroupHeader, read_group_header, read_picture_header};
 use h261_mb::{MbState, scan_mb};
 use pel_bits::Reader;
@@ -25,7 +25,7 @@ pub fn last_end(format: Format, begun: u32) -> u32
     ensures { result ≡ limit format - group_header_length * (group_count_of format - begun) }
 {
     let groups = group_count(format) as u32;
-    most_bits(format) - GROUP_HEADER_BITS * groups.saturating_sub(begun)
+    longest(format) - GROUP_HEADER_BITS * groups.saturating_sub(begun)
 }
 
 /// Takes a picture header as `read_picture_header` does, from the first bit on.
@@ -94,7 +94,7 @@ pub fn macroblock_within(
 
 /// Says what comes where a macroblock may, as `take_coming` does, behind so many groups begun.
 pub fn coming_within(r: &mut Reader<'_>, format: Format, begun: u32) -> Result<Coming, Fault>
-    requires { begun ≤ 100 }
+    requires { begun ≤ 13 }
     ensures { (before : List Element) → slot before ≡ AtMacroblock → begun_before before ≡ begun → counted format before r.old.1 ≤ limit format →
         Comes (picture format before r.old) result r.old r.new }
 {

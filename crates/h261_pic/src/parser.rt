@@ -16,11 +16,14 @@ use crate::limited::{group_follows, picture_header_within};
 use pel_bits::{Bits, Reader};
 use pel_model::{Fault, Format};
 
-/// Reads a picture of the format `want`. At Ok `into` has its strict text and the marks of that text. Else the first fault
-/// is told, of any of the reasons, and `into` is empty.
+/// Reads a picture of the format `want`, which is that of `into`. At Ok `into` has its strict text and the marks of that
+/// text. Else the first fault is told, of any of the reasons, with its place counted from the first of `bits`, and `into` is
+/// empty.
 ///
-/// A sender may set the bits of the picture type that do not decide, send spare bytes and stuffing, leave out groups that
-/// have no macroblocks, and have up to seven zero bits behind the last element (H.261, 4.2).
+/// A sender may set the bits of the picture type that do not decide, and send spare bytes and stuffing (H.261, 4.2). Beyond
+/// the standard a group that has no macroblocks may be left out, and up to seven zero bits may follow the last element. A
+/// picture has at most 65,536 bits (QCIF) or 262,144 (CIF) (5.2), and a group that is left out counts as the 26 bits of a
+/// header.
 pub fn parse(bits: Bits<'_>, want: Format, into: &mut Coded) -> Result<(), Fault>
     requires { into.old.format ≡ want }
     ensures accepted { IfOk result (λ _. (picture : Picture) × Accepts want bits.entry picture × (into.new ≡ coding want picture)) }

@@ -92,10 +92,19 @@ impl Sent {
     }
 }
 
-// The answer over a picture of its own.
-fn answer(alloc: Global, format: Format, bits: Bits<'_>) -> Result<Result<(), Fault>, NoMemory> {
+// The answer over a picture of its own, and how many marks and bits are there then.
+fn answer_and_size(
+    alloc: Global,
+    format: Format,
+    bits: Bits<'_>,
+) -> Result<(Result<(), Fault>, usize, u32), NoMemory> {
     let mut coded = Coded::reserve(alloc, format)?;
-    Ok(parse(bits, format, &mut coded))
+    let answer = parse(bits, format, &mut coded);
+    Ok((answer, coded.marks().len(), coded.bits().len()))
+}
+
+fn answer(alloc: Global, format: Format, bits: Bits<'_>) -> Result<Result<(), Fault>, NoMemory> {
+    Ok(answer_and_size(alloc, format, bits)?.0)
 }
 
 // A picture that has to be good.
@@ -108,8 +117,8 @@ fn parsed(alloc: Global, format: Format, bits: Bits<'_>) -> Result<Coded, Fail>
     Ok(coded)
 }
 
-// The mark of a macroblock of the picture `TURN`.
-fn turn_mark(group: u8, at: u32, len: u32, address: u8, h: i8) -> Mark {
+// The mark of a macroblock that is not Intra, where the quantiser in effect is 8 and the vector is horizontal.
+fn mark(group: u8, at: u32, len: u32, address: u8, h: i8) -> Mark {
     Mark {
         at,
         len,
@@ -127,9 +136,9 @@ fn predictor_starts_anew(rt: HostRuntime) -> Result<(), Fail> {
     let sent = Sent::of(rt.alloc(), &TURN)?;
     let coded = parsed(rt.alloc(), Qcif, sent.bits())?;
     let marks = [
-        turn_mark(1, 58, 22, 11, -2),
-        turn_mark(1, 80, 14, 12, 1),
-        turn_mark(1, 94, 12, 13, 1),
+        mark(1, 58, 22, 11, -2),
+        mark(1, 80, 14, 12, 1),
+        mark(1, 94, 12, 13, 1),
     ];
     assert_eq!(rt; coded.marks(), marks.as_slice());
     assert_eq!(rt; coded.octets(), sent.octets.as_slice());
@@ -140,20 +149,50 @@ fn predictor_starts_anew(rt: HostRuntime) -> Result<(), Fail> {
     Ok(())
 }
 
+/// Where the elements of `TURN` begin.
+const ELEMENTS: [u32; 28] = [
+    0, 20, 25, 31, 32, 48, 52, 57, 58, 66, 75, 79, 80, 81, 90, 93, 94, 95, 104, 105, 106, 122, 126,
+    131, 132, 148, 152, 157,
+];
+
+/// Which numbers of its first bits are a picture, from and to, and how many marks and bits that has.
+const GOOD_FRONTS: [(u32, u32, usize, u32); 7] = [
+    (32, 39, 0, 110),
+    (58, 62, 0, 110),
+    (80, 80, 1, 132),
+    (94, 94, 2, 146),
+    (106, 113, 3, 158),
+    (132, 139, 3, 158),
+    (158, 158, 3, 158),
+];
+
 #[test]
 fn fronts_of_turn(rt: HostRuntime) -> Result<(), Fail> {
     let sent = Sent::of(rt.alloc(), &TURN)?;
     for len in 0..159_u32 {
-        let good = matches!(len, 32..=39 | 58..=62 | 80 | 94 | 106..=113 | 132..=139 | 158);
-        let want = if good { Ok(()) } else { Err(Cut) };
-        let got = answer(rt.alloc(), Qcif, sent.front(len))?;
-        assert_eq!(rt;
-            got.map_err(|fault| fault.why),
-            want,
-            "the first {len} bits"
-        );
+        let good = GOOD_FRONTS
+            .iter()
+            .find(|(from, to, _, _)| *from <= len && len <= *to);
+        let want = if let Some((_, _, marks, bits)) = good {
+            (Ok(()), *marks, *bits)
+        } else {
+            (Err(cut_in_turn(len)), 0, 0)
+        };
+        let got = answer_and_size(rt.alloc(), Qcif, sent.front(len))?;
+        assert_eq!(rt; got, want, "the first {len} bits");
     }
     Ok(())
+}
+
+// The fault of so many of the first bits of `TURN`, where these end inside an element.
+fn cut_in_turn(len: u32) -> Fault {
+    let mut place = 0;
+    for start in ELEMENTS {
+        if start <= len {
+            place = start;
+        }
+    }
+    Fault { place, why: Cut }
 }
 
 #[test]
@@ -230,8 +269,8 @@ fn ninety_eight_intra(rt: HostRuntime) -> Result<(), Fail> {
 }
 
 /// A header of a picture, one of a group, what stands behind them so many times, and the place and the reason of the
-/// first fault.
-const REASONS: [(Format, [&str; 3], u32, u32, Why); 20] = [
+/// first fault. Each reason is there.
+const REASONS: [(Format, [&str; 3], u32, u32, Why); 22] = [
     (Qcif, ["", "", "00000000000000010001"], 1, 0, NoStart),
     (Qcif, [CIF_HEADER, "", ""], 1, 25, WrongFormat),
     (Cif, [QCIF_HEADER, "", ""], 1, 25, WrongFormat),
@@ -311,12 +350,24 @@ const REASONS: [(Format, [&str; 3], u32, u32, Why); 20] = [
         63,
         BadDc,
     ),
+    (Cif, [CIF_HEADER, GROUP_5, "1 0001 00000000"], 1, 63, BadDc),
     (
         Cif,
         [
             CIF_HEADER,
             GROUP_5,
             "1 0001 11111111 000001 000000 10000000",
+        ],
+        1,
+        71,
+        BadLevel,
+    ),
+    (
+        Qcif,
+        [
+            QCIF_HEADER,
+            GROUP_1,
+            "1 0001 11111111 000001 000011 00000000",
         ],
         1,
         71,
@@ -336,7 +387,7 @@ const REASONS: [(Format, [&str; 3], u32, u32, Why); 20] = [
 ];
 
 #[test]
-fn each_reason_once(rt: HostRuntime) -> Result<(), Fail> {
+fn each_reason(rt: HostRuntime) -> Result<(), Fail> {
     for (format, [header, group, rest], times, place, why) in REASONS {
         let mut sent = Sent::of(rt.alloc(), &[header, group])?;
         sent.put_times(rest, times)?;
@@ -350,13 +401,95 @@ fn each_reason_once(rt: HostRuntime) -> Result<(), Fail> {
     Ok(())
 }
 
+/// The header of a CIF picture with five spare bytes.
+const CIF_HEADER_WITH_SPARES: &str =
+    "00000000000000010000 00001 000111 1 00000000 1 00000001 1 00000010 1 00000011 1 11111111 0";
+
 #[test]
-fn one_stuffing_less_is_within_the_limit(rt: HostRuntime) -> Result<(), Fail> {
-    for (format, header, times) in [(Qcif, QCIF_HEADER, 5_947), (Cif, CIF_HEADER, 23_800)] {
+fn stuffing_up_to_the_limit(rt: HostRuntime) -> Result<(), Fail> {
+    // 5,947 stuffings leave 9 bits of a QCIF picture, 23,800 none of a CIF picture; with the spare bytes there is one bit
+    // too many
+    let over = Fault {
+        place: 261_848,
+        why: TooLong,
+    };
+    for (format, header, times, want) in [
+        (Qcif, QCIF_HEADER, 5_947, Ok(())),
+        (Cif, CIF_HEADER, 23_800, Ok(())),
+        (Cif, CIF_HEADER_WITH_SPARES, 23_795, Ok(())),
+        (Cif, CIF_HEADER_WITH_SPARES, 23_796, Err(over)),
+    ] {
         let mut sent = Sent::of(rt.alloc(), &[header, GROUP_1])?;
         sent.put_times(STUFFING, times)?;
-        assert_eq!(rt; answer(rt.alloc(), format, sent.bits())?, Ok(()));
+        assert_eq!(rt; answer(rt.alloc(), format, sent.bits())?, want);
     }
+    Ok(())
+}
+
+/// A CIF picture with a vector from group 1 into group 2, a quantiser that lasts, and groups 1, 3 and 12 alone.
+const WIDE: [&str; 8] = [
+    CIF_HEADER,
+    GROUP_1,
+    "00001010 000000001 00001010 1",
+    "1 00001 00101 1010 10 10",
+    "1 1 1010 10 10",
+    GROUP_3,
+    "1 000000001 1 1",
+    "0000000000000001 1100 01000 0",
+];
+
+/// Where its groups stand: the number, the quantiser, the first bit, and the numbers of bits, of marks before and of marks.
+const WIDE_VIEWS: [(u8, u8, u32, u32, u16, u16); 12] = [
+    (1, 8, 58, 55, 0, 3),
+    (2, 1, 139, 0, 3, 0),
+    (3, 8, 165, 12, 3, 1),
+    (4, 1, 203, 0, 4, 0),
+    (5, 1, 229, 0, 4, 0),
+    (6, 1, 255, 0, 4, 0),
+    (7, 1, 281, 0, 4, 0),
+    (8, 1, 307, 0, 4, 0),
+    (9, 1, 333, 0, 4, 0),
+    (10, 1, 359, 0, 4, 0),
+    (11, 1, 385, 0, 4, 0),
+    (12, 8, 411, 0, 4, 0),
+];
+
+#[test]
+fn a_cif_picture_of_three_groups(rt: HostRuntime) -> Result<(), Fail> {
+    let sent = Sent::of(rt.alloc(), &WIDE)?;
+    let coded = parsed(rt.alloc(), Cif, sent.bits())?;
+    let marks = [
+        mark(1, 58, 26, 11, 5),
+        Mark {
+            quant_after: 5,
+            ..mark(1, 84, 19, 12, 0)
+        },
+        Mark {
+            quant_after: 5,
+            ..mark(1, 103, 10, 13, 0)
+        },
+        mark(3, 165, 12, 1, 0),
+    ];
+    assert_eq!(rt; coded.marks(), marks.as_slice());
+    for (i, (number, quant, from, len, first_mark, marks)) in WIDE_VIEWS.into_iter().enumerate() {
+        let want = view(number, quant, from, len, first_mark, marks);
+        assert_eq!(rt; coded.group(i), want);
+    }
+    let mut strict = Sent::of(rt.alloc(), &WIDE[..5])?;
+    strict.put("0000000000000001 0010 00001 0")?;
+    for piece in &WIDE[5..7] {
+        strict.put(piece)?;
+    }
+    for number in [
+        "0100", "0101", "0110", "0111", "1000", "1001", "1010", "1011",
+    ] {
+        for piece in ["0000000000000001", number, "00001 0"] {
+            strict.put(piece)?;
+        }
+    }
+    strict.put(WIDE[7])?;
+    assert_eq!(rt; coded.octets(), strict.octets.as_slice());
+    assert_eq!(rt; (coded.bits().len(), coded.is_refresh()), (411, false));
     Ok(())
 }
 
@@ -396,9 +529,9 @@ fn what_a_sender_may_add(rt: HostRuntime) -> Result<(), Fail> {
     assert_eq!(rt; coded.octets(), strict.octets.as_slice());
     assert_eq!(rt; (coded.tr(), coded.bits().len()), (1, 158));
     let marks = [
-        turn_mark(1, 58, 22, 11, -2),
-        turn_mark(1, 80, 14, 12, 1),
-        turn_mark(1, 94, 12, 13, 1),
+        mark(1, 58, 22, 11, -2),
+        mark(1, 80, 14, 12, 1),
+        mark(1, 94, 12, 13, 1),
     ];
     assert_eq!(rt; coded.marks(), marks.as_slice());
     let views = [
@@ -457,7 +590,7 @@ fn groups_copied_into_a_place(rt: HostRuntime) -> Result<(), Fail> {
         ],
     )?;
     assert_eq!(rt; whole.octets(), text.octets.as_slice());
-    let marks = [turn_mark(2, 84, 22, 11, -2), turn_mark(4, 158, 12, 1, 0)];
+    let marks = [mark(2, 84, 22, 11, -2), mark(4, 158, 12, 1, 0)];
     assert_eq!(rt; whole.marks(), marks.as_slice());
     assert_eq!(rt; whole.group(3), view(4, 8, 158, 12, 1, 1));
     Ok(())

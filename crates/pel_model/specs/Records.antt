@@ -1,5 +1,5 @@
 -- A coded picture as a record: what the layers of H.261 (4.2) carry, without their words.
-use Rattle.std.specs.Prelude.{ℕ, ℤ, Bool, List, Option}
+use Rattle.std.specs.Prelude.{ℕ, ℤ, Bool, List, [], ◌∷◌, ◌++◌, Option}
 use Rattle.pel_model.specs.declared.MbKind.{MbKind}
 
 -- the two components of a vector
@@ -42,3 +42,7 @@ pub record Picture : Type 0 where
 abbrev pub component : Axis → Macroblock → ℤ
 component Across m = m.across
 component Down m = m.down
+
+-- a picture with one group more
+abbrev pub with_group : Picture → Group → Picture
+with_group picture g = record { tr = picture.tr; groups = picture.groups ++ g ∷ [] }

@@ -7,7 +7,7 @@ use Rattle.pel_model.specs.declared.Format.{Format}
 use Rattle.pel_model.specs.declared.MbKind.{MbKind}
 use Rattle.pel_model.specs.declared.Why.TheVariants.{BadQuant}
 use Rattle.pel_model.specs.Codes.{has_vector, has_cbp}
-use Rattle.pel_model.specs.Records.{Across, Down, Block, Macroblock, Group, Picture}
+use Rattle.pel_model.specs.Records.{Across, Down, Block, Macroblock, Group, Picture, with_group}
 use Rattle.pel_model.specs.Text.{coded_block_pattern, address_of, macroblock_text, macroblocks_text}
 use Rattle.pel_model.specs.Valid.{IsQuantiser, IsValidMacroblock, AddressesRise, IsValidGroup, IsValidSoFar, group_numbers, group_count}
 use Rattle.pel_model.specs.Spelling.{GroupForm, LeftOut, Sent, GroupFits, GroupsFit}
@@ -20,7 +20,7 @@ use Rattle.pel_model.proofs.InsideElements.{inside-right}
 use Rattle.picture_laws.specs.Laws.{StandInside}
 use Rattle.pel_model.specs.Elements.{block_elements, blocks_elements, mquant_elements, AreInside}
 use Rattle.picture_laws.specs.Elements.{mvd_element, vector_elements, cbp_elements, macroblock_elements, macroblocks_elements, spare_elements, group_elements, groups_elements, header_elements}
-use Rattle.picture_laws.specs.SoFar.{IsBehind, last_of, group_of, IsGroupSoFar, GroupBegins, StuffingJoins, IsJoined, MacroblockJoins, IsPictureSoFar, with_group, next_number, HeaderBegins, GroupIsLeftOut, GroupIsSent, PictureIsTold, PictureIsAccepted, InsideStands, in_effect}
+use Rattle.picture_laws.specs.SoFar.{IsBehind, last_of, group_of, IsGroupSoFar, GroupBegins, StuffingJoins, IsJoined, MacroblockJoins, IsPictureSoFar, next_number, HeaderBegins, GroupIsLeftOut, GroupIsSent, PictureIsTold, PictureIsAccepted, InsideStands, in_effect}
 use Rattle.pel_model.specs.Marks.{quant_behind}
 use Rattle.picture_laws.proofs.Slots.{Takes, IsStep}
 use Rattle.picture_laws.proofs.Chains.{Chain, words, goes-walk}

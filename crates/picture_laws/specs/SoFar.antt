@@ -1,8 +1,9 @@
--- A picture as far as its elements were read: what a reader that goes from left to right knows of its record.
+-- A picture as far as its elements were read: what a reader that goes from left to right knows of its record. The proof of
+-- a parser rests on this; a parser's contract does not.
 use Rattle.std.specs.Prelude.{◌≡◌, ℕ, ◌<◌, ◌≤◌, Bool, false, ℤ, pos, nat_abs, List, [], ◌∷◌, ◌++◌, length, get_or, Option, Some, None}
 use Rattle.pel_model.specs.declared.Format.{Format}
 use Rattle.pel_model.specs.Codes.{has_vector}
-use Rattle.pel_model.specs.Records.{Axis, Macroblock, Group, Picture, component}
+use Rattle.pel_model.specs.Records.{Axis, Macroblock, Group, Picture, component, with_group}
 use Rattle.pel_model.specs.Marks.{quant_behind}
 use Rattle.pel_model.specs.Text.{address_of, macroblock_text, macroblocks_text}
 use Rattle.pel_model.specs.Valid.{IsValidGroup, IsValidSoFar, IsValid, group_numbers, group_count}
@@ -114,9 +115,6 @@ pub record IsPictureSoFar (format : Format) (picture : Picture) (es : List Eleme
   pub fits : GroupsFit forms picture.groups
   pub elements : es ≡ header_elements format free spares picture.tr ++ groups_elements forms picture.groups
   pub valid : IsValidSoFar format picture
-
-abbrev pub with_group : Picture → Group → Picture
-with_group picture g = record { tr = picture.tr; groups = picture.groups ++ g ∷ [] }
 
 -- the number of the group that comes next
 abbrev pub next_number : Format → Picture → ℕ

@@ -56,9 +56,9 @@ loop-number-preserved c =
     subst (λ (m : ℕ). c.match-group_in.whole ≡ coding Cif (record { tr = c.args.tr; groups = groups_shown c.args.place p m })) last
     (elim c.match-group_in.branch [
       | in-Some w ↦ w.whole-is ∙ showing-copied c.args.place c.args.tr c.args.picture.now c.loop-number.whole w.copy_group.new.self (n - 1) n w.in-Some.i p
-          (omega arith) (omega arith) (sym c.group_in.ensures ∙ w.in-Some.is) valid picture_is here w.copy_group.ensures
+          (omega arith) (omega arith) (sym c.group_in.ensures ∙ w.in-Some.is) picture_is here w.copy_group.ensures.picture
       | in-None w ↦ w.whole-is ∙ showing-empty c.args.place c.args.tr c.loop-number.whole w.empty_group.new.self (n - 1) n p
-          (omega arith) (omega arith) (sym c.group_in.ensures ∙ w.in-None.is) here w.empty_group.ensures
+          (omega arith) (omega arith) (sym c.group_in.ensures ∙ w.in-None.is) here w.empty_group.ensures.picture
     ])
 
 pub returns : goal.returns

@@ -5,10 +5,11 @@ use Rattle.pel_model.specs.declared.Mark.{Mark}
 use Rattle.pel_model.specs.Valid.{group_count, limit}
 use Rattle.pel_model.specs.Walk.{after, Goes}
 use Rattle.pel_model.specs.Grammar.{picture}
-use Rattle.h261_pic.specs.Coded.{Coding, coding, grown, emptied, bits_at, next_number, IsGroupText}
+use Rattle.h261_pic.specs.Coded.{Coding, coding, grown, next_number}
 use Rattle.h261_pic.proofs.LeftOutGroups.{numbered}
 use Rattle.h261_pic.proofs.PictureReading.{header-read, PictureSoFar, first-groups, group-comes, fails-later, stands-next, MayAdd, may-add, group-added, all-read, begun-text, at-start, groups-within}
 use Rattle.h261_pic.proofs.parser.read_picture.Goals as goal
+use Rattle.h261_pic.specs.Adding.{emptied, bits_at, IsGroupText}
 
 pub returns-in_err-another-clause-refused : goal.returns-in_err-another-clause-refused
 returns-in_err-another-clause-refused c =

@@ -1,11 +1,12 @@
 use Rattle.std.proofs.Common.{◌≡◌, ◌+◌, ◌-◌, ◌*◌, ◌≤◌, sym, ◌∙◌, ap, subst, ℕ, slice_index, arith, length, length-append}
-use Rattle.h261_pic.specs.Coded.{Coding, grown, bits_at, next_number}
+use Rattle.h261_pic.specs.Coded.{Coding, grown, next_number}
 use Rattle.h261_pic.specs.Sound.{written}
 use Rattle.h261_pic.proofs.Grows.{quant-fits, marks-fit}
 use Rattle.h261_pic.proofs.GrownFields.{few_groups, MayGrow, header-room, IsGrown, sound-grown}
 use Rattle.pel_bits.specs.Buffer.{Buffer}
 use Rattle.pel_model.specs.Valid.{group_numbers, group_count}
 use Rattle.h261_pic.proofs.coded.Coded.add_group.Goals as goal
+use Rattle.h261_pic.specs.Adding.{bits_at}
 
 pub push_group_header-requires-clause-quant_fits : goal.push_group_header-requires-clause-quant_fits
 push_group_header-requires-clause-quant_fits c = quant-fits _ _ c.args.quant (bits_at c.args.source.now c.args.marks.now) c.args.marks.now c.requires.text

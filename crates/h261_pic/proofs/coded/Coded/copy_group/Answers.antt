@@ -1,12 +1,13 @@
 use Rattle.std.proofs.Common.{◌≡◌, ℕ, ◌+◌, ◌-◌, ◌<◌, ◌≤◌, Bool, List, length, take, drop, slice_index_or, sym, ◌∙◌, ap, ap₂, subst, arith}
 use Rattle.h261_pic.specs.declared.coded.GroupView.{GroupView}
-use Rattle.h261_pic.specs.Coded.{Coding, HasPicture, IsGroupText, grown, group_of, macroblock_bits, marks_in, bits_at, next_number}
-use Rattle.h261_pic.proofs.Grows.{HoldsMarks, group-marks, copied-text}
+use Rattle.h261_pic.specs.Coded.{Coding, HasPicture, grown, view_of, macroblock_bits, marks_in, next_number}
+use Rattle.h261_pic.proofs.Grows.{HoldsMarks, group-marks, copied-text, copied-added}
 use Rattle.h261_pic.proofs.GrownFields.{few_groups}
 use Rattle.h261_pic.proofs.PlacedMarks.{LieWithin}
 use Rattle.pel_model.specs.declared.Mark.{Mark}
 use Rattle.h261_pic.proofs.coded.Coded.copy_group.Goals as goal
 use Rattle.h261_pic.proofs.coded.Coded.copy_group.Goals.{After-from-2}
+use Rattle.h261_pic.specs.Adding.{IsGroupText, bits_at}
 
 abbrev no_view : GroupView
 no_view = record { number = 0; quant = 0; from = 0; len = 0; first_mark = 0; marks = 0 }
@@ -16,8 +17,8 @@ record Parts (c : After-from-2) : Type 0 where
   has : HasPicture c.args.from.now
   views : c.deref.result.now ≡ c.args.from.now.groups
   marks : c.deref-2.result.now ≡ c.args.from.now.marks
-  first : c.from-first.result ≡ (group_of c.args.from.now c.args.i).first_mark
-  count : c.from-2.result ≡ (group_of c.args.from.now c.args.i).marks
+  first : c.from-first.result ≡ (view_of c.args.from.now c.args.i).first_mark
+  count : c.from-2.result ≡ (view_of c.args.from.now c.args.i).marks
   few : length c.args.from.now.marks ≤ 396
 
 parts : (c : After-from-2) → Parts c
@@ -42,7 +43,7 @@ part-is all all' first first' count count' all_are first_is count_is =
 slice-is : (c : After-from-2) → take (c.from-first.result + c.from-2.result - c.from-first.result) (drop c.from-first.result c.deref-2.result.now) ≡ marks_in c.args.from.now c.args.i
 slice-is c =
     let p = parts c in
-    let view = group_of c.args.from.now c.args.i in
+    let view = view_of c.args.from.now c.args.i in
     part-is c.deref-2.result.now c.args.from.now.marks c.from-first.result view.first_mark c.from-2.result view.marks p.marks p.first p.count
 
 holds : (c : After-from-2) → HoldsMarks c.args.from.now c.args.i
@@ -88,7 +89,7 @@ add_group-requires-clause-text c =
     let bits_are : c.bits.result ≡ c.args.from.now.bits = c.bits.ensures ∙ ap (λ (k : Coding). k.bits) c.from.view_is in
     let number = next_number c.args.self.now in
     let ms = take (c.from-first.result + c.from-2.result - c.from-first.result) (drop c.from-first.result c.deref-2.result.now) in
-    same_group_text c.args.self.now number (slice_index_or c.deref.result.now c.args.i no_view).quant (group_of c.args.from.now c.args.i).quant
+    same_group_text c.args.self.now number (slice_index_or c.deref.result.now c.args.i no_view).quant (view_of c.args.from.now c.args.i).quant
     (bits_at c.bits.result ms) (macroblock_bits c.args.from.now c.args.i) ms (marks_in c.args.from.now c.args.i)
     (ap (λ (vs : List GroupView). (slice_index_or vs c.args.i no_view).quant) (parts b).views)
     (found c.bits.result c.args.from.now c.args.i ms bits_are (slice-is b) (holds b)) (slice-is b)
@@ -99,10 +100,14 @@ same_grown : (c : Coding) (quant quant' : ℕ) (bits bits' : List Bool) (marks m
 same_grown c quant quant' bits bits' marks marks' quant_is bits_are marks_are =
     ap (λ (q : ℕ). grown c q bits marks) quant_is ∙ ap₂ (grown c quant') bits_are marks_are
 
-pub returns : goal.returns
-returns c =
-    let b = (goal.at.returns c).After-from-2 in
+pub returns-clause-grown : goal.returns-clause-grown
+returns-clause-grown c =
+    let b = (goal.at.returns-clause-grown c).After-from-2 in
     let bits_are : c.bits.result ≡ c.args.from.now.bits = c.bits.ensures ∙ ap (λ (k : Coding). k.bits) c.from.view_is in
     c.add_group.ensures
     ∙ same_grown c.args.self.now _ _ _ _ _ _ (ap (λ (vs : List GroupView). (slice_index_or vs c.args.i no_view).quant) (parts b).views)
     (found c.bits.result c.args.from.now c.args.i _ bits_are (slice-is b) (holds b)) (slice-is b)
+
+pub returns-clause-picture : goal.returns-clause-picture
+returns-clause-picture c =
+    λ p q old_is from_is. copied-added c.args.self.now c.args.from.now _ p q c.args.i c.requires.there old_is from_is (returns-clause-grown c)
