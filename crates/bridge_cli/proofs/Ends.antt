@@ -9,11 +9,11 @@ use Rattle.std.specs.Result.{IsErrAnd}
 use Rattle.io_edge.specs.Causes.{Rose}
 use Rattle.bridge_cli.specs.declared.status.Status.{Status}
 use Rattle.bridge_cli.specs.declared.status.Status.TheVariants.{Done, Usage, ReadFault, WriteFault, NoMemory, Unsupported}
-use Rattle.bridge_cli.specs.Ends.{HasNoFirstForm}
+use Rattle.bridge_cli.specs.Ends.{HasNoFirstForm, TakesAtMostForm}
 use Rattle.bridge_cli.specs.FirstForm.{FirstForm, IsFirstForm, packet_bits}
 use Rattle.bridge_cli.specs.OnePacket.{answer, one_packet}
 use Rattle.bridge_cli.specs.Pieces.{head_octets, IsHead}
-use Rattle.bridge_cli.specs.Taken.{TakesAll, TakesForm, TakesAtMostForm, shown}
+use Rattle.bridge_cli.specs.Taken.{TakesAll, TakesForm, shown}
 use Rattle.bridge_cli.proofs.Forms.{length-form, head-of-front, same-size}
 use Rattle.h261_pic.specs.Coded.{Coding}
 use Rattle.pel_model.specs.declared.Quad.{Quad}

@@ -45,9 +45,12 @@ ReadsForm before after f = (file : List ℕ) × Consumes before.left after.left 
 abbrev pub most_octets : ℕ
 most_octets = 65563
 
--- no more octets were read
+-- no more octets were taken
+abbrev pub TakesAtMostForm : (old new : Option (List ℕ)) → Type 0
+TakesAtMostForm old new = (taken : List ℕ) × (length taken ≤ most_octets) × Consumes old new taken
+
 abbrev pub ReadsAtMostForm : Outside → Outside → Type 0
-ReadsAtMostForm before after = (taken : List ℕ) × (length taken ≤ most_octets) × Consumes before.left after.left taken
+ReadsAtMostForm before after = TakesAtMostForm before.left after.left
 
 -- nothing was written
 abbrev pub WritesNothing : Outside → Outside → Type 0

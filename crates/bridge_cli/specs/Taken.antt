@@ -1,6 +1,6 @@
 -- Inner contracts alone use this; nothing here has to be believed.
 -- What was taken from a source, whose octets were `old` and are `new` and whose faults were `before` and are `now`.
-use Rattle.std.specs.Prelude.{◌≡◌, ℕ, ◌<◌, ◌≤◌, List, length, Option, Some, Result, Ok, Err}
+use Rattle.std.specs.Prelude.{◌≡◌, ℕ, ◌<◌, List, length, Option, Some, Result, Ok, Err}
 use Rattle.std.specs.Io.KnownBytes.{Consumes, IsAtEnd}
 use Rattle.io_edge.specs.Causes.{Rose}
 use Rattle.h261_pic.specs.Coded.{Coding, coding}
@@ -8,7 +8,7 @@ use Rattle.pel_model.specs.declared.Format.TheVariants.{Cif}
 use Rattle.pel_model.specs.Regions.{shown_in}
 use Rattle.bridge_cli.specs.declared.status.Status.{Status}
 use Rattle.bridge_cli.specs.declared.status.Status.TheVariants.{ReadFault, Unsupported}
-use Rattle.bridge_cli.specs.Ends.{HasNoFirstForm, most_octets}
+use Rattle.bridge_cli.specs.Ends.{HasNoFirstForm, TakesAtMostForm}
 use Rattle.bridge_cli.specs.FirstForm.{FirstForm, IsFirstForm}
 
 -- fewer octets than the slice has
@@ -25,10 +25,6 @@ TakesAll old new before now slice (Err _) = ⊥
 -- the whole picture that is shown for a file of the first form
 abbrev pub shown : FirstForm → Coding
 shown f = coding Cif (shown_in f.place f.step f.picture)
-
--- as many octets as the longest file of the form has
-abbrev pub TakesAtMostForm : (old new : Option (List ℕ)) → Type 0
-TakesAtMostForm old new = (taken : List ℕ) × (length taken ≤ most_octets) × Consumes old new taken
 
 -- a file of the first form was taken, and its picture composed; or there is none, or the source failed
 abbrev pub TakesForm : (old new : Option (List ℕ)) → (before now : ℕ) → Coding → Result ℕ Status → Type 0

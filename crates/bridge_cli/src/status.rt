@@ -7,7 +7,7 @@ ghost use Rattle.bridge_cli.specs.Ends.{number_of_status};
 /// How a run ends.
 #[derive(Clone, Copy, Debug, PartialEq, Eq)]
 pub enum Status {
-    /// The input was read to its end, and its answer was written.
+    /// The file was read up to its entry E and no further, and its answer was written.
     Done,
     /// The words ask for nothing that the program does.
     Usage,

@@ -5,7 +5,6 @@ ghost use Rattle.std.specs.Prelude.{◌≤◌};
 use crate::run::run;
 use crate::status::Status;
 use io_edge::{MemSink, MemSource};
-use pel_bits::Bits;
 use std::alloc::{AllocError, Global};
 use std::test::Fail;
 
@@ -45,26 +44,66 @@ fn picture(alloc: Global, sent: Sent) -> Result<Vec<bool>, AllocError> {
     }
     push_spares(&mut bits, sent.padded)?;
     let mut coefficients = sent.coefficients;
-    for group in [1, 3, 5] {
-        for (value, width) in [(1, 16), (group, 4), (8, 5)] {
-            push_field(&mut bits, value, width)?;
-        }
-        push_spares(&mut bits, sent.padded)?;
-        for address in 1..34 {
-            if sent.padded {
-                push_field(&mut bits, 0b000_0000_1111, 11)?;
-            }
-            if sent.last_inter && group == 5 && address == 33 {
-                push_field(&mut bits, 0b11_1010_1010, 10)?;
-            } else {
-                push_intra(&mut bits, &mut coefficients)?;
-            }
-        }
+    for (number, is_last) in [(1, false), (3, false), (5, true)] {
+        push_group(&mut bits, sent, number, is_last, &mut coefficients)?;
     }
     if sent.padded {
         push_field(&mut bits, 0, 7)?;
     }
     Ok(bits)
+}
+
+// The CIF picture with this TR that shows a picture where groups have these numbers, and nothing elsewhere.
+fn composed(
+    alloc: Global,
+    sent: Sent,
+    tr: u32,
+    numbers: [u32; 3],
+) -> Result<Vec<bool>, AllocError> {
+    let mut bits = Vec::new(alloc);
+    for (value, width) in [(0x10, 20), (tr, 5), (7, 6), (0, 1)] {
+        push_field(&mut bits, value, width)?;
+    }
+    let strict = Sent {
+        padded: false,
+        ..sent
+    };
+    let mut coefficients = sent.coefficients;
+    for number in 1..13 {
+        if numbers.contains(&number) {
+            push_group(&mut bits, strict, number, false, &mut coefficients)?;
+        } else {
+            for (value, width) in [(1, 16), (number, 4), (1, 5), (0, 1)] {
+                push_field(&mut bits, value, width)?;
+            }
+        }
+    }
+    Ok(bits)
+}
+
+// A group with GQUANT 8 and the next 33 macroblocks of a picture.
+fn push_group(
+    bits: &mut Vec<bool>,
+    sent: Sent,
+    number: u32,
+    is_last: bool,
+    coefficients: &mut u32,
+) -> Result<(), AllocError> {
+    for (value, width) in [(1, 16), (number, 4), (8, 5)] {
+        push_field(bits, value, width)?;
+    }
+    push_spares(bits, sent.padded)?;
+    for address in 1..34 {
+        if sent.padded {
+            push_field(bits, 0b000_0000_1111, 11)?;
+        }
+        if sent.last_inter && is_last && address == 33 {
+            push_field(bits, 0b11_1010_1010, 10)?;
+        } else {
+            push_intra(bits, coefficients)?;
+        }
+    }
+    Ok(())
 }
 
 // Two spare bytes, or none, with the bits that tell it.
@@ -90,11 +129,18 @@ fn push_intra(bits: &mut Vec<bool>, coefficients: &mut u32) -> Result<(), AllocE
     Ok(())
 }
 
-// A packet with these bits and as many zeros behind them as EBIT tells. V is 1.
+// A packet of a lane with these bits.
 fn packet(alloc: Global, bits: &[bool]) -> Result<Vec<u8>, AllocError> {
+    packet_of(alloc, 0, b"\0\0\0\0", bits)
+}
+
+// A packet with the marker bit, this timestamp and this SSRC, and as many zeros behind the bits as EBIT tells. V is 1.
+fn packet_of(alloc: Global, stamp: u32, ssrc: &[u8], bits: &[bool]) -> Result<Vec<u8>, AllocError> {
     let ebit = (8 - bits.len() % 8) % 8;
     let mut packet = Vec::new(alloc);
-    packet.extend_from_slice(b"\x80\x9f\0\0\0\0\0\0\0\0\0\0")?;
+    packet.extend_from_slice(b"\x80\x9f\0\0")?;
+    packet.extend_from_slice(&stamp.to_be_bytes())?;
+    packet.extend_from_slice(ssrc)?;
     packet.push(4 * ebit as u8 + 1)?;
     packet.extend_from_slice(b"\0\0\0")?;
     for eight in bits.chunks(8) {
@@ -105,6 +151,16 @@ fn packet(alloc: Global, bits: &[bool]) -> Result<Vec<u8>, AllocError> {
         packet.push(octet.wrapping_shl((8 - eight.len()) as u32))?;
     }
     Ok(packet)
+}
+
+// What is to be written for a tick of so many steps: one framed packet.
+fn framed(alloc: Global, step: u32, bits: &[bool]) -> Result<Vec<u8>, AllocError> {
+    let packet = packet_of(alloc, step.wrapping_mul(3003), b"H261", bits)?;
+    let mut frame = Vec::new(alloc);
+    frame.push((packet.len() / 256 % 256) as u8)?;
+    frame.push((packet.len() % 256) as u8)?;
+    frame.extend_from_slice(&packet)?;
+    Ok(frame)
 }
 
 // The conference file of one lane that sends the grey picture, shown in a place.
@@ -170,64 +226,91 @@ fn replay(alloc: Global, file: Vec<u8>) -> Result<Ended, Fail> {
     run_words(alloc, &["replay"], input, output)
 }
 
-// The octets as the digits of a number to the base 31, modulo 2 ^ 32. What is wanted comes from a model of the bridge
-// that was written apart from it.
-fn digest(octets: &[u8]) -> u32 {
-    let mut digest = 0u32;
-    for octet in octets {
-        digest = digest.wrapping_mul(31).wrapping_add(u32::from(*octet));
-    }
-    digest
-}
+/// The groups of the four places (H.261, 4.2.2), by the digits of the places.
+const PLACES: [(u8, [u32; 3]); 4] = [
+    (b'1', [1, 3, 5]),
+    (b'2', [2, 4, 6]),
+    (b'3', [7, 9, 11]),
+    (b'4', [8, 10, 12]),
+];
 
 #[test]
-fn grey_top_left(rt: HostRuntime) -> Result<(), Fail> {
+fn grey_in_each_place(rt: HostRuntime) -> Result<(), Fail> {
     let alloc = rt.alloc();
-    let file = conference(alloc, b"1")?;
-    assert_eq!(rt; file.len(), 863);
-    let ended = replay(alloc, file)?;
-    let written = ended.written;
-    assert_eq!(rt; ended.status, Status::Done);
-    assert_eq!(rt; written.len(), 866);
-    // the length, the fixed header with marker bit, payload type 31, timestamp 3003 and SSRC H261, and EBIT 5
-    let head = b"\x03\x60\x80\x9f\0\0\0\0\x0b\xbbH261\x15\0\0\0";
-    assert_eq!(rt; &written[..18], head.as_slice());
-    assert_eq!(rt; digest(&written), 4_176_692_136);
-    // the picture header with TR 1 and PTYPE 000111, and the header of group 1 with GQUANT 8
-    let picture = Bits::new(&written[18..], 0, 6779);
-    assert_eq!(rt; picture.number(0, 32), 0x0001_008e);
-    assert_eq!(rt; picture.number(32, 26), 1 << 10 | 1 << 6 | 8 << 1);
-    Ok(())
-}
-
-#[test]
-fn grey_bottom_right(rt: HostRuntime) -> Result<(), Fail> {
-    let alloc = rt.alloc();
-    let output = MemSink::reserve(alloc, 1000, Vec::new(alloc), 7)?;
-    let input = MemSource::new(conference(alloc, b"4")?, Vec::new(alloc), 1);
-    let ended = run_words(alloc, &["replay"], input, output)?;
-    let written = ended.written;
-    assert_eq!(rt; ended.status, Status::Done);
-    assert_eq!(rt; written.len(), 866);
-    let picture = Bits::new(&written[18..], 0, 6779);
-    assert_eq!(rt; digest(&written), 1_631_872_599);
-    for (at, group) in [(214, 8), (2411, 10), (4608, 12)] {
-        assert_eq!(rt; picture.number(at, 26), 1 << 10 | group << 6 | 8 << 1);
+    for (place, numbers) in PLACES {
+        let file = conference(alloc, &[place])?;
+        assert_eq!(rt; file.len(), 863);
+        // a source that gives an octet at a time, and a sink that takes seven
+        let output = MemSink::reserve(alloc, 1000, Vec::new(alloc), 7)?;
+        let input = MemSource::new(file, Vec::new(alloc), 1);
+        let ended = run_words(alloc, &["replay"], input, output)?;
+        let want = framed(alloc, 1, &composed(alloc, GREY, 1, numbers)?)?;
+        assert_eq!(rt; (ended.status, want.len()), (Status::Done, 866));
+        assert_eq!(rt; ended.written, want);
     }
     Ok(())
 }
 
+// How a run on the grey file with one octet changed ended.
+fn replay_with(alloc: Global, at: usize, octet: u8) -> Result<Ended, Fail> {
+    let mut file = conference(alloc, b"1")?;
+    if let Some(changed) = file.get_mut(at) {
+        *changed = octet;
+    }
+    replay(alloc, file)
+}
+
 #[test]
-fn two_lanes_are_unsupported(rt: HostRuntime) -> Result<(), Fail> {
+fn what_is_not_of_the_form_is_unsupported(rt: HostRuntime) -> Result<(), Fail> {
     let alloc = rt.alloc();
-    let packet = packet(alloc, &picture(alloc, GREY)?)?;
-    for (lanes, lane) in [(2, 0), (2, 1), (1, 1), (1, 2)] {
-        let ended = replay(alloc, conference_of(alloc, b"1", lanes, lane, &packet)?)?;
+    for (at, octet, what) in [
+        (0, b'h', "name"),
+        (8, 2, "version"),
+        (9, 2, "lanes"),
+        (10, b'D', "entry C"),
+        (11, 8, "length of the line"),
+        (18, b'0', "place 0"),
+        (18, b'5', "place 5"),
+        (20, b'1', "lane of the line"),
+        (21, b'Q', "entry P"),
+        (22, 1, "lane of the packet"),
+        (23, 0, "length of the packet"),
+        (25, 0x40, "version of RTP"),
+        (25, 0xa0, "padding"),
+        (25, 0x81, "contributing source"),
+        (26, 0x1f, "marker bit"),
+        (37, 0x3d, "SBIT"),
+        (44, 0x8e, "picture type"),
+        (860, b't', "entry T"),
+        (861, 0, "step 0"),
+        (861, 32, "step 32"),
+        (862, b'F', "entry E"),
+    ] {
+        let ended = replay_with(alloc, at, octet)?;
         assert_eq!(rt;
             (ended.status, ended.written.len()),
             (Status::Unsupported, 0),
-            "{lanes} lanes, packet of lane {lane}"
+            "{what}"
         );
+    }
+    Ok(())
+}
+
+#[test]
+fn what_is_not_looked_at(rt: HostRuntime) -> Result<(), Fail> {
+    let alloc = rt.alloc();
+    for (at, octet, step) in [
+        (26, 0x80, 1),
+        (27, 5, 1),
+        (33, 7, 1),
+        (37, 0x01, 1),
+        (38, 0xff, 1),
+        (861, 31, 31),
+    ] {
+        let ended = replay_with(alloc, at, octet)?;
+        let want = framed(alloc, step, &composed(alloc, GREY, step, [1, 3, 5])?)?;
+        assert_eq!(rt; ended.status, Status::Done);
+        assert_eq!(rt; ended.written, want);
     }
     Ok(())
 }
@@ -243,20 +326,15 @@ fn other_refreshes(rt: HostRuntime) -> Result<(), Fail> {
         coefficients: 1431,
         ..GREY
     };
-    // the bits of a picture and the octets of its packet; the octets that are written, and their digest
-    let rows = [
-        (padded, 7713, 981, 866, 4_176_692_136),
-        (longest, 10_838, 1371, 1402, 1_448_768_474),
-    ];
-    for (sent, bits, octets, length, want) in rows {
+    // the bits of a picture and the octets of its packet, and the octets that are written
+    for (sent, bits, octets, written) in [(padded, 7713, 981, 866), (longest, 10_838, 1371, 1402)] {
         let picture = picture(alloc, sent)?;
         let packet = packet(alloc, &picture)?;
         assert_eq!(rt; (picture.len(), packet.len()), (bits, octets));
         let ended = replay(alloc, conference_of(alloc, b"1", 1, 0, &packet)?)?;
-        assert_eq!(rt;
-            (ended.status, ended.written.len(), digest(&ended.written)),
-            (Status::Done, length, want)
-        );
+        let want = framed(alloc, 1, &composed(alloc, sent, 1, [1, 3, 5])?)?;
+        assert_eq!(rt; (ended.status, want.len()), (Status::Done, written));
+        assert_eq!(rt; ended.written, want);
     }
     Ok(())
 }
@@ -309,9 +387,9 @@ fn a_file_is_read_to_its_end_entry(rt: HostRuntime) -> Result<(), Fail> {
     let mut longer = conference(alloc, b"1")?;
     longer.extend_from_slice(b"more")?;
     let ended = replay(alloc, longer)?;
+    let want = framed(alloc, 1, &composed(alloc, GREY, 1, [1, 3, 5])?)?;
     assert_eq!(rt; (ended.status, ended.left), (Status::Done, 4));
-    assert_eq!(rt; ended.written.len(), 866);
-    assert_eq!(rt; digest(&ended.written), 4_176_692_136);
+    assert_eq!(rt; ended.written, want);
     Ok(())
 }
 
