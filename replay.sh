@@ -7,7 +7,7 @@ conference=${1:-$top/examples/grey_top_left.conf}
 output=${2:-composed.rtp}
 part=$output.part
 program=$top/crates/bridge_cli/out/bridge_cli
-# as old as the sources that the program was built from
+# its time is the moment at which the last build began
 built=$top/crates/bridge_cli/out/replay.built
 
 say() {
@@ -30,7 +30,7 @@ build() {
 
 meaning() {
     case $1 in
-        2) echo "the words ask for nothing" ;;
+        2) echo "the words ask for no job" ;;
         3) echo "input failed" ;;
         4) echo "output failed" ;;
         9) echo "no memory" ;;

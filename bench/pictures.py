@@ -1,6 +1,6 @@
 """Writes framed pictures that look like what encoders send: pictures.py FORMAT COUNT SEED DAMAGED > FILE
 
-FORMAT is qcif or cif. With DAMAGED 1 a bit of each picture is turned, or its end is cut off, so that most are at fault.
+FORMAT is qcif or cif. With DAMAGED 1 a bit of each picture is turned, or its end is cut off, so that about half of them are at fault.
 A frame is a word of 32 bits, whose first is 1 for CIF and whose others are the number of the picture's bits, and the
 octets of these.
 """

@@ -107,7 +107,7 @@ Fails ws len place Extra =
 abbrev pub FailsAt : List ℕ → ℕ → LineWhy → Type 0
 FailsAt line place why = Fails (words line) (length line) place why
 
--- a line says one command, or has one first fault, and never both
+-- a line says at most one command, has at most one first fault, and never both
 pub record OneAnswer : Type 0 where
   pub one_command : (line : List ℕ) (c d : Command) → Says line c → Says line d → c ≡ d
   pub one_fault :

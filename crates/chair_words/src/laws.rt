@@ -9,7 +9,7 @@ pub fn written_lines_are_read()
     ensures { (command : Command) → IsTrue (has_sayable_lane command) → Says (line_of command) command }
 {}
 
-/// A line says one command, or has one first fault, and never both.
+/// A line says at most one command, has at most one first fault, and never both. `read_line` finds one of the two.
 pub fn one_answer()
     ensures { OneAnswer }
 {}

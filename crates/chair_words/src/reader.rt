@@ -184,7 +184,8 @@ fn answer(line: &[u8]) -> Result<Command, LineFault>
 }
 
 /// The command that a line of at most 255 bytes says. Words are parted by spaces, tabs and carriage returns. The first
-/// word is the command's name, byte for byte; then come its numbers, each of one to three digits.
+/// word is the command's name, byte for byte; then come its numbers, each of one to three digits. Else the line's first
+/// fault, with its place in bytes.
 pub fn read_line(line: &[u8]) -> Result<Command, LineFault>
     requires { length line.now ≤ 255 }
     ensures command { IfOk result (λ c. Says line.now c) }

@@ -25,7 +25,8 @@ use vector::vector_after;
 
 /// Reads one macroblock, from its MBA on, and gives its mark, whose place counts from the reader's first bit. `state` is
 /// that behind a group header or a macroblock of the group, and becomes that behind this one. Stuffing stands before the
-/// call: here it is answered NoCode.
+/// call: here it is answered NoCode. `group` is the group's number (GN), one of the format; vectors are in luminance
+/// samples, -15 to 15.
 ///
 /// At a fault, NoCode, Cut, BadAddress, BadQuant, BadVector, VectorOutside, BadDc, BadLevel or TooMany, `state` is as
 /// before, and the reader stands at the element at fault.

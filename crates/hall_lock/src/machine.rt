@@ -17,6 +17,7 @@ pub trait Machine {
 
     ghost steps: { Self → Self.Call → Self.Reply → Self → Type 0 };
 
+    /// Makes one step and gives its reply. The call has to fit the shape, which stays.
     fn step(&mut self, call: Self::Call) -> Self::Reply
         requires { fits (shape self.old) call }
         ensures { steps self.old call result self.new };

@@ -10,7 +10,7 @@ use std::marker::Brand;
 use std::snapshot::Snapshot;
 use std::sync::Wait;
 
-/// How often a caller looks for its turn before it sleeps.
+/// How often a caller looks again for its turn before it sleeps.
 const ROUNDS: u32 = 64;
 
 /// Draws the next ticket, or answers `None` where all turns are drawn.

@@ -28,6 +28,7 @@ impl<R> Model for ReadEdge<R> {
 }
 
 impl<R: Read> ReadEdge<R> {
+    /// A source over this reader, with no faults yet.
     pub fn new(r: R) -> ReadEdge<R>
         ensures { result ≡ record { inner = r; faults = 0 } }
     {
@@ -73,6 +74,7 @@ impl<W> Model for WriteEdge<W> {
 }
 
 impl<W: Write> WriteEdge<W> {
+    /// A sink over this writer, with no faults yet.
     pub fn new(w: W) -> WriteEdge<W>
         ensures { result ≡ record { inner = w; faults = 0 } }
     {

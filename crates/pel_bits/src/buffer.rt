@@ -32,7 +32,7 @@ impl Model for BitBuf {
 }
 
 impl BitBuf {
-    /// An empty buffer with room for `bits` bits. It takes all its memory here.
+    /// An empty buffer with room for `bits` bits. It takes all its memory here; NoMemory where there is none.
     pub fn with_capacity(alloc: Global, bits: u32) -> Result<BitBuf, NoMemory>
         ensures { IfOk result (λ buffer. buffer ≡ record { list = []; capacity = bits }) }
     {
@@ -73,7 +73,7 @@ impl BitBuf {
         &self.octets[..(self.len as usize + 7) / 8]
     }
 
-    /// Appends the last `width` bits of `value`, the most significant one first.
+    /// Appends the last `width` bits of `value`, 32 at most, the most significant one first. There has to be room.
     pub fn push(&mut self, value: u32, width: u32)
         requires width { width ≤ 32 }
         requires fits { value < 2 ^ width }
@@ -85,7 +85,7 @@ impl BitBuf {
         self.len += width;
     }
 
-    /// Appends a slice.
+    /// Appends a slice. There has to be room.
     pub fn append(&mut self, bits: Bits<'_>)
         requires { length self.old.list + length bits ≤ self.old.capacity }
         ensures value { self.new ≡ record self.old { list = self.old.list ++ bits.entry } }

@@ -61,7 +61,7 @@ impl<'a> Bits<'a> {
         self.len
     }
 
-    /// The number that `width` bits from bit `from` on spell.
+    /// The number that `width` bits, 32 at most, from bit `from` on spell.
     #[inline]
     pub fn number(&self, from: u32, width: u32) -> u32
         requires width { width ≤ 32 }

@@ -1,4 +1,5 @@
--- The input forms of a picture: what a sender may add to the strict text (H.261, 4.2), and what it may leave out.
+-- The input forms of a picture: what a sender may add to the strict text (H.261, 4.2). Beyond the standard this project
+-- also takes pictures without the groups that send nothing, and with zeros up to the end of an octet.
 use Rattle.std.specs.Prelude.{◌≡◌, ℕ, zero, suc, ◌<◌, Bool, true, false, List, [], ◌∷◌, ◌++◌, replicate, get_or, drop, Option, Some, None}
 use Rattle.pel_model.specs.declared.Format.{Format}
 use Rattle.pel_model.specs.declared.Format.TheVariants.{Qcif, Cif}

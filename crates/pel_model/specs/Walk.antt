@@ -84,7 +84,7 @@ abbrev pub Reads : {E : Type 0} → (List E → List Bool × ℕ → Step E) →
 Reads next bits es =
     (end : List Bool × ℕ) × Goes next [] (start bits) es end × (next (after [] es) end ≡ Stop)
 
--- bits are read to their end in one way, or have one first fault, and not both
+-- bits are read to their end in at most one way, have at most one first fault, and not both
 pub record HasOneAnswer {E : Type 0} (next : List E → List Bool × ℕ → Step E) : Type 0 where
   pub one_reading : (bits : List Bool) (es fs : List E) → Reads next bits es → Reads next bits fs → es ≡ fs
   pub one_fault :

@@ -59,7 +59,7 @@ pub enum MbKind {
 /// Why the bits of a picture are refused.
 #[derive(Clone, Copy, Debug, PartialEq, Eq)]
 pub enum Why {
-    /// The bits do not begin with a picture start code, nor with a front of one.
+    /// The bits do not begin with a picture start code, nor are they the front of one.
     NoStart,
     /// The picture type names the other format.
     WrongFormat,

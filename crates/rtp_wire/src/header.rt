@@ -8,8 +8,8 @@ use thiserror::Error;
 /// The octets of the fixed header.
 const FIXED: usize = 12;
 
-/// What an RTP packet says: marker bit, payload type, sequence number, timestamp, synchronization source, and the
-/// payload without the padding behind it.
+/// What an RTP packet says: marker bit, payload type (`kind`, 0 to 127), sequence number, timestamp (`stamp`, for video
+/// 90,000 a second), synchronization source, and the payload without the padding behind it.
 #[derive(Debug, Clone, Copy)]
 pub struct Packet<'a> {
     pub marker: bool,
@@ -35,7 +35,8 @@ pub enum PacketFault {
     BadPadding,
 }
 
-/// Reads an RTP packet. The payload type, the sources and the extension may have any value.
+/// Reads an RTP packet (RFC 3550, 5.1 and 5.3.1), or tells the first refusal that holds. The payload type, the sources
+/// and the extension may have any value.
 #[tactic(auto, unfolding(crate::specs::Rtp::packet_of, crate::specs::Rtp::refusal, crate::specs::Rtp::fields_of))]
 pub fn read_packet(bytes: &[u8]) -> Result<Packet<'_>, PacketFault>
     // Which refusal, or which fields.
@@ -130,7 +131,8 @@ fn without_padding(body: &[u8], is_padded: bool) -> Option<&[u8]>
 /// The payload type of H.261 (RFC 3551, 6).
 const H261: u16 = 31;
 
-/// Writes the fixed header of a packet of H.261 with no sources, no extension and no padding.
+/// Writes the fixed header (RFC 3550, 5.1) of a packet of H.261, payload type 31, with no sources, no extension and no
+/// padding.
 pub fn write_header(marker: bool, seq: u16, stamp: u32, ssrc: u32, out: &mut [u8; 12])
     ensures { out.new ≡ octets_of (plain (record { marker = marker; kind = 31; seq = seq; stamp = stamp; ssrc = ssrc; payload = [] })) }
 {

@@ -1,7 +1,8 @@
--- What inner contracts alone use: nothing here has to be believed. How a lane's rank becomes the greatest.
+-- Inner contracts alone use this; nothing here has to be believed.
+-- How a lane's rank becomes the greatest.
 use Rattle.std.specs.Prelude.{◌≡◌, ◌≢◌, ℕ, ◌-◌, ◌<◌, nat_lt, ◌&&◌, List, slice_index, if◌then◌else◌}
 
--- a rank, where the rank `gone` is taken away from the ranks below it
+-- a rank behind the taking away of the rank `gone`: one less where it is above that
 abbrev pub closed_up : ℕ → ℕ → ℕ
 closed_up gone r = if nat_lt 0 gone && nat_lt gone r then r - 1 else r
 

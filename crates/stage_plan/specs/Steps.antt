@@ -1,5 +1,5 @@
--- What inner contracts alone use: nothing here has to be believed. The stage that a plan has, and what a command makes
--- of the plan.
+-- Inner contracts alone use this; nothing here has to be believed.
+-- The stage that a plan has, and what a command makes of the plan.
 use Rattle.std.specs.Prelude.{◌≡◌, ℕ, nat_lt, Bool, false, Option, Some, None, List, slice_index}
 use Rattle.pel_model.specs.declared.Quad.{Quad}
 use Rattle.pel_model.specs.declared.chair.Command.{Command}

@@ -97,7 +97,7 @@ impl Plan {
     ghost use Rattle.stage_plan.specs.Places.{lane_in, is_pinned, IsInOrder, IsUnmoved, StandsFor};
     ghost use Rattle.stage_plan.specs.Steps.{is_ranked_below, stage_of, Obeys};
 
-    /// The plan of a conference of so many lanes: all places are empty, and none is pinned.
+    /// The plan of a conference of so many lanes, 1 to 16: all places are empty, and none is pinned.
     pub fn new(lanes: u8) -> Plan
         requires low { 1 ≤ lanes }
         requires high { lanes ≤ 16 }

@@ -1,5 +1,5 @@
--- What inner contracts alone use: nothing here has to be believed. The place that a word of a list was found at, and
--- how the words stand in the code.
+-- Inner contracts alone use this; nothing here has to be believed.
+-- The place that a word of a list was found at, and how the words stand in the code.
 use Rattle.std.specs.Prelude.{◌≡◌, ℕ, ◌+◌, ◌-◌, ◌*◌, ◌/◌, ◌^◌, ◌==◌, Bool, List, Result, Ok, Err, if◌then◌else◌, nat_lt, slice_index}
 use Rattle.std.specs.Int.{leading_zeros, w32}
 use Rattle.pel_bits.specs.Bits.{field}

@@ -81,8 +81,8 @@ pub fn mtype(r: &mut Reader<'_>) -> Result<MbKind, Why>
     Ok(KINDS[usize::from(place)])
 }
 
-/// Takes a word of MVD (H.261, 4.2.3.4) and gives the two differences that it stands for, which are equal where it
-/// stands for one. Cut where what is left is the front of a word, else NoCode.
+/// Takes a word of MVD (H.261, 4.2.3.4) and gives the two differences, -30 to 30, that it stands for, which are equal
+/// where it stands for one. Cut where what is left is the front of a word, else NoCode.
 #[inline(always)]
 pub fn mvd(r: &mut Reader<'_>) -> Result<(i8, i8), Why>
     ensures word { (axis : Axis) → TakesWord (Mvd axis) (read (table_rows mvd_table (Mvd axis)) r.old.0) result r.old r.new }
@@ -92,7 +92,8 @@ pub fn mvd(r: &mut Reader<'_>) -> Result<(i8, i8), Why>
     Ok(DIFFERENCES[usize::from(place)])
 }
 
-/// Takes a word of CBP (H.261, 4.2.3.5). Cut where what is left is the front of one, else NoCode.
+/// Takes a word of CBP (H.261, 4.2.3.5) and gives the pattern: 32, 16, 8 and 4 for the luminance blocks, 2 for CB and 1
+/// for CR. Cut where what is left is the front of a word, else NoCode.
 #[inline(always)]
 pub fn cbp(r: &mut Reader<'_>) -> Result<u8, Why>
     ensures { TakesWord Cbp (read (table_rows cbp_table Cbp) r.old.0) result r.old r.new }
