@@ -297,20 +297,20 @@ fn what_is_not_of_the_form_is_unsupported(rt: HostRuntime) -> Result<(), Fail> {
 }
 
 #[test]
-fn what_is_not_looked_at(rt: HostRuntime) -> Result<(), Fail> {
+fn what_else_is_of_the_form(rt: HostRuntime) -> Result<(), Fail> {
     let alloc = rt.alloc();
-    for (at, octet, step) in [
-        (26, 0x80, 1),
-        (27, 5, 1),
-        (33, 7, 1),
-        (37, 0x01, 1),
-        (38, 0xff, 1),
-        (861, 31, 31),
+    for (at, octet, step, what) in [
+        (26, 0x80, 1, "payload type"),
+        (27, 5, 1, "sequence number"),
+        (33, 7, 1, "SSRC"),
+        (37, 0x01, 1, "EBIT 0, which leaves seven zero bits"),
+        (38, 0xff, 1, "rest of the payload header"),
+        (861, 31, 31, "step up to 31"),
     ] {
         let ended = replay_with(alloc, at, octet)?;
         let want = framed(alloc, step, &composed(alloc, GREY, step, [1, 3, 5])?)?;
-        assert_eq!(rt; ended.status, Status::Done);
-        assert_eq!(rt; ended.written, want);
+        assert_eq!(rt; ended.status, Status::Done, "{what}");
+        assert_eq!(rt; ended.written, want, "{what}");
     }
     Ok(())
 }

@@ -26,8 +26,8 @@ pub struct SentGroup {
     pub another: bool,
 }
 
-/// Reads a group behind its start code. `begun` counts the start codes that were read, this one too; `last` is the number of
-/// the group before, 0 where none came.
+/// Reads a group behind its start code. `begun` counts the start codes that were read, this one too; `last` is the number
+/// of the group before, 0 where none came.
 pub fn read_group(
     r: &mut Reader<'_>,
     format: Format,

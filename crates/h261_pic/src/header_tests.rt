@@ -2,28 +2,13 @@
 
 use crate::coming::Coming::{End, Group, Macroblock, Stuffing};
 use crate::coming::{take_coming, take_group_or_end};
+use crate::digits::Sent;
 use crate::input_headers::{GroupHeader, read_group_header, read_picture_header};
-use pel_bits::{Bits, Reader};
+use pel_bits::Reader;
 use pel_model::Format::{Cif, Qcif};
 use pel_model::Why::{BadGroup, BadQuant, Cut, NoCode, NoStart, StillImage, WrongFormat};
 use pel_model::{Fault, Why};
-
-// Up to 64 digits, at the front of eight octets.
-fn octets(digits: &str) -> [u8; 8] {
-    let mut bits: u64 = 0;
-    let mut place: u64 = 0x8000_0000_0000_0000;
-    for digit in digits.bytes() {
-        if digit == b'1' {
-            bits |= place;
-        }
-        place >>= 1;
-    }
-    bits.to_be_bytes()
-}
-
-fn reader<'a>(octets: &'a [u8; 8], digits: &str) -> Reader<'a> {
-    Reader::new(Bits::new(octets, 0, digits.len().min(64) as u32))
-}
+use std::test::Fail;
 
 // The first fault, and that the reader stands there.
 fn at<T>(place: u32, why: Why) -> (Result<T, Fault>, u32) {
@@ -31,7 +16,7 @@ fn at<T>(place: u32, why: Why) -> (Result<T, Fault>, u32) {
 }
 
 #[test]
-fn picture_headers(rt: HostRuntime) {
+fn picture_headers(rt: HostRuntime) -> Result<(), Fail> {
     let spare_bytes = "0000000000000001000000001101010100000000111111111000";
     for (format, digits, (result, place)) in [
         (Qcif, "00000000000000010000000010000110", (Ok(1), 32)),
@@ -48,15 +33,16 @@ fn picture_headers(rt: HostRuntime) {
         (Cif, "00000000000000010000000010001010", at(25, StillImage)),
         (Qcif, "000000000000000100000000110101010000", at(32, Cut)),
     ] {
-        let octets = octets(digits);
-        let mut r = reader(&octets, digits);
+        let sent = Sent::of(rt.alloc(), &[digits])?;
+        let mut r = Reader::new(sent.bits());
         assert_eq!(rt; read_picture_header(&mut r, format), result);
         assert_eq!(rt; r.place(), place);
     }
+    Ok(())
 }
 
 #[test]
-fn group_headers(rt: HostRuntime) {
+fn group_headers(rt: HostRuntime) -> Result<(), Fail> {
     let header = |number, quant| Ok(GroupHeader { number, quant });
     for (format, digits, last, (result, place)) in [
         (Qcif, "0001010000", 0, (header(1, 8), 10)),
@@ -68,15 +54,16 @@ fn group_headers(rt: HostRuntime) {
         (Qcif, "0001000000", 0, at(4, BadQuant)),
         (Qcif, "0001010001000", 0, at(10, Cut)),
     ] {
-        let octets = octets(digits);
-        let mut r = reader(&octets, digits);
+        let sent = Sent::of(rt.alloc(), &[digits])?;
+        let mut r = Reader::new(sent.bits());
         assert_eq!(rt; read_group_header(&mut r, format, last), result);
         assert_eq!(rt; r.place(), place);
     }
+    Ok(())
 }
 
 #[test]
-fn what_comes_where_a_macroblock_may(rt: HostRuntime) {
+fn what_comes_where_a_macroblock_may(rt: HostRuntime) -> Result<(), Fail> {
     for (digits, (result, place)) in [
         ("", (Ok(End), 0)),
         ("0000000", (Ok(End), 0)),
@@ -90,15 +77,16 @@ fn what_comes_where_a_macroblock_may(rt: HostRuntime) {
         ("011", (Ok(Macroblock), 0)),
         ("01", at(0, Cut)),
     ] {
-        let octets = octets(digits);
-        let mut r = reader(&octets, digits);
+        let sent = Sent::of(rt.alloc(), &[digits])?;
+        let mut r = Reader::new(sent.bits());
         assert_eq!(rt; take_coming(&mut r), result);
         assert_eq!(rt; r.place(), place);
     }
+    Ok(())
 }
 
 #[test]
-fn what_comes_behind_a_picture_header(rt: HostRuntime) {
+fn what_comes_behind_a_picture_header(rt: HostRuntime) -> Result<(), Fail> {
     for (digits, (result, place)) in [
         ("", (Ok(End), 0)),
         ("0000000", (Ok(End), 0)),
@@ -107,9 +95,10 @@ fn what_comes_behind_a_picture_header(rt: HostRuntime) {
         ("1", at(0, NoCode)),
         ("0000000000000000", at(0, NoCode)),
     ] {
-        let octets = octets(digits);
-        let mut r = reader(&octets, digits);
+        let sent = Sent::of(rt.alloc(), &[digits])?;
+        let mut r = Reader::new(sent.bits());
         assert_eq!(rt; take_group_or_end(&mut r), result);
         assert_eq!(rt; r.place(), place);
     }
+    Ok(())
 }

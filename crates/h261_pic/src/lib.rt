@@ -13,6 +13,8 @@ pub use coded::{Coded, GroupView};
 pub use parser::parse;
 
 #[cfg(test)]
+mod digits;
+#[cfg(test)]
 mod header_tests;
 #[cfg(test)]
 mod parser_tests;

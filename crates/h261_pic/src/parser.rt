@@ -17,8 +17,8 @@ use pel_bits::{Bits, Reader};
 use pel_model::{Fault, Format};
 
 /// Reads a picture of the format `want`, which is that of `into`. At Ok `into` has its strict text and the marks of that
-/// text. Else the first fault is told, of any of the reasons, with its place counted from the first of `bits`, and `into` is
-/// empty.
+/// text. Else the first fault is told, of any of the reasons, with its place counted from the first of `bits`, and `into`
+/// is empty.
 ///
 /// A sender may set the bits of the picture type that do not decide, and send spare bytes and stuffing (H.261, 4.2). Beyond
 /// the standard a group that has no macroblocks may be left out, and up to seven zero bits may follow the last element. A

@@ -3,6 +3,7 @@
 ghost use Rattle.std.specs.Prelude.{◌≡◌, length, IfOk};
 ghost use Rattle.pel_model.specs.Valid.{group_count};
 
+use crate::digits::Sent;
 use crate::{Coded, GroupView, parse};
 use pel_bits::{Bits, NoMemory};
 use pel_model::Format::{Cif, Qcif};
@@ -41,56 +42,6 @@ const TURN: [&str; 7] = [
     GROUP_3,
     GROUP_5,
 ];
-
-// Digits put together as bits. What is no digit is passed over.
-#[derive(Drop)]
-struct Sent {
-    octets: Vec<u8>,
-    len: u32,
-}
-
-impl Sent {
-    fn of(alloc: Global, pieces: &[&str]) -> Result<Sent, AllocError> {
-        let mut sent = Sent {
-            octets: Vec::new(alloc),
-            len: 0,
-        };
-        for piece in pieces {
-            sent.put(piece)?;
-        }
-        Ok(sent)
-    }
-
-    fn put(&mut self, digits: &str) -> Result<(), AllocError> {
-        for digit in digits.bytes().filter(|digit| matches!(digit, b'0' | b'1')) {
-            if self.len % 8 == 0 {
-                self.octets.push(0)?;
-            }
-            if let Some(last) = self.octets.last_mut() {
-                *last |= (digit - b'0') << (7 - self.len % 8);
-            }
-            self.len = self.len.wrapping_add(1);
-        }
-        Ok(())
-    }
-
-    fn put_times(&mut self, digits: &str, times: u32) -> Result<(), AllocError> {
-        for _ in 0..times {
-            self.put(digits)?;
-        }
-        Ok(())
-    }
-
-    // The first bits, or all where there are not so many.
-    fn front(&self, len: u32) -> Bits<'_> {
-        let most = 8 * self.octets.len().min(100_000) as u32;
-        Bits::new(&self.octets, 0, len.min(self.len).min(most))
-    }
-
-    fn bits(&self) -> Bits<'_> {
-        self.front(self.len)
-    }
-}
 
 // The answer over a picture of its own, and how many marks and bits are there then.
 fn answer_and_size(

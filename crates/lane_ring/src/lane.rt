@@ -115,8 +115,8 @@ impl<T: Drop> Lane<T> {
         self.count += 1;
     }
 
-    /// Holds an item under the next serial. Gives a spare, or the oldest held item where eight were held. The count has to be
-    /// below 2^62.
+    /// Holds an item under the next serial. Gives a spare, or the oldest held item where eight were held. The count has
+    /// to be below 2^62.
     pub fn post(&mut self, item: T, refresh: bool) -> T
         requires { self.old.count < 2 ^ 62 }
         ensures held { self.new.held

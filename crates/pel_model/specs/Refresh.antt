@@ -1,4 +1,5 @@
--- Refreshes: QCIF pictures that a decoder shows alike whatever it showed before, because they refer to no picture.
+-- Refreshes: QCIF pictures that a decoder shows alike whatever it showed before, because they send every macroblock and
+-- refer to no other picture.
 use Rattle.std.specs.Prelude.{◌≡◌, ℕ, true, length, sum_by, All}
 use Rattle.pel_model.specs.declared.Format.{Format}
 use Rattle.pel_model.specs.declared.Format.TheVariants.{Qcif}

@@ -1,5 +1,5 @@
--- The input forms of a picture: what a sender may add to the strict text (H.261, 4.2). Beyond the standard this project
--- also takes pictures without the groups that send nothing, and with zeros up to the end of an octet.
+-- The input forms of a picture: what a sender may add to the strict text (H.261, 4.2). Beyond the standard, groups that
+-- send nothing may be left out, and up to seven zero bits may follow the last word.
 use Rattle.std.specs.Prelude.{◌≡◌, ℕ, zero, suc, ◌<◌, Bool, true, false, List, [], ◌∷◌, ◌++◌, replicate, get_or, drop, Option, Some, None}
 use Rattle.pel_model.specs.declared.Format.{Format}
 use Rattle.pel_model.specs.declared.Format.TheVariants.{Qcif, Cif}

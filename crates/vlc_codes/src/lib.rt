@@ -21,9 +21,9 @@ ghost use Rattle.vlc_codes.specs.declared.lookup.Table.{Table};
 pub use lookup::{Cell, Table, look_up};
 pub use readers::{CoefRow, MbaRow, cbp, mba, mtype, mvd, tcoeff};
 
-/// The laws of the lists: no word of a list is the front of another, and no word that may stand at a place of a picture is
-/// the front of another that may stand there. The bits of numbers and of octets, the numbers that bits spell, and the places of readings are in the
-/// model of pictures what they are to readers and buffers.
+/// The laws of the lists: no word of a list is the front of another, and no word that may stand at a place of a picture
+/// is the front of another that may stand there. The bits of numbers and of octets, the numbers that bits spell, and the
+/// places of readings are in the model of pictures what they are to readers and buffers.
 pub fn list_laws()
     ensures free { (table : Table) → is_prefix_free (words table) ≡ true }
     ensures slots { (slot : Slot) → is_prefix_free (codes_of_rows (rows slot)) ≡ true }
