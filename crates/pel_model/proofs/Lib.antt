@@ -3,4 +3,6 @@ pub mod InsideElements
 pub mod Steps
 pub mod Walks
 mod WorkedPictures
+mod WorkedRecords
+mod WorkedRules
 mod WorkedTexts
