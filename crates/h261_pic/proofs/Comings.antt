@@ -8,7 +8,7 @@ use Rattle.pel_model.specs.declared.Format.{Format}
 use Rattle.pel_model.specs.declared.Why.{Why}
 use Rattle.pel_model.specs.declared.Why.TheVariants.{Cut, NoCode}
 use Rattle.pel_model.specs.Codes.{begins, group_start_code, mba_table}
-use Rattle.pel_model.specs.Walk.{Step, Good, Bad, Stop, Row, read, cause, whole_word, word_at, judged}
+use Rattle.pel_model.specs.Walk.{Standing, Good, Bad, Stop, Row, read, cause, whole_word, word_at, judged}
 use Rattle.pel_model.specs.Grammar.{Element, Gbsc, Stuffing, Slot, slot, AtGroup, AtMacroblock, at_slot, is_end, rows, mba_rows, gbsc_row, next}
 use Rattle.pel_model.proofs.Steps.{judge, next-at, judged-good, judged-none}
 use Rattle.vlc_codes.proofs.WordLaws.{begins_length, begins_longer, cause-cut}
@@ -54,7 +54,7 @@ module _ (left : List Bool) where
   abbrev front : List (Row Element) → Option (Row Element)
   front rows = find (λ (row : Row Element). begins row.code left) rows
 
-  is_good : (e : Element) (n : ℕ) (why : Why) (short : Bool) → short ≡ false → ◌≡◌ {A = Step Element} (if short then Bad Cut else Good e n) (Bad why) → ⊥
+  is_good : (e : Element) (n : ℕ) (why : Why) (short : Bool) → short ≡ false → ◌≡◌ {A = Standing Element} (if short then Bad Cut else Good e n) (Bad why) → ⊥
   is_good e n why true is bad = cc
   is_good e n why false is bad = cc
 
@@ -100,7 +100,7 @@ module _ (left : List Bool) where
       regroup true b c = refl
       regroup false b c = refl
 
-  same_bad : (why other : Why) → ◌≡◌ {A = Step Element} (Bad why) (Bad other) → why ≡ other
+  same_bad : (why other : Why) → ◌≡◌ {A = Standing Element} (Bad why) (Bad other) → why ≡ other
   same_bad why other same = cc
 
   module _ (words : List (Row Element)) (plain : list_all (λ (row : Row Element). row.tail == 0) words ≡ true) (why : Why) (is : read words left ≡ Bad why) where

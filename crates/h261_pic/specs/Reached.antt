@@ -5,7 +5,7 @@ use Rattle.pel_model.specs.declared.Fault.{Fault}
 use Rattle.pel_model.specs.declared.Format.{Format}
 use Rattle.pel_model.specs.Text.{group_header_length}
 use Rattle.pel_model.specs.Valid.{group_count, limit}
-use Rattle.pel_model.specs.Walk.{Step, Good, Stop, Bad, skipped, after, Goes}
+use Rattle.pel_model.specs.Walk.{Standing, Good, Stop, Bad, skipped, after, Goes}
 use Rattle.pel_model.specs.Grammar.{Element, Gbsc, begun, picture}
 
 -- the last place at which an element behind these may end
@@ -21,11 +21,11 @@ Reached format before Wanted (Err f) old new =
     × (picture format (after before es) end ≡ Bad f.why) × (f.place ≡ end.1)
 
 -- the start code of a group stands there and was taken, or the picture ends there
-abbrev pub Follows : Step Element → Bool → List Bool × ℕ → List Bool × ℕ → Type 0
+abbrev pub Follows : Standing Element → Bool → List Bool × ℕ → List Bool × ℕ → Type 0
 Follows here true old new = (n : ℕ) × (here ≡ Good Gbsc n) × (new ≡ skipped n old)
 Follows here false old new = (here ≡ Stop) × (new ≡ old)
 
 -- the same, or what stands there is at fault
-abbrev pub FollowsOrFails : Step Element → Result Bool Fault → List Bool × ℕ → List Bool × ℕ → Type 0
+abbrev pub FollowsOrFails : Standing Element → Result Bool Fault → List Bool × ℕ → List Bool × ℕ → Type 0
 FollowsOrFails here (Ok another) old new = Follows here another old new
 FollowsOrFails here (Err f) old new = (here ≡ Bad f.why) × (f.place ≡ old.1)

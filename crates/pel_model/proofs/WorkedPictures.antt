@@ -8,7 +8,7 @@ use Rattle.pel_model.specs.declared.Why.{Why}
 use Rattle.pel_model.specs.declared.Why.TheVariants.{BadAddress, BadDc, BadGroup, BadLevel, BadQuant, BadVector, Cut, NoCode, NoStart, StillImage, TooMany, VectorOutside, WrongFormat, TooLong}
 use Rattle.pel_model.specs.Bits.{field, number}
 use Rattle.pel_model.specs.Codes.{word, mba_table, mtype_table, mvd_table, cbp_table, tcoeff_table}
-use Rattle.pel_model.specs.Walk.{Step, Good, Stop, Bad, skipped}
+use Rattle.pel_model.specs.Walk.{Standing, Good, Stop, Bad, skipped}
 use Rattle.pel_model.specs.Grammar.{Element, rows, next, picture}
 
 -- the lawful end, or the first fault
@@ -17,7 +17,7 @@ pub data Outcome : Type 0 where
   At : ℕ → Why → Outcome
   Spent : Outcome
 
-abbrev pub outcome : Step Element → ℕ → (Element → ℕ → Outcome) → Outcome
+abbrev pub outcome : Standing Element → ℕ → (Element → ℕ → Outcome) → Outcome
 outcome (Good e n) place more = more e n
 outcome Stop place more = Whole place
 outcome (Bad why) place more = At place why

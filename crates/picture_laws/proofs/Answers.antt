@@ -3,7 +3,7 @@ use Rattle.std.proofs.Common.{◌≡◌, ℕ, zero, suc, ◌+◌, ◌<◌, Bool,
 use Rattle.std.proofs.lemmas.List.{length-append}
 use Rattle.pel_model.specs.declared.Format.{Format}
 use Rattle.pel_model.specs.declared.Why.{Why}
-use Rattle.pel_model.specs.Walk.{Step, Good, Stop, Bad, skipped, start, after, Goes}
+use Rattle.pel_model.specs.Walk.{Standing, Good, Stop, Bad, skipped, start, after, Goes}
 use Rattle.pel_model.specs.Grammar.{Element, slot, picture, next}
 use Rattle.pel_model.proofs.Walks.{one_fault, not_both, one_reading}
 use Rattle.picture_laws.specs.Laws.{HasRecordOrFault, NeverBoth, OneSpelling, OneRecord, OneFault}
@@ -45,7 +45,7 @@ takes_bits format before r e n h =
     let some = word-some (slot before) e s.0.takes in
     (omega (arith, some, s.1.size), omega (arith, s.1.size, ap length s.1.front, length-append (word_at (slot before) e) (drop n r.0)))
 
-ends_at : (format : Format) (before : List Element) (r : List Bool × ℕ) → ((e : Element) (n : ℕ) → picture format before r ≡ Good e n → Ends format (e ∷ before) (skipped n r)) → (s : Step Element) → picture format before r ≡ s → Ends format before r
+ends_at : (format : Format) (before : List Element) (r : List Bool × ℕ) → ((e : Element) (n : ℕ) → picture format before r ≡ Good e n → Ends format (e ∷ before) (skipped n r)) → (s : Standing Element) → picture format before r ≡ s → Ends format before r
 ends_at format before r further (Good e n) h = one_further format before r e n h (further e n h)
 ends_at format before r further Stop h = record { es = []; end = r; walk = refl; over = inl h }
 ends_at format before r further (Bad why) h = record { es = []; end = r; walk = refl; over = inr (why, h) }

@@ -9,7 +9,7 @@ use Rattle.pel_model.specs.declared.Why.TheVariants.{Cut, NoCode}
 use Rattle.pel_model.specs.Bits.{number}
 use Rattle.pel_model.specs.Codes.{begins, is_prefix_free}
 use Rattle.pel_model.specs.Valid.{group_count}
-use Rattle.pel_model.specs.Walk.{Step, Good, Stop, Bad, Row, skipped, after, Goes, read, word_at, judged}
+use Rattle.pel_model.specs.Walk.{Standing, Good, Stop, Bad, Row, skipped, after, Goes, read, word_at, judged}
 use Rattle.pel_model.specs.Grammar.{Element, Slot, AtPsc, AtTr, AtPtype, AtPei, AtPspare, AtGroup, AtGn, AtGquant, AtGei, AtGspare, AtMacroblock, AtMtype, AtMquant, AtMvd, AtCbp, AtDc, AtFirst, AtCoefficient, slot, begun, rows, faults, first_why, may_end, is_end, or_no_start, at_slot, next, picture}
 use Rattle.picture_laws.specs.Laws.{Leaves, GoodOverFirst, GoodOverAll, WithinTheLimit, PastTheLimit, TooLongAt, JudgedByTheLimit}
 use Rattle.vlc_codes.proofs.FoundRows.{Among, apart, read-is, read-row, find-row, among-mapped}
@@ -138,7 +138,7 @@ read-kept rows bits e n k free h fits =
     ∙ (read-row rows w.row w.tail (take (left - length w.tail) (drop n bits)) free w.among w.long
     ∙ (ap (λ m. Good (w.row.make (number w.tail)) m) (sym w.size) ∙ ap (λ x. Good x n) (sym w.is)))
 
-or_cut : (s : Slot) (found : Step Element) → found ≡ Bad Cut → or_no_start s found ≡ Bad Cut
+or_cut : (s : Slot) (found : Standing Element) → found ≡ Bad Cut → or_no_start s found ≡ Bad Cut
 or_cut AtPsc (Bad NoCode) h = absurd cc
 or_cut _ found h = h
 
@@ -212,10 +212,10 @@ within-the-limit format before r end (e ∷ es) k leaves inside goes within =
     let one = one_within format before r e goes.0 k leaves inside.0 goes.1 (omega (arith, w.place, within)) in
     (goes.0, one.0, within-the-limit format (e ∷ before) (skipped goes.0 r) end es (k - goes.0) one.1 inside.1 goes.2 (omega (arith, w.place, within)))
 
-pub same_good : {E : Type 0} (s : Step E) (x y : E) (n m : ℕ) → s ≡ Good x n → s ≡ Good y m → (x ≡ y) × (n ≡ m)
+pub same_good : {E : Type 0} (s : Standing E) (x y : E) (n m : ℕ) → s ≡ Good x n → s ≡ Good y m → (x ≡ y) × (n ≡ m)
 same_good s x y n m p q = (cc, cc)
 
-pub bad_good : {E : Type 0} (s : Step E) (why : Why) → s ≡ Bad why → (e : E) (n : ℕ) → s ≡ Good e n → ⊥
+pub bad_good : {E : Type 0} (s : Standing E) (why : Why) → s ≡ Bad why → (e : E) (n : ℕ) → s ≡ Good e n → ⊥
 bad_good s why bad e n good = cc
 
 no_end_here : (format : Format) (before : List Element) (cut : List Bool × ℕ) → may_end (slot before) ≡ false → next format before cut ≡ Bad Cut → (es : List Element) (end : List Bool × ℕ) → Goes (next format) before cut es end → may_end (slot (after before es)) ≡ true → ⊥

@@ -13,7 +13,7 @@ use Rattle.pel_model.specs.Codes.{begins, mba_table, mtype_table, mvd_table, cbp
 use Rattle.pel_model.specs.Records.{Picture}
 use Rattle.pel_model.specs.Valid.{limit}
 use Rattle.pel_model.specs.Accepts.{Accepts}
-use Rattle.pel_model.specs.Walk.{Step, Good, Stop, Bad, Row, skipped, start, after, Goes, Reads, FirstFault, read, word_at, whole_word, judged}
+use Rattle.pel_model.specs.Walk.{Standing, Good, Stop, Bad, Row, skipped, start, after, Goes, Reads, FirstFault, read, word_at, whole_word, judged}
 use Rattle.pel_model.specs.Grammar.{Element, Slot, AtPsc, AtTr, AtPtype, AtPei, AtPspare, AtGroup, AtGn, AtGquant, AtGei, AtGspare, AtMacroblock, AtMtype, AtMquant, AtMvd, AtCbp, AtDc, AtFirst, AtCoefficient, slot, rows, faults, first_why, may_end, is_end, or_no_start, at_slot, next, picture, counted}
 use Rattle.picture_laws.specs.Laws.{KeptLength, kept_length}
 use Rattle.picture_laws.proofs.Cuts.{drop-take}
@@ -175,7 +175,7 @@ keep_reads format bits es reads =
 unkept_from : (format : Format) (bits : List Bool) (es : List Element) (cut : List Bool × ℕ) → Goes (picture format) [] (start (take (limit format + 64) bits)) es cut → IsUnkept format [] (start bits) es cut
 unkept_from format bits es cut goes = unkeep format [] (start bits) cut es (omega arith) (subst (λ x. Goes (picture format) [] x es cut) (sym (kept_start format bits)) goes)
 
-unkept_answer : (format : Format) (before : List Element) (cut end : List Bool × ℕ) (s : Step Element) → cut ≡ kept format end → end.1 ≤ limit format → picture format before cut ≡ s → picture format before end ≡ s
+unkept_answer : (format : Format) (before : List Element) (cut end : List Bool × ℕ) (s : Standing Element) → cut ≡ kept format end → end.1 ≤ limit format → picture format before cut ≡ s → picture format before end ≡ s
 unkept_answer format before cut end s same within h = sym (kept_step format before end within) ∙ (ap (picture format before) (sym same) ∙ h)
 
 unkeep_reads : (format : Format) (bits : List Bool) (es : List Element) → Reads (picture format) (take (limit format + 64) bits) es → Reads (picture format) bits es

@@ -5,7 +5,7 @@ use Rattle.pel_model.specs.declared.Format.{Format}
 use Rattle.pel_model.specs.declared.Why.{Why}
 use Rattle.pel_model.specs.declared.Why.TheVariants.{TooLong}
 use Rattle.pel_model.specs.Valid.{limit, group_count}
-use Rattle.pel_model.specs.Walk.{Step, Good, Stop, Bad, skipped, after, Goes, judged, verdict}
+use Rattle.pel_model.specs.Walk.{Standing, Good, Stop, Bad, skipped, after, Goes, judged, verdict}
 use Rattle.pel_model.specs.Grammar.{Element, Gbsc, Slot, AtPsc, AtTr, AtPtype, AtPei, AtPspare, AtGroup, AtGn, AtGquant, AtGei, AtGspare, AtMacroblock, AtMtype, AtMquant, AtMvd, AtCbp, AtDc, AtFirst, AtCoefficient, slot, next, picture, counted, begun}
 use Rattle.picture_laws.proofs.Slots.{word_at, Takes}
 use Rattle.picture_laws.proofs.Words.{length-field}
@@ -109,7 +109,7 @@ verdict_stop : {E : Type 0} (e : E) (n : ℕ) (o : Option Why) → verdict e n o
 verdict_stop e n None h = h
 verdict_stop e n (Some why) h = absurd cc
 
-pub judged_stop : {E : Type 0} (judge : E → ℕ → Option Why) (s : Step E) → judged judge s ≡ Stop → s ≡ Stop
+pub judged_stop : {E : Type 0} (judge : E → ℕ → Option Why) (s : Standing E) → judged judge s ≡ Stop → s ≡ Stop
 judged_stop judge (Good e n) h = verdict_stop e n (judge e n) h
 judged_stop judge Stop h = refl
 judged_stop judge (Bad why) h = absurd cc

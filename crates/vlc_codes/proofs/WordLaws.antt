@@ -11,7 +11,7 @@ use Rattle.vlc_codes.specs.declared.lookup.Cell.{Cell}
 use Rattle.vlc_codes.specs.Lookup.{cell_of, no_cell, codes_of_rows}
 use Rattle.vlc_codes.specs.Inner.{code_word, cell_or_cause, place_of, TakesPlace}
 use Rattle.pel_model.specs.Bits as model
-use Rattle.pel_model.specs.Walk.{Step, Good, Bad, Row, cause, read, whole_word, word_at, TakesWord}
+use Rattle.pel_model.specs.Walk.{Standing, Good, Bad, Row, cause, read, whole_word, word_at, TakesWord}
 use Rattle.pel_model.specs.declared.Why.{Why}
 use Rattle.pel_model.specs.declared.Why.TheVariants.{Cut, NoCode}
 use Rattle.pel_bits.specs.Reading.{zeros}
@@ -232,7 +232,7 @@ err_is same is = cc
 
 -- ---- the word of some rows
 
-abbrev word_of_rows : {E : Type 0} → List (Row E) → List Bool → Option (Row E) → Step E
+abbrev word_of_rows : {E : Type 0} → List (Row E) → List Bool → Option (Row E) → Standing E
 word_of_rows rows bits row = word_at rows bits row
 
 -- the row whose code stands at the front
