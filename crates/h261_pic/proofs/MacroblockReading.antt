@@ -14,7 +14,7 @@ use Rattle.pel_model.specs.Valid.{limit}
 use Rattle.pel_model.specs.Walk.{after, Goes}
 use Rattle.pel_model.specs.Elements.{elements_behind_mba, macroblock_elements}
 use Rattle.pel_model.proofs.InsideElements.{inside-macroblock}
-use Rattle.pel_model.specs.Grammar.{Element, Mba, Mtype, slot, begun, counted, next, picture}
+use Rattle.pel_model.specs.Grammar.{Element, Mba, Mtype, slot, begun, counted, next, next_within_limit}
 use Rattle.pel_model.proofs.Walks.{goes-append, after-append}
 use Rattle.picture_laws.specs.SoFar.{IsJoined, last_of, in_effect}
 use Rattle.picture_laws.specs.Elements as by_record
@@ -58,9 +58,9 @@ goes_on format before r end d es goes =
     let some = word-some (slot before) (Mba d) takes in
     omega (arith, w.place, some, length-append (word_in before (Mba d)) (words (Mba d ∷ before) es))
 
-pub macroblock-on : (format : Format) (before : List Element) (r new : List Bool × ℕ) (number : ℕ) (state : MbState) (mark : Mark) (es : List Element) → Goes (picture format) before r es new → IsRead number r.1 before state mark es new → r.1 < new.1
+pub macroblock-on : (format : Format) (before : List Element) (r new : List Bool × ℕ) (number : ℕ) (state : MbState) (mark : Mark) (es : List Element) → Goes (next_within_limit format) before r es new → IsRead number r.1 before state mark es new → r.1 < new.1
 macroblock-on format before r new number state mark es goes is =
-    goes_on format before r new is.difference (elements_behind_mba is.across is.down is.macroblock) (goes-next format before r (Mba is.difference ∷ elements_behind_mba is.across is.down is.macroblock) new (subst (λ (x : List Element). Goes (picture format) before r x new) is.elements goes))
+    goes_on format before r new is.difference (elements_behind_mba is.across is.down is.macroblock) (goes-next format before r (Mba is.difference ∷ elements_behind_mba is.across is.down is.macroblock) new (subst (λ (x : List Element). Goes (next_within_limit format) before r x new) is.elements goes))
 
 -- ---- the group with it
 
@@ -72,11 +72,11 @@ same_kind : (d : ℕ) (across down : ℤ × ℤ) (m p : Macroblock) (last : Opti
 unfolding kind_in
 same_kind d across down m p last is = ap kind_in is
 
-pub macroblock-read : (format : Format) (bits : List Bool) (groups : ℕ) (before : List Element) (from r new : List Bool × ℕ) (number quant : ℕ) (state state' : MbState) (marks : List Mark) (mark : Mark) (es : List Element) → (s : GroupSoFar format bits groups before from number quant state marks r) → from.0 ≡ drop from.1 bits → Goes (picture format) (after before s.es) r es new → IsRead number r.1 (after before s.es) state' mark es new → GroupSoFar format bits groups before from number quant state' (marks ++ mark ∷ []) new
+pub macroblock-read : (format : Format) (bits : List Bool) (groups : ℕ) (before : List Element) (from r new : List Bool × ℕ) (number quant : ℕ) (state state' : MbState) (marks : List Mark) (mark : Mark) (es : List Element) → (s : GroupSoFar format bits groups before from number quant state marks r) → from.0 ≡ drop from.1 bits → Goes (next_within_limit format) (after before s.es) r es new → IsRead number r.1 (after before s.es) state' mark es new → GroupSoFar format bits groups before from number quant state' (marks ++ mark ∷ []) new
 macroblock-read format bits groups before from r new number quant state state' marks mark es s place goes is =
     let more : List Element = Mba is.difference ∷ elements_behind_mba is.across is.down is.macroblock in
     let there : List Element = after before s.es in
-    let walk : Goes (picture format) there r more new = subst (λ (x : List Element). Goes (picture format) there r x new) is.elements goes in
+    let walk : Goes (next_within_limit format) there r more new = subst (λ (x : List Element). Goes (next_within_limit format) there r x new) is.elements goes in
     let plain = goes-next format there r more new walk in
     let stands : Stands number state' (after there more) = subst (λ (x : List Element). Stands number state' (after there x)) is.elements is.stands in
     let j : IsJoined format before number quant s.macroblocks s.es more r new = macroblock-joins format before number quant s.macroblocks s.es r new is.difference (elements_behind_mba is.across is.down is.macroblock) s.so_far plain (inside-macroblock is.across is.down is.macroblock) stands.due in
@@ -98,7 +98,7 @@ macroblock-read format bits groups before from r new number quant state state' m
     record {
       macroblocks = s.macroblocks ++ m ∷ [];
       es = s.es ++ more;
-      walk = goes-append (picture format) before from r new s.es more s.walk walk;
+      walk = goes-append (next_within_limit format) before from r new s.es more s.walk walk;
       so_far = j.so_far;
       stands = subst (Stands number state') behind stands;
       begun_is = ap begun (sym behind) ∙ (begun-inside (Mba is.difference ∷ there) (elements_behind_mba is.across is.down is.macroblock) (inside-macroblock is.across is.down is.macroblock) ∙ s.begun_is);

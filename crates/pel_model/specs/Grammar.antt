@@ -295,6 +295,6 @@ counted format before end = end + group_header_length * (group_count format - be
 
 -- what stands behind these elements in a picture; last of all conditions, no element ends past the limit
 unfoldable pub picture : Format → List Element → List Bool × ℕ → Standing Element
-picture format before r =
+next_within_limit format before r =
     judged (λ e n. cond (nat_lt (limit format) (counted format (e ∷ before) (r.1 + n))) (Some TooLong) None)
     (next format before r)

@@ -10,7 +10,7 @@ use Rattle.pel_model.specs.Bits.{number}
 use Rattle.pel_model.specs.Codes.{begins, is_prefix_free}
 use Rattle.pel_model.specs.Valid.{group_count}
 use Rattle.pel_model.specs.Walk.{Standing, Good, Stop, Bad, Row, skipped, after, Goes, read, word_at, judged}
-use Rattle.pel_model.specs.Grammar.{Element, Slot, AtPsc, AtTr, AtPtype, AtPei, AtPspare, AtGroup, AtGn, AtGquant, AtGei, AtGspare, AtMacroblock, AtMtype, AtMquant, AtMvd, AtCbp, AtDc, AtFirst, AtCoefficient, slot, begun, rows, faults, first_why, may_end, is_end, or_no_start, at_slot, next, picture}
+use Rattle.pel_model.specs.Grammar.{Element, Slot, AtPsc, AtTr, AtPtype, AtPei, AtPspare, AtGroup, AtGn, AtGquant, AtGei, AtGspare, AtMacroblock, AtMtype, AtMquant, AtMvd, AtCbp, AtDc, AtFirst, AtCoefficient, slot, begun, rows, faults, first_why, may_end, is_end, or_no_start, at_slot, next, next_within_limit}
 use Rattle.picture_laws.specs.Laws.{Leaves, GoodOverFirst, GoodOverAll, WithinTheLimit, PastTheLimit, TooLongAt, JudgedByTheLimit}
 use Rattle.vlc_codes.proofs.FoundRows.{Among, apart, read-is, read-row, find-row, among-mapped}
 use Rattle.picture_laws.proofs.Slots.{Takes, rows_free}
@@ -200,7 +200,7 @@ begun_of : (format : Format) (before : List Element) (r : List Bool × ℕ) (e :
 begun_of format before r e n h no_ = same_begun (slot before) before e (next-is format before r e n h).0.takes no_
 
 -- an element within the limit, and the bits that the limit leaves behind it
-one_within : (format : Format) (before : List Element) (r : List Bool × ℕ) (e : Element) (n k : ℕ) → Leaves format before r.1 k → may_end (slot before) ≡ false → next format before r ≡ Good e n → n ≤ k → (picture format before r ≡ Good e n) × Leaves format (e ∷ before) (r.1 + n) (k - n)
+one_within : (format : Format) (before : List Element) (r : List Bool × ℕ) (e : Element) (n k : ℕ) → Leaves format before r.1 k → may_end (slot before) ≡ false → next format before r ≡ Good e n → n ≤ k → (next_within_limit format before r ≡ Good e n) × Leaves format (e ∷ before) (r.1 + n) (k - n)
 one_within format before r e n k leaves no_ h fits =
     let same : 26 * (group_count format - begun (e ∷ before)) ≡ 26 * (group_count format - begun before) = ap (λ b. 26 * (group_count format - b)) (begun_of format before r e n h no_) in
     (picture-good format before r e n h (omega (arith, leaves, same, fits)), omega (arith, leaves, same, fits))
@@ -248,7 +248,7 @@ long_here format before r e n k leaves no_ h past =
     }
 
 -- one more element before it
-long_later : (format : Format) (before : List Element) (r : List Bool × ℕ) (e : Element) (n k : ℕ) → may_end (slot before) ≡ false → next format before r ≡ Good e n → n ≤ k → picture format before r ≡ Good e n → TooLongAt format (e ∷ before) (skipped n r) (k - n) → TooLongAt format before r k
+long_later : (format : Format) (before : List Element) (r : List Bool × ℕ) (e : Element) (n k : ℕ) → may_end (slot before) ≡ false → next format before r ≡ Good e n → n ≤ k → next_within_limit format before r ≡ Good e n → TooLongAt format (e ∷ before) (skipped n r) (k - n) → TooLongAt format before r k
 long_later format before r e n k no_ h fits good rest =
     let left : (drop n (take k r.0), r.1 + n) ≡ (take (k - n) (drop n r.0), r.1 + n) = ap (λ (t : List Bool). (t, r.1 + n)) (drop-take n k r.0 fits) in
     let step_ = cut-good format before r e n k h fits in
