@@ -11,6 +11,7 @@ use Rattle.pel_model.specs.Spelling.{FreeBits, GroupForm, Sent, GroupsFit}
 use Rattle.pel_model.specs.Accepts.{Accepts}
 use Rattle.pel_model.specs.Walk.{after, Goes, Reads}
 use Rattle.pel_model.specs.Elements.{AreInside}
+use Rattle.pel_model.specs.Grammar as grammar
 use Rattle.pel_model.specs.Grammar.{Element, Psc, Tr, Ptype, Gbsc, Gn, Gquant, Stuffing, Mba, slot, AtGroup, AtMacroblock, group, address, vector, next, next_within_limit}
 use Rattle.picture_laws.specs.Laws.{StandInside}
 use Rattle.picture_laws.specs.Elements.{macroblock_elements, group_elements, groups_elements, header_elements, Tells}
