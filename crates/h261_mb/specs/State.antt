@@ -4,7 +4,7 @@ use Rattle.pel_model.specs.declared.Mark.{Mark}
 use Rattle.pel_model.specs.Codes.{is_intra}
 use Rattle.pel_model.specs.Records.{Across, Down, Macroblock}
 use Rattle.pel_model.specs.Walk.{after}
-use Rattle.pel_model.specs.Grammar.{Element, slot, AtMacroblock, vector_slot, cbp_slot, kind, blocks, group, address, quant, vector}
+use Rattle.pel_model.specs.Grammar.{Element, slot, AtMacroblock, vector_slot, cbp_slot, kind, blocks, group, address, quantiser, vector}
 use Rattle.h261_mb.specs.declared.state.MbState.{MbState}
 use Rattle.h261_mb.specs.declared.state.Head.{Head}
 use Rattle.pel_model.specs.Elements.{macroblock_elements}
@@ -26,7 +26,7 @@ pub record IsReady (state : MbState) : Type 0 where
 pub record Say (number at q : ℕ) (h v : ℤ) (before : List Element) : Type 0 where
   pub number_is : group before ≡ number
   pub address_is : address before ≡ at
-  pub quant_is : quant before ≡ q
+  pub quant_is : quantiser before ≡ q
   pub across_is : vector Across before ≡ h
   pub down_is : vector Down before ≡ v
 

@@ -8,7 +8,7 @@ use Rattle.pel_model.specs.declared.MbKind.TheVariants.{Intra}
 use Rattle.pel_model.specs.declared.Why.{Why}
 use Rattle.pel_model.specs.declared.Why.TheVariants.{NoStart, WrongFormat, StillImage, NoCode, BadGroup, BadQuant, BadAddress, BadVector, VectorOutside, BadDc, BadLevel, TooMany, TooLong}
 use Rattle.pel_model.specs.Codes.{picture_start_code, group_start_code, mba_table, stuffing_word, mtype_table, mvd_table, cbp_table, tcoeff_table, first_one_word, later_one_word, escape_word, end_of_block_word, is_intra, has_mquant, has_vector, has_cbp}
-use Rattle.pel_model.specs.Records.{Axis, Across, Down, Coefficient}
+use Rattle.pel_model.specs.Records.{Axis, Across, Down, Coefficient, quantiser_after}
 use Rattle.pel_model.specs.Text.{group_header_length}
 use Rattle.pel_model.specs.Valid.{side, corner, group_numbers, group_count, limit}
 use Rattle.pel_model.specs.Walk.{Standing, Stop, Bad, Row, read, judged}
@@ -83,11 +83,11 @@ address (Mba n ∷ before) = address before + n
 address (_ ∷ before) = address before
 
 -- the quantiser in effect
-abbrev pub quant : List Element → ℕ
-quant [] = 0
-quant (Gquant q ∷ before) = q
-quant (Mquant q ∷ before) = q
-quant (_ ∷ before) = quant before
+abbrev pub quantiser : List Element → ℕ
+quantiser [] = 0
+quantiser (Gquant q ∷ before) = q
+quantiser (Mquant q ∷ before) = quantiser_after (quantiser before) (Some q)
+quantiser (_ ∷ before) = quantiser before
 
 -- ---- vectors (4.2.3.4)
 
