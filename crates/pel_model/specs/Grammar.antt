@@ -109,13 +109,13 @@ abbrev pub resets_predictor : ℕ → ℕ → Bool
 resets_predictor difference at = not (difference == 1) || at == 1 || at == 12 || at == 23
 
 -- a component of the last macroblock's vector, 0 where its kind has none; before its MVD the predictor
-abbrev pub vector : Axis → List Element → ℤ
-vector axis [] = pos 0
-vector axis (Gbsc ∷ before) = pos 0
-vector axis (Mba n ∷ before) = cond (resets_predictor n (address before + n)) (pos 0) (vector axis before)
-vector axis (Mtype k ∷ before) = cond (has_vector k) (vector axis before) (pos 0)
-vector axis (Mvd a v ∷ before) = cond (same_axis a axis) (component_from (vector axis before) v) (vector axis before)
-vector axis (_ ∷ before) = vector axis before
+abbrev pub vector_component : Axis → List Element → ℤ
+vector_component axis [] = pos 0
+vector_component axis (Gbsc ∷ before) = pos 0
+vector_component axis (Mba n ∷ before) = cond (resets_predictor n (address before + n)) (pos 0) (vector_component axis before)
+vector_component axis (Mtype k ∷ before) = cond (has_vector k) (vector_component axis before) (pos 0)
+vector_component axis (Mvd a v ∷ before) = cond (same_axis a axis) (component_from (vector_component axis before) v) (vector_component axis before)
+vector_component axis (_ ∷ before) = vector_component axis before
 
 -- ---- what may stand behind these elements
 
@@ -251,8 +251,8 @@ faults format before (Gquant q) = (q == 0, BadQuant) ∷ []
 faults format before (Mquant q) = (q == 0, BadQuant) ∷ []
 faults format before (Mba n) = (nat_lt 33 (address before + n), BadAddress) ∷ []
 faults format before (Mvd axis v) =
-    (not (in_range (component_from (vector axis before) v)), BadVector)
-    ∷ (not (stays_within (side format axis) (corner axis (group before) (address before)) (component_from (vector axis before) v)), VectorOutside)
+    (not (in_range (component_from (vector_component axis before) v)), BadVector)
+    ∷ (not (stays_within (side format axis) (corner axis (group before) (address before)) (component_from (vector_component axis before) v)), VectorOutside)
     ∷ []
 faults format before (Dc n) = (n == 0 || n == 128, BadDc) ∷ []
 faults format before (Tcoeff c) =

@@ -14,7 +14,7 @@ use Rattle.pel_model.specs.Spelling.{GroupForm, LeftOut, Sent, GroupFits, Groups
 use Rattle.pel_model.specs.Accepts.{Accepts}
 use Rattle.pel_model.specs.Walk.{after, Goes}
 use Rattle.pel_model.specs.Grammar as grammar
-use Rattle.pel_model.specs.Grammar.{address, vector, Eob, Slot, quantiser, Cbp, Tcoeff, Element, Psc, Tr, Ptype, Gbsc, Gn, Gquant, Gei, Gspare, Stuffing, Mba, Mtype, AtGroup, AtGquant, AtMacroblock, slot, may_end, next}
+use Rattle.pel_model.specs.Grammar.{address, vector_component, Eob, Slot, quantiser, Cbp, Tcoeff, Element, Psc, Tr, Ptype, Gbsc, Gn, Gquant, Gei, Gspare, Stuffing, Mba, Mtype, AtGroup, AtGquant, AtMacroblock, slot, may_end, next}
 use Rattle.pel_model.proofs.Walks.{after-append}
 use Rattle.pel_model.proofs.InsideElements.{inside-right}
 use Rattle.picture_laws.specs.Laws.{StandInside}
@@ -249,7 +249,7 @@ joined format before number quant ms es more r end g goes m none =
       bits = walk.bits ∙ ap (λ t. t ++ end.0) text;
       text = text-snoc None ms m.m;
       address_is = ap (λ t. address (after (after before es) t)) is ∙ says.1.address_is;
-      vector_is = λ axis. ap (λ t. vector axis (after (after before es) t)) is ∙ says.1.vector_is axis;
+      vector_is = λ axis. ap (λ t. vector_component axis (after (after before es) t)) is ∙ says.1.vector_is axis;
       quant_is = ap (λ t. quantiser (after (after before es) t)) is ∙ macroblock-quant (after before es) (last_of None ms) m.m;
       so_far = record {
         spares = g.spares;

@@ -10,7 +10,7 @@ use Rattle.pel_model.specs.Spelling.{FreeBits, GroupForm, Sent, GroupsFit}
 use Rattle.pel_model.specs.Accepts.{Accepts}
 use Rattle.pel_model.specs.Walk.{after, Goes, Reads}
 use Rattle.pel_model.specs.Elements.{AreInside}
-use Rattle.pel_model.specs.Grammar.{Element, Psc, Tr, Ptype, Gbsc, Gn, Gquant, Stuffing, Mba, slot, AtGroup, AtMacroblock, group, address, quantiser, vector, next, next_within_limit}
+use Rattle.pel_model.specs.Grammar.{Element, Psc, Tr, Ptype, Gbsc, Gn, Gquant, Stuffing, Mba, slot, AtGroup, AtMacroblock, group, address, quantiser, vector_component, next, next_within_limit}
 use Rattle.picture_laws.specs.Laws.{StandInside}
 use Rattle.picture_laws.specs.Elements.{macroblock_elements, group_elements, groups_elements, header_elements, Tells}
 
@@ -34,7 +34,7 @@ pub record IsBehind (number : ℕ) (last : Option Macroblock) (before : List Ele
   pub at : slot before ≡ AtMacroblock
   pub group_is : group before ≡ number
   pub address_is : address before ≡ address_of last
-  pub vector_is : (axis : Axis) → vector axis before ≡ last_component axis last
+  pub vector_is : (axis : Axis) → vector_component axis before ≡ last_component axis last
   pub last_is : IsLast last
 
 -- the last of these macroblocks, or `last` where there is none
@@ -86,7 +86,7 @@ pub record IsJoined (format : Format) (before : List Element) (number quant : �
   pub bits : r.0 ≡ macroblock_text (last_of None ms) macroblock ++ end.0
   pub text : macroblocks_text None (ms ++ macroblock ∷ []) ≡ macroblocks_text None ms ++ macroblock_text (last_of None ms) macroblock
   pub address_is : address (after (after before es) more) ≡ macroblock.address
-  pub vector_is : (axis : Axis) → vector axis (after (after before es) more) ≡ component axis macroblock
+  pub vector_is : (axis : Axis) → vector_component axis (after (after before es) more) ≡ component axis macroblock
   pub quant_is : quantiser (after (after before es) more) ≡ quantiser_after (quantiser (after before es)) macroblock.mquant
   pub so_far : IsGroupSoFar format before number quant (ms ++ macroblock ∷ []) (es ++ more)
 
