@@ -3,7 +3,7 @@
 use Rattle.std.specs.Prelude.{◌≡◌, ℕ, ◌+◌, Bool, List, [], ◌∷◌, length, map, take, drop, Option, Some, None, Result, Ok, Err, nat_lt, if◌then◌else◌}
 use Rattle.std.specs.List.{find, list_any}
 use Rattle.pel_model.specs.Bits.{number}
-use Rattle.pel_model.specs.Codes.{begins}
+use Rattle.pel_model.specs.Codes.{is_prefix}
 use Rattle.pel_model.specs.declared.Fault.{Fault}
 use Rattle.pel_model.specs.declared.Why.{Why}
 use Rattle.pel_model.specs.declared.Why.TheVariants.{Cut, NoCode}
@@ -35,7 +35,7 @@ pub record Row (E : Type 0) : Type 0 where
 
 -- no word stands at the front: the bits are a front of one, or of none
 abbrev pub cause : List (List Bool) → List Bool → Why
-cause codes bits = if list_any (λ code. begins bits code) codes then Cut else NoCode
+cause codes bits = if list_any (λ code. is_prefix bits code) codes then Cut else NoCode
 
 -- the whole word of a row whose code begins the bits
 abbrev pub whole_word : {E : Type 0} → Row E → List Bool → Standing E
@@ -49,7 +49,7 @@ word_at rows bits None = Bad (cause (map (λ row. row.code) rows) bits)
 
 -- the word of the rows that stands at the front
 abbrev pub read : {E : Type 0} → List (Row E) → List Bool → Standing E
-read rows bits = word_at rows bits (find (λ row. begins row.code bits) rows)
+read rows bits = word_at rows bits (find (λ row. is_prefix row.code bits) rows)
 
 -- ---- conditions
 

@@ -9,7 +9,7 @@ use Rattle.pel_model.specs.declared.Format.TheVariants.{Qcif, Cif}
 use Rattle.pel_model.specs.declared.Why.{Why}
 use Rattle.pel_model.specs.declared.Why.TheVariants.{Cut, NoCode, TooLong}
 use Rattle.pel_model.specs.Bits.{number}
-use Rattle.pel_model.specs.Codes.{begins, mba_table, mtype_table, mvd_table, cbp_table, tcoeff_table}
+use Rattle.pel_model.specs.Codes.{is_prefix, mba_table, mtype_table, mvd_table, cbp_table, tcoeff_table}
 use Rattle.pel_model.specs.Records.{Picture}
 use Rattle.pel_model.specs.Valid.{limit}
 use Rattle.pel_model.specs.Accepts.{Accepts}
@@ -22,18 +22,18 @@ use Rattle.picture_laws.proofs.Pictures.{accepted-read}
 use Rattle.picture_laws.proofs.ReadPictures.{walk-record}
 use Rattle.picture_laws.proofs.Told.{told-one}
 use Rattle.vlc_codes.specs.Lookup.{codes_of_rows}
-use Rattle.vlc_codes.proofs.WordLaws.{begins_longer}
+use Rattle.vlc_codes.proofs.WordLaws.{is_prefix_longer}
 
 -- ---- one step
 
-begins_take : (w bits : List Bool) (k : ℕ) → length w ≤ k → begins w (take k bits) ≡ begins w bits
-begins_take [] bits k h = refl
-begins_take (b ∷ w) bits zero h = absurd (omega (arith, h))
-begins_take (b ∷ w) [] (suc k) h = refl
-begins_take (true ∷ w) (true ∷ bits) (suc k) h = begins_take w bits k (omega (arith, h))
-begins_take (false ∷ w) (false ∷ bits) (suc k) h = begins_take w bits k (omega (arith, h))
-begins_take (true ∷ w) (false ∷ bits) (suc k) h = refl
-begins_take (false ∷ w) (true ∷ bits) (suc k) h = refl
+is_prefix_take : (w bits : List Bool) (k : ℕ) → length w ≤ k → is_prefix w (take k bits) ≡ is_prefix w bits
+is_prefix_take [] bits k h = refl
+is_prefix_take (b ∷ w) bits zero h = absurd (omega (arith, h))
+is_prefix_take (b ∷ w) [] (suc k) h = refl
+is_prefix_take (true ∷ w) (true ∷ bits) (suc k) h = is_prefix_take w bits k (omega (arith, h))
+is_prefix_take (false ∷ w) (false ∷ bits) (suc k) h = is_prefix_take w bits k (omega (arith, h))
+is_prefix_take (true ∷ w) (false ∷ bits) (suc k) h = refl
+is_prefix_take (false ∷ w) (true ∷ bits) (suc k) h = refl
 
 -- rows whose words have fewer than 32 bits
 abbrev IsShort : {E : Type 0} → List (Row E) → Type 0
@@ -71,19 +71,19 @@ same_whole row bits k short most long =
     ∙ sym (cond-false (nat_lt (length bits) (length row.code + row.tail)) (Bad Cut) (Good (row.make (number (take row.tail (drop (length row.code) bits)))) (length row.code + row.tail)) few2))
 
 -- no word is so long that these bits are the front of it
-none_longer : {E : Type 0} (rows : List (Row E)) (bits : List Bool) → IsShort rows → 32 ≤ length bits → list_any (λ code. begins bits code) (codes_of_rows rows) ≡ false
+none_longer : {E : Type 0} (rows : List (Row E)) (bits : List Bool) → IsShort rows → 32 ≤ length bits → list_any (λ code. is_prefix bits code) (codes_of_rows rows) ≡ false
 none_longer [] bits short long = refl
 none_longer (row ∷ rows) bits short long =
     let here : length row.code + row.tail < 32 = ltb-true (length row.code + row.tail) 32 (and_parts _ _ short).0 in
-    ap (λ b. b || list_any (λ code. begins bits code) (codes_of_rows rows)) (begins_longer bits row.code (omega (arith, here, long)))
+    ap (λ b. b || list_any (λ code. is_prefix bits code) (codes_of_rows rows)) (is_prefix_longer bits row.code (omega (arith, here, long)))
     ∙ none_longer rows bits (and_parts _ _ short).1 long
 
-same_find : {E : Type 0} (rows : List (Row E)) (bits : List Bool) (k : ℕ) → IsShort rows → 32 ≤ k → find (λ row. begins row.code (take k bits)) rows ≡ find (λ row. begins row.code bits) rows
+same_find : {E : Type 0} (rows : List (Row E)) (bits : List Bool) (k : ℕ) → IsShort rows → 32 ≤ k → find (λ row. is_prefix row.code (take k bits)) rows ≡ find (λ row. is_prefix row.code bits) rows
 same_find [] bits k short most = refl
 same_find (row ∷ rows) bits k short most =
     let here : length row.code + row.tail < 32 = ltb-true (length row.code + row.tail) 32 (and_parts _ _ short).0 in
-    ap (λ b. cond b (Some row) (find (λ row. begins row.code (take k bits)) rows)) (begins_take row.code bits k (omega (arith, here, most)))
-    ∙ ap (λ o. cond (begins row.code bits) (Some row) o) (same_find rows bits k (and_parts _ _ short).1 most)
+    ap (λ b. cond b (Some row) (find (λ row. is_prefix row.code (take k bits)) rows)) (is_prefix_take row.code bits k (omega (arith, here, most)))
+    ∙ ap (λ o. cond (is_prefix row.code bits) (Some row) o) (same_find rows bits k (and_parts _ _ short).1 most)
 
 find_short : {E : Type 0} (test : Row E → Bool) (rows : List (Row E)) (row : Row E) → IsShort rows → find test rows ≡ Some row → length row.code + row.tail < 32
 find_short test [] row short h = absurd cc
@@ -94,17 +94,17 @@ find_short test (first ∷ rows) row short h = elim (cases_Bool (test first)) [
   | inr no_ ↦ find_short test rows row (and_parts _ _ short).1 (sym (cond-false (test first) (Some first) (find test rows) no_) ∙ h)
 ]
 
-same_word : {E : Type 0} (rows : List (Row E)) (bits : List Bool) (k : ℕ) → IsShort rows → 32 ≤ k → k < length bits → (found : Option (Row E)) → find (λ row. begins row.code bits) rows ≡ found → word_at rows (take k bits) found ≡ word_at rows bits found
+same_word : {E : Type 0} (rows : List (Row E)) (bits : List Bool) (k : ℕ) → IsShort rows → 32 ≤ k → k < length bits → (found : Option (Row E)) → find (λ row. is_prefix row.code bits) rows ≡ found → word_at rows (take k bits) found ≡ word_at rows bits found
 same_word rows bits k short most long None is =
     let size : length (take k bits) ≡ k = length-take-le k bits (omega (arith, long)) in
     let a = none_longer rows (take k bits) short (omega (arith, size, most)) in
     let b = none_longer rows bits short (omega (arith, most, long)) in
-    ap Bad (cond-false (list_any (λ code. begins (take k bits) code) (codes_of_rows rows)) Cut NoCode a ∙ sym (cond-false (list_any (λ code. begins bits code) (codes_of_rows rows)) Cut NoCode b))
-same_word rows bits k short most long (Some row) is = same_whole row bits k (find_short (λ row. begins row.code bits) rows row short is) most long
+    ap Bad (cond-false (list_any (λ code. is_prefix (take k bits) code) (codes_of_rows rows)) Cut NoCode a ∙ sym (cond-false (list_any (λ code. is_prefix bits code) (codes_of_rows rows)) Cut NoCode b))
+same_word rows bits k short most long (Some row) is = same_whole row bits k (find_short (λ row. is_prefix row.code bits) rows row short is) most long
 
 same_read : {E : Type 0} (rows : List (Row E)) (bits : List Bool) (k : ℕ) → IsShort rows → 32 ≤ k → k < length bits → read rows (take k bits) ≡ read rows bits
 same_read rows bits k short most long =
-    ap (word_at rows (take k bits)) (same_find rows bits k short most) ∙ same_word rows bits k short most long (find (λ row. begins row.code bits) rows) refl
+    ap (word_at rows (take k bits)) (same_find rows bits k short most) ∙ same_word rows bits k short most long (find (λ row. is_prefix row.code bits) rows) refl
 
 long_no_end : (bits : List Bool) → 8 ≤ length bits → is_end bits ≡ false
 long_no_end bits h = ap (λ b. b && not (list_any (λ b. b) bits)) (le-ltb (length bits) 8 h)

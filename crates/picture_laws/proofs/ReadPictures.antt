@@ -8,7 +8,7 @@ use Rattle.pel_model.specs.declared.Format.TheVariants.{Qcif, Cif}
 use Rattle.pel_model.specs.declared.Why.{Why}
 use Rattle.pel_model.specs.declared.Why.TheVariants.{NoCode, WrongFormat, StillImage, Cut}
 use Rattle.pel_model.specs.Bits.{number}
-use Rattle.pel_model.specs.Codes.{begins}
+use Rattle.pel_model.specs.Codes.{is_prefix}
 use Rattle.pel_model.specs.Records.{Group, Picture}
 use Rattle.pel_model.specs.Valid.{group_numbers, group_count, limit, IsValid}
 use Rattle.pel_model.specs.Spelling.{FreeBits, Form, GroupsFit, type_text, sent_text}
@@ -145,7 +145,7 @@ or_stop _ found h = h
 slot_stop : (s : Slot) (left : List Bool) → at_slot s left ≡ Stop → (may_end s && is_end left) ≡ true
 slot_stop s left h = elim (cases_Bool (may_end s && is_end left)) [
   | inl end ↦ end
-  | inr on ↦ absurd (word_stop (rows s) left (find (λ row. begins row.code left) (rows s)) (or_stop s (read (rows s) left) (sym (cond-false (may_end s && is_end left) Stop (or_no_start s (read (rows s) left)) on) ∙ h)))
+  | inr on ↦ absurd (word_stop (rows s) left (find (λ row. is_prefix row.code left) (rows s)) (or_stop s (read (rows s) left) (sym (cond-false (may_end s && is_end left) Stop (or_no_start s (read (rows s) left)) on) ∙ h)))
 ]
 
 pub stopped : (format : Format) (before : List Element) (r : List Bool × ℕ) → next format before r ≡ Stop → (may_end (slot before) ≡ true) × (is_end r.0 ≡ true)
