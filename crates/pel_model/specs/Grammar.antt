@@ -294,7 +294,7 @@ abbrev pub counted : Format → List Element → ℕ → ℕ
 counted format before end = end + group_header_length * (group_count format - begun before)
 
 -- what stands behind these elements in a picture; last of all conditions, no element ends past the limit
-unfoldable pub picture : Format → List Element → List Bool × ℕ → Standing Element
+unfoldable pub next_within_limit : Format → List Element → List Bool × ℕ → Standing Element
 next_within_limit format before r =
     judged (λ e n. cond (nat_lt (limit format) (counted format (e ∷ before) (r.1 + n))) (Some TooLong) None)
     (next format before r)
