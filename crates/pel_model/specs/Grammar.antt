@@ -11,7 +11,7 @@ use Rattle.pel_model.specs.Codes.{picture_start_code, group_start_code, mba_tabl
 use Rattle.pel_model.specs.Records.{Axis, Across, Down, Coefficient, quantiser_after}
 use Rattle.pel_model.specs.Text.{group_header_length}
 use Rattle.pel_model.specs.Valid.{side, corner, group_numbers, group_count, limit}
-use Rattle.pel_model.specs.Walk.{Standing, Stop, Bad, Row, read, judged}
+use Rattle.pel_model.specs.Walk.{Reading, Standing, Stop, Bad, Row, read, judged}
 
 -- ---- elements
 
@@ -284,7 +284,7 @@ abbrev pub at_slot : Slot → List Bool → Standing Element
 at_slot place left = cond (may_end place && is_end left) Stop (or_no_start place (read (rows place) left))
 
 -- what stands behind these elements, whatever the length of the picture
-unfoldable pub next : Format → List Element → List Bool × ℕ → Standing Element
+unfoldable pub next : Format → List Element → Reading → Standing Element
 next format before r = judged (λ e n. first_why (faults format before e)) (at_slot (slot before) r.0)
 
 -- ---- the limit of a picture
@@ -294,7 +294,7 @@ abbrev pub counted : Format → List Element → ℕ → ℕ
 counted format before end = end + group_header_length * (group_count format - begun before)
 
 -- what stands behind these elements in a picture; last of all conditions, no element ends past the limit
-unfoldable pub next_within_limit : Format → List Element → List Bool × ℕ → Standing Element
+unfoldable pub next_within_limit : Format → List Element → Reading → Standing Element
 next_within_limit format before r =
     judged (λ e n. cond (nat_lt (limit format) (counted format (e ∷ before) (r.1 + n))) (Some TooLong) None)
     (next format before r)
