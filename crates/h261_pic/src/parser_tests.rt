@@ -221,10 +221,18 @@ fn ninety_eight_intra(rt: HostRuntime) -> Result<(), Fail> {
 
 /// A header of a picture, one of a group, what stands behind them so many times, and the place and the reason of the
 /// first fault. Each reason is there.
-const REASONS: [(Format, [&str; 3], u32, u32, Why); 22] = [
+const REASONS: [(Format, [&str; 3], u32, u32, Why); 23] = [
     (Qcif, ["", "", "00000000000000010001"], 1, 0, NoStart),
     (Qcif, [CIF_HEADER, "", ""], 1, 25, WrongFormat),
     (Cif, [QCIF_HEADER, "", ""], 1, 25, WrongFormat),
+    // a still picture of the other format
+    (
+        Qcif,
+        ["", "", "00000000000000010000 00001 000101 0"],
+        1,
+        25,
+        WrongFormat,
+    ),
     (
         Qcif,
         ["", "", "00000000000000010000 00001 000001 0"],
@@ -373,6 +381,48 @@ fn stuffing_up_to_the_limit(rt: HostRuntime) -> Result<(), Fail> {
         let mut sent = Sent::of(rt.alloc(), &[header, GROUP_1])?;
         sent.put_times(STUFFING, times)?;
         assert_eq!(rt; answer(rt.alloc(), format, sent.bits())?, want);
+    }
+    Ok(())
+}
+
+/// Macroblocks with an element that reaches past the limit, where stuffing left 9 bits in QCIF or 11 in CIF: the place of
+/// that element in both formats, and the reason. A fault of the element itself is told before its length.
+const PAST_THE_LIMIT: [(&str, u32, u32, Why); 6] = [
+    ("1 0001 10000000", 65_480, 261_852, BadDc),
+    ("1 0001 11111111", 65_480, 261_852, TooLong),
+    ("1 1 1010 000001 000000 10000000", 65_481, 261_853, BadLevel),
+    ("1 1 1010 000001 000000 10000001", 65_481, 261_853, TooLong),
+    (
+        "1 1 1010 10 000001 111111 00000001",
+        65_483,
+        261_855,
+        TooMany,
+    ),
+    (
+        "1 1 1010 10 000001 111110 00000001",
+        65_483,
+        261_855,
+        TooLong,
+    ),
+];
+
+#[test]
+fn a_fault_past_the_limit(rt: HostRuntime) -> Result<(), Fail> {
+    for (rest, in_qcif, in_cif, why) in PAST_THE_LIMIT {
+        for (format, header, times, place) in [
+            (Qcif, QCIF_HEADER, 5_947, in_qcif),
+            (Cif, CIF_HEADER, 23_799, in_cif),
+        ] {
+            let mut sent = Sent::of(rt.alloc(), &[header, GROUP_1])?;
+            sent.put_times(STUFFING, times)?;
+            sent.put(rest)?;
+            let fault = Fault { place, why };
+            assert_eq!(rt;
+                answer(rt.alloc(), format, sent.bits())?,
+                Err(fault),
+                "{rest}"
+            );
+        }
     }
     Ok(())
 }

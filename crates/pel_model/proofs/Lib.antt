@@ -2,7 +2,12 @@ pub mod BlockElements
 pub mod InsideElements
 pub mod Steps
 pub mod Walks
+pub mod WorkedForms
+mod WorkedMarks
+mod WorkedOutcomes
 mod WorkedPictures
-mod WorkedRecords
+mod WorkedPlaces
+pub mod WorkedRecords
 mod WorkedRules
 mod WorkedTexts
+pub mod WorkedValid

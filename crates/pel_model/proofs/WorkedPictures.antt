@@ -1,34 +1,14 @@
 -- Worked pictures: good ones, and ones with each kind of fault at many places, with answers that were computed apart
 -- from these definitions. They show by computing that the grammar is the one that is meant. Those without a comment
 -- were drawn at random.
-use Rattle.std.specs.Prelude.{◌≡◌, ℕ, zero, suc, Bool, List, [], ◌∷◌, length, map, codes, refl}
+use Rattle.std.specs.Prelude.{◌≡◌, ℕ, List, [], ◌∷◌, map, codes, refl}
 use Rattle.pel_model.specs.declared.Format.{Format}
 use Rattle.pel_model.specs.declared.Format.TheVariants.{Qcif, Cif}
-use Rattle.pel_model.specs.declared.Why.{Why}
 use Rattle.pel_model.specs.declared.Why.TheVariants.{BadAddress, BadDc, BadGroup, BadLevel, BadQuant, BadVector, Cut, NoCode, NoStart, StillImage, TooMany, VectorOutside, WrongFormat, TooLong}
 use Rattle.pel_model.specs.Bits.{field, number}
 use Rattle.pel_model.specs.Codes.{word, mba_table, mtype_table, mvd_table, cbp_table, tcoeff_table}
-use Rattle.pel_model.specs.Walk.{Standing, Good, Stop, Bad, skipped}
-use Rattle.pel_model.specs.Grammar.{Element, rows, next, next_within_limit}
-
--- the lawful end, or the first fault
-pub data Outcome : Type 0 where
-  Whole : ℕ → Outcome
-  At : ℕ → Why → Outcome
-  Spent : Outcome
-
-abbrev pub outcome : Standing Element → ℕ → (Element → ℕ → Outcome) → Outcome
-outcome (Good e n) place more = more e n
-outcome Stop place more = Whole place
-outcome (Bad why) place more = At place why
-
-unfoldable pub run : ℕ → Format → List Element → List Bool × ℕ → Outcome
-run zero format before r = Spent
-run (suc fuel) format before r =
-    outcome (next_within_limit format before r) r.1 (λ e n. run fuel format (e ∷ before) (skipped n r))
-
-abbrev pub answer_from : ℕ → Format → List Bool → Outcome
-answer_from place format bits = run (suc (length bits)) format [] (bits, place)
+use Rattle.pel_model.specs.Grammar.{rows, next, next_within_limit}
+use Rattle.pel_model.proofs.WorkedOutcomes.{Outcome, Whole, At, run, answer_from}
 
 abbrev pub worked : List ((Format × List ℕ) × Outcome)
 worked =

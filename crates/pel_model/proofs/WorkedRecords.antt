@@ -196,7 +196,7 @@ wide = record {
   tr = 31;
   groups =
     group_of 1 8 (
-        sent 11 McCoded None (pos 15) (pos 0) (only 1 (coded (pair 0 (pos 1) ∷ escape 3 (negsuc 4) ∷ [])))
+        sent 11 McCoded None (pos 15) (pos 0) (only 1 (coded (pair 0 (pos 1) ∷ escape 3 (negsuc 4) ∷ escape 0 (pos 127) ∷ [])))
         ∷ sent 12 InterQuant (Some 3) (pos 0) (pos 0) (None ∷ None ∷ None ∷ coded (pair 0 (negsuc 0) ∷ []) ∷ coded (pair 0 (pos 1) ∷ []) ∷ None ∷ [])
         ∷ [])
     ∷ group_of 2 9 (
@@ -228,7 +228,7 @@ abbrev pub wide_bits : List Bool
 wide_bits = digits (
     codes "00000000000000010000 11111 000111 0"
     ++ codes "0000000000000001 0001 01000 0"
-    ++ codes "00001010 00000001 00000011010 1 1010 10 000001 000011 11111011 10"
+    ++ codes "00001010 00000001 00000011010 1 1010 10 000001 000011 11111011 000001 000000 01111111 10"
     ++ codes "1 00001 00011 0010011 11 10 10 10"
     ++ codes "0000000000000001 0010 01001 0"
     ++ codes "1 000001 11110 00000011011 00000011010 01011 00000000100000 10"
@@ -253,7 +253,7 @@ abbrev pub wide_elements : List Element
 wide_elements =
     Psc ∷ Tr 31 ∷ Ptype 7 ∷ Pei false
     ∷ Gbsc ∷ Gn 1 ∷ Gquant 8 ∷ Gei false
-    ∷ Mba 11 ∷ Mtype McCoded ∷ Mvd Across (pos 15, negsuc 16) ∷ Mvd Down (pos 0, pos 0) ∷ Cbp 32 ∷ Tcoeff (pair 0 (pos 1)) ∷ Tcoeff (escape 3 (negsuc 4)) ∷ Eob
+    ∷ Mba 11 ∷ Mtype McCoded ∷ Mvd Across (pos 15, negsuc 16) ∷ Mvd Down (pos 0, pos 0) ∷ Cbp 32 ∷ Tcoeff (pair 0 (pos 1)) ∷ Tcoeff (escape 3 (negsuc 4)) ∷ Tcoeff (escape 0 (pos 127)) ∷ Eob
     ∷ Mba 1 ∷ Mtype InterQuant ∷ Mquant 3 ∷ Cbp 6 ∷ Tcoeff (pair 0 (negsuc 0)) ∷ Eob ∷ Tcoeff (pair 0 (pos 1)) ∷ Eob
     ∷ Gbsc ∷ Gn 2 ∷ Gquant 9 ∷ Gei false
     ∷ Mba 1 ∷ Mtype McFilQuant ∷ Mquant 30 ∷ Mvd Across (negsuc 14, pos 17) ∷ Mvd Down (pos 15, negsuc 16) ∷ Cbp 1 ∷ Tcoeff (pair 10 (pos 2)) ∷ Eob

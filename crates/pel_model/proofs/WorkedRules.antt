@@ -1,21 +1,22 @@
 -- Worked values of the grammar's rules: for each rule pictures that are read otherwise without it. The answers were computed
 -- by another implementation of H.261.
-use Rattle.std.specs.Prelude.{◌≡◌, ℕ, zero, suc, ◌+◌, Bool, false, cond, List, [], ◌∷◌, ◌++◌, map, length, reverse, take, codes, refl, ℤ, pos, negsuc}
+use Rattle.std.specs.Prelude.{◌≡◌, ℕ, zero, suc, Bool, true, false, cond, List, [], ◌∷◌, ◌++◌, map, length, reverse, take, codes, refl, ℤ, pos, negsuc}
 use Rattle.pel_model.specs.declared.Format.{Format}
 use Rattle.pel_model.specs.declared.Format.TheVariants.{Qcif, Cif}
+use Rattle.pel_model.specs.declared.MbKind.TheVariants.{Intra, McFilQuant}
 use Rattle.pel_model.specs.declared.Why.TheVariants.{BadAddress, BadDc, BadGroup, BadLevel, BadQuant, BadVector, Cut, NoCode, NoStart, StillImage, TooMany, VectorOutside, WrongFormat, TooLong}
 use Rattle.pel_model.specs.Bits.{field, number}
 use Rattle.pel_model.specs.Codes.{mba_table, mtype_table, mvd_table, cbp_table, tcoeff_table}
 use Rattle.pel_model.specs.Records.{Across, Down}
-use Rattle.pel_model.specs.Walk.{Step, Good, Stop, Bad, skipped, start}
-use Rattle.pel_model.specs.Grammar.{Element, slot, may_end, begun, group, address, quant, vector, rows, next, picture}
-use Rattle.pel_model.proofs.WorkedPictures.{Outcome, Whole, At, run, answer_from}
-use Rattle.pel_model.proofs.WorkedRecords.{digits, kinds_bits, kinds_elements, vectors_bits, vectors_elements, wide_bits, wide_elements}
+use Rattle.pel_model.specs.Walk.{Standing, Good, Stop, Bad, skipped, start}
+use Rattle.pel_model.specs.Grammar.{Element, Psc, Tr, Ptype, Pei, Pspare, Gbsc, Gn, Gquant, Gei, Gspare, Stuffing, Mba, Mtype, Mquant, Mvd, Cbp, Dc, Tcoeff, Eob, slot, may_end, begun, group, address, quantiser, vector_component, rows, next, next_within_limit}
+use Rattle.pel_model.proofs.WorkedOutcomes.{Outcome, Whole, At, run, answer_from}
+use Rattle.pel_model.proofs.WorkedRecords.{digits, pair, kinds_bits, kinds_elements, vectors_bits, vectors_elements, wide_bits, wide_elements}
 
 -- ---- what is read: the elements, and where a picture may end what they say
 
 -- the elements up to the lawful end or a fault, the newest first
-abbrev pub read_on : Step Element → List Element → (Element → ℕ → List Element) → List Element
+abbrev pub read_on : Standing Element → List Element → (Element → ℕ → List Element) → List Element
 read_on (Good e n) before more = more e n
 read_on Stop before more = before
 read_on (Bad why) before more = before
@@ -23,21 +24,21 @@ read_on (Bad why) before more = before
 unfoldable pub read_from : (fuel : ℕ) → Format → List Element → List Bool × ℕ → List Element
 read_from zero format before r = before
 read_from (suc fuel) format before r =
-    read_on (picture format before r) before (λ e n. read_from fuel format (e ∷ before) (skipped n r))
+    read_on (next_within_limit format before r) before (λ e n. read_from fuel format (e ∷ before) (skipped n r))
 
 abbrev pub elements_of : Format → List Bool → List Element
 elements_of format bits = reverse (read_from (length bits) format [] (start bits))
 
 pub elements_of_kinds : elements_of Qcif kinds_bits ≡ kinds_elements
-unfolding read_from picture next rows field number mba_table mtype_table mvd_table cbp_table tcoeff_table
+unfolding read_from next_within_limit next rows field number mba_table mtype_table mvd_table cbp_table tcoeff_table
 elements_of_kinds = refl
 
 pub elements_of_vectors : elements_of Qcif vectors_bits ≡ vectors_elements
-unfolding read_from picture next rows field number mba_table mtype_table mvd_table cbp_table tcoeff_table
+unfolding read_from next_within_limit next rows field number mba_table mtype_table mvd_table cbp_table tcoeff_table
 elements_of_vectors = refl
 
 pub elements_of_wide : elements_of Cif wide_bits ≡ wide_elements
-unfolding read_from picture next rows field number mba_table mtype_table mvd_table cbp_table tcoeff_table
+unfolding read_from next_within_limit next rows field number mba_table mtype_table mvd_table cbp_table tcoeff_table
 elements_of_wide = refl
 
 -- how many groups were begun, the last one's number, the last address, the quantiser in effect and the last vector, at
@@ -46,7 +47,7 @@ abbrev pub said : List Element → List (ℕ × ℕ × ℕ × ℕ × ℤ × ℤ)
 said [] = []
 said (e ∷ before) =
     cond (may_end (slot (e ∷ before)))
-    ((begun (e ∷ before), group (e ∷ before), address (e ∷ before), quant (e ∷ before), vector Across (e ∷ before), vector Down (e ∷ before)) ∷ said before)
+    ((begun (e ∷ before), group (e ∷ before), address (e ∷ before), quantiser (e ∷ before), vector_component Across (e ∷ before), vector_component Down (e ∷ before)) ∷ said before)
     (said before)
 
 pub said_by_kinds : reverse (said (reverse kinds_elements)) ≡
@@ -196,7 +197,7 @@ picture_headers =
     ∷ []
 
 pub picture_headers_are : AreAnswered picture_headers
-unfolding run picture next rows field number mba_table mtype_table mvd_table cbp_table tcoeff_table
+unfolding run next_within_limit next rows field number mba_table mtype_table mvd_table cbp_table tcoeff_table
 picture_headers_are = refl
 
 -- headers of groups (4.2.2)
@@ -221,7 +222,7 @@ group_headers =
     ∷ []
 
 pub group_headers_are : AreAnswered group_headers
-unfolding run picture next rows field number mba_table mtype_table mvd_table cbp_table tcoeff_table
+unfolding run next_within_limit next rows field number mba_table mtype_table mvd_table cbp_table tcoeff_table
 group_headers_are = refl
 
 -- addresses (4.2.3.1) and kinds (4.2.3.2)
@@ -236,7 +237,7 @@ addresses =
     ∷ []
 
 pub addresses_are : AreAnswered addresses
-unfolding run picture next rows field number mba_table mtype_table mvd_table cbp_table tcoeff_table
+unfolding run next_within_limit next rows field number mba_table mtype_table mvd_table cbp_table tcoeff_table
 addresses_are = refl
 
 -- quantisers of macroblocks (4.2.3.3)
@@ -250,7 +251,7 @@ quantisers =
     ∷ []
 
 pub quantisers_are : AreAnswered quantisers
-unfolding run picture next rows field number mba_table mtype_table mvd_table cbp_table tcoeff_table
+unfolding run next_within_limit next rows field number mba_table mtype_table mvd_table cbp_table tcoeff_table
 quantisers_are = refl
 
 -- vectors (4.2.3.4): components from -15 to 15 that stay within the picture
@@ -288,7 +289,7 @@ components =
     ∷ []
 
 pub components_are : AreAnswered components
-unfolding run picture next rows field number mba_table mtype_table mvd_table cbp_table tcoeff_table
+unfolding run next_within_limit next rows field number mba_table mtype_table mvd_table cbp_table tcoeff_table
 components_are = refl
 
 -- predictors (4.2.3.4), shown by vectors that leave the picture or do not
@@ -309,7 +310,7 @@ predictors =
     ∷ []
 
 pub predictors_are : AreAnswered predictors
-unfolding run picture next rows field number mba_table mtype_table mvd_table cbp_table tcoeff_table
+unfolding run next_within_limit next rows field number mba_table mtype_table mvd_table cbp_table tcoeff_table
 predictors_are = refl
 
 -- blocks (4.2.4)
@@ -343,7 +344,7 @@ blocks =
     ∷ []
 
 pub blocks_are : AreAnswered blocks
-unfolding run picture next rows field number mba_table mtype_table mvd_table cbp_table tcoeff_table
+unfolding run next_within_limit next rows field number mba_table mtype_table mvd_table cbp_table tcoeff_table
 blocks_are = refl
 
 -- the limit: pictures begun near it; the last bit of an element and 26 bits for each header to come are counted
@@ -382,7 +383,7 @@ limits =
     ∷ []
 
 pub limits_are : AreAnswered limits
-unfolding run picture next rows field number mba_table mtype_table mvd_table cbp_table tcoeff_table
+unfolding run next_within_limit next rows field number mba_table mtype_table mvd_table cbp_table tcoeff_table
 limits_are = refl
 
 -- ends: behind a header, a macroblock or stuffing, with 0 to 7 zeros
@@ -399,17 +400,27 @@ ends =
     ∷ []
 
 pub ends_are : AreAnswered ends
-unfolding run picture next rows field number mba_table mtype_table mvd_table cbp_table tcoeff_table
+unfolding run next_within_limit next rows field number mba_table mtype_table mvd_table cbp_table tcoeff_table
 ends_are = refl
 
--- ---- the fronts of a picture
+-- ---- spare octets and stuffing, and the fronts of a picture
 
--- it ends lawfully where a picture may, and else is cut
+-- it is cut in the third block of its second macroblock
 abbrev pub dressed : List Bool
 dressed = digits (
-    codes "00000000000000010000 00001 000011 1 00000000 0"
-    ++ codes "0000000000000001 0001 01000 1 00000000 0 00000001111 1 000001 00001 1 1 1010 10 10 1 0001 11111111 10 11111111 10")
+    codes "00000000000000010000 00001 000011 1 10000001 0"
+    ++ codes "0000000000000001 0001 01000 1 00000011 0 00000001111 1 000001 00001 1 1 1010 10 10 1 0001 11111111 10 11111111 10")
 
+pub elements_of_dressed : elements_of Qcif dressed ≡
+    Psc ∷ Tr 1 ∷ Ptype 3 ∷ Pei true ∷ Pspare 129 ∷ Pei false
+    ∷ Gbsc ∷ Gn 1 ∷ Gquant 8 ∷ Gei true ∷ Gspare 3 ∷ Gei false
+    ∷ Stuffing
+    ∷ Mba 1 ∷ Mtype McFilQuant ∷ Mquant 1 ∷ Mvd Across (pos 0, pos 0) ∷ Mvd Down (pos 0, pos 0) ∷ Cbp 32 ∷ Tcoeff (pair 0 (pos 1)) ∷ Eob
+    ∷ Mba 1 ∷ Mtype Intra ∷ Dc 255 ∷ Eob ∷ Dc 255 ∷ Eob ∷ []
+unfolding read_from next_within_limit next rows field number mba_table mtype_table mvd_table cbp_table tcoeff_table
+elements_of_dressed = refl
+
+-- its fronts up to each element: it ends lawfully where a picture may, and else is cut
 abbrev pub fronts : List (ℕ × Outcome)
 fronts =
     (0, At 0 Cut)
@@ -443,5 +454,5 @@ fronts =
     ∷ []
 
 pub fronts_are : map (λ f. answer_from 0 Qcif (take f.0 dressed)) fronts ≡ map (λ f. f.1) fronts
-unfolding run picture next rows field number mba_table mtype_table mvd_table cbp_table tcoeff_table
+unfolding run next_within_limit next rows field number mba_table mtype_table mvd_table cbp_table tcoeff_table
 fronts_are = refl
