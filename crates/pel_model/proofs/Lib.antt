@@ -11,3 +11,4 @@ pub mod WorkedRecords
 mod WorkedRules
 mod WorkedTexts
 pub mod WorkedValid
+mod WorkedWords

@@ -45,7 +45,8 @@ abbrev pub stuffed : Form
 stuffed = record { free = plain; spares = []; groups = Sent [] 2 [] ∷ LeftOut ∷ LeftOut ∷ []; zeros = 3 }
 
 abbrev pub one_header : Picture
-one_header = record { tr = 1; groups = (record { number = 1; quant = 8; macroblocks = [] }) ∷ empty_group 3 ∷ empty_group 5 ∷ [] }
+one_header = record { tr = 1; groups = (record { number = 1; quant = 8; macroblocks = [] }) ∷ empty_group 3
+    ∷ empty_group 5 ∷ [] }
 
 pub stuffed_group : (input_text Qcif stuffed one_header ≡ word (codes "00000000000000010000000010000110000000000000000100010100000000000111100000001111000")) × (counted_length Qcif stuffed one_header ≡ 80 + 2 * 26)
 unfolding header_text group_header_text stuffed_text field
@@ -65,7 +66,8 @@ abbrev pub one_macroblock : Macroblock
 one_macroblock = record { address = 1; kind = Inter; mquant = None; across = pos 0; down = pos 0; blocks = Some (record { dc = None; coefficients = (record { run = 0; level = pos 1; long = false }) ∷ [] }) ∷ None ∷ None ∷ None ∷ None ∷ None ∷ [] }
 
 abbrev pub one_block : Picture
-one_block = record { tr = 1; groups = (record { number = 1; quant = 8; macroblocks = one_macroblock ∷ [] }) ∷ empty_group 3 ∷ (record { number = 5; quant = 10; macroblocks = [] }) ∷ [] }
+one_block = record { tr = 1; groups = (record { number = 1; quant = 8; macroblocks = one_macroblock ∷ [] })
+    ∷ empty_group 3 ∷ (record { number = 5; quant = 10; macroblocks = [] }) ∷ [] }
 
 abbrev pub dressed_bits : List Bool
 dressed_bits = word (codes "000000000000000100000000110101010000000011111111100000000000000001000101000101000101000000001111000000011111110101010000000011110000000000000001010101010000000")
@@ -155,7 +157,8 @@ no_spellings = (
 -- spare octets of 9 bits and stuffings of 11 up to the last bit of a QCIF picture, and one bit more; two groups are left out
 abbrev pub filled : (spares stuffings : ℕ) → Form
 filled spares stuffings =
-    record { free = plain; spares = replicate spares 0; groups = Sent [] stuffings [] ∷ LeftOut ∷ LeftOut ∷ []; zeros = 0; }
+    record { free = plain; spares = replicate spares 0; groups = Sent [] stuffings [] ∷ LeftOut ∷ LeftOut
+        ∷ []; zeros = 0; }
 
 header_is_valid : IsValid Qcif one_header
 header_is_valid = record {

@@ -98,13 +98,15 @@ marks_of_wide = refl
 pub quantisers_of_kinds : map (λ (g : Group). quantiser_behind g.quant g.macroblocks) kinds.groups ≡ 17 ∷ 9 ∷ 31 ∷ []
 quantisers_of_kinds = refl
 
-pub quantisers_of_vectors : map (λ (g : Group). quantiser_behind g.quant g.macroblocks) vectors.groups ≡ 31 ∷ 4 ∷ 2 ∷ []
+pub quantisers_of_vectors : map (λ (g : Group). quantiser_behind g.quant g.macroblocks) vectors.groups ≡ 31 ∷ 4
+    ∷ 2 ∷ []
 quantisers_of_vectors = refl
 
-pub quantisers_of_wide : map (λ (g : Group). quantiser_behind g.quant g.macroblocks) wide.groups ≡ 3 ∷ 30 ∷ 1 ∷ 1 ∷ 1 ∷ 1 ∷ 1 ∷ 12 ∷ 31 ∷ 1 ∷ 1 ∷ 1 ∷ []
+pub quantisers_of_wide : map (λ (g : Group). quantiser_behind g.quant g.macroblocks) wide.groups ≡ 3 ∷ 30 ∷ 1 ∷ 1
+    ∷ 1 ∷ 1 ∷ 1 ∷ 12 ∷ 31 ∷ 1 ∷ 1 ∷ 1 ∷ []
 quantisers_of_wide = refl
 
--- ---- the levels of blocks, in the order of transmission (4.2.4.1, and for INTRADC 4.2.4.2)
+-- ---- the levels of blocks, in the order of transmission (4.2.4)
 
 abbrev pub block : Option ℕ → List Coefficient → Block
 block dc coefficients = record { dc = dc; coefficients = coefficients }
@@ -120,7 +122,12 @@ pub levels_of_blocks : map levels (
     ∷ (pos 1024 ∷ replicate 63 (pos 0))
     ∷ (pos 16 ∷ pos 0 ∷ pos 0 ∷ negsuc 0 ∷ pos 0 ∷ pos 0 ∷ pos 0 ∷ pos 127 ∷ pos 2 ∷ replicate 55 (pos 0))
     ∷ (pos 2032 ∷ replicate 63 (pos 0))
-    ∷ (pos 8 ∷ pos 0 ∷ pos 0 ∷ pos 0 ∷ pos 0 ∷ pos 0 ∷ pos 0 ∷ pos 0 ∷ pos 0 ∷ pos 0 ∷ pos 0 ∷ pos 0 ∷ pos 0 ∷ pos 0 ∷ pos 0 ∷ pos 0 ∷ pos 0 ∷ pos 0 ∷ pos 0 ∷ pos 0 ∷ pos 0 ∷ pos 0 ∷ pos 0 ∷ pos 0 ∷ pos 0 ∷ pos 0 ∷ pos 0 ∷ pos 0 ∷ pos 0 ∷ pos 0 ∷ pos 0 ∷ pos 0 ∷ pos 0 ∷ pos 0 ∷ pos 0 ∷ pos 0 ∷ pos 0 ∷ pos 0 ∷ pos 0 ∷ pos 0 ∷ pos 0 ∷ pos 0 ∷ pos 0 ∷ pos 0 ∷ pos 0 ∷ pos 0 ∷ pos 0 ∷ pos 0 ∷ pos 0 ∷ pos 0 ∷ pos 0 ∷ pos 0 ∷ pos 0 ∷ pos 0 ∷ pos 0 ∷ pos 0 ∷ pos 0 ∷ pos 0 ∷ pos 0 ∷ pos 0 ∷ pos 0 ∷ pos 0 ∷ pos 0 ∷ negsuc 126 ∷ replicate 0 (pos 0))
+    ∷ (pos 8 ∷ pos 0 ∷ pos 0 ∷ pos 0 ∷ pos 0 ∷ pos 0 ∷ pos 0 ∷ pos 0 ∷ pos 0 ∷ pos 0 ∷ pos 0 ∷ pos 0 ∷ pos 0
+        ∷ pos 0 ∷ pos 0 ∷ pos 0 ∷ pos 0 ∷ pos 0 ∷ pos 0 ∷ pos 0 ∷ pos 0 ∷ pos 0 ∷ pos 0 ∷ pos 0 ∷ pos 0 ∷ pos 0
+        ∷ pos 0 ∷ pos 0 ∷ pos 0 ∷ pos 0 ∷ pos 0 ∷ pos 0 ∷ pos 0 ∷ pos 0 ∷ pos 0 ∷ pos 0 ∷ pos 0 ∷ pos 0 ∷ pos 0
+        ∷ pos 0 ∷ pos 0 ∷ pos 0 ∷ pos 0 ∷ pos 0 ∷ pos 0 ∷ pos 0 ∷ pos 0 ∷ pos 0 ∷ pos 0 ∷ pos 0 ∷ pos 0 ∷ pos 0
+        ∷ pos 0 ∷ pos 0 ∷ pos 0 ∷ pos 0 ∷ pos 0 ∷ pos 0 ∷ pos 0 ∷ pos 0 ∷ pos 0 ∷ pos 0 ∷ pos 0 ∷ negsuc 126
+        ∷ replicate 0 (pos 0))
     ∷ []
 levels_of_blocks = refl
 
@@ -128,7 +135,8 @@ levels_of_blocks = refl
 -- two blocks
 
 pub elements_of_moving : macroblock_elements 7 (negsuc 1, pos 30) (pos 14, negsuc 17) (sent 9 McFilQuant (Some 1) (pos 15) (pos 14) (only 2 (coded (pair 0 (pos 1) ∷ escape 3 (negsuc 1) ∷ [])))) ≡
-    Mba 7 ∷ Mtype McFilQuant ∷ Mquant 1 ∷ Mvd Across (negsuc 1, pos 30) ∷ Mvd Down (pos 14, negsuc 17) ∷ Cbp 16 ∷ Tcoeff (pair 0 (pos 1)) ∷ Tcoeff (escape 3 (negsuc 1)) ∷ Eob ∷ []
+    Mba 7 ∷ Mtype McFilQuant ∷ Mquant 1 ∷ Mvd Across (negsuc 1, pos 30) ∷ Mvd Down (pos 14, negsuc 17) ∷ Cbp 16
+        ∷ Tcoeff (pair 0 (pos 1)) ∷ Tcoeff (escape 3 (negsuc 1)) ∷ Eob ∷ []
 unfolding number
 elements_of_moving = refl
 
@@ -138,6 +146,7 @@ unfolding number
 elements_of_standing = refl
 
 pub elements_of_still : macroblock_elements 7 (negsuc 1, pos 30) (pos 14, negsuc 17) (sent 9 Intra None (pos 0) (pos 0) (intra 1 [] ∷ intra 2 (pair 0 (pos 1) ∷ []) ∷ intra 3 [] ∷ intra 4 [] ∷ intra 5 [] ∷ intra 6 [] ∷ [])) ≡
-    Mba 7 ∷ Mtype Intra ∷ Dc 1 ∷ Eob ∷ Dc 2 ∷ Tcoeff (pair 0 (pos 1)) ∷ Eob ∷ Dc 3 ∷ Eob ∷ Dc 4 ∷ Eob ∷ Dc 5 ∷ Eob ∷ Dc 6 ∷ Eob ∷ []
+    Mba 7 ∷ Mtype Intra ∷ Dc 1 ∷ Eob ∷ Dc 2 ∷ Tcoeff (pair 0 (pos 1)) ∷ Eob ∷ Dc 3 ∷ Eob ∷ Dc 4 ∷ Eob ∷ Dc 5
+        ∷ Eob ∷ Dc 6 ∷ Eob ∷ []
 unfolding number
 elements_of_still = refl

@@ -81,7 +81,8 @@ one_alone : (c : Coefficient) → IsValidCoefficient c → All IsValidCoefficien
 one_alone c h = All-cons IsValidCoefficient c [] h (All-nil IsValidCoefficient)
 
 -- all 64 places are filled, behind INTRADC and without it
-pub full_blocks : IsIntraBlock (block (Some 255) (escape 62 (pos 1) ∷ [])) × IsCodedBlock (block None (escape 63 (pos 1) ∷ []))
+pub full_blocks : IsIntraBlock (block (Some 255) (escape 62 (pos 1)
+    ∷ [])) × IsCodedBlock (block None (escape 63 (pos 1) ∷ []))
 full_blocks = (
   ((below 0 255 refl, at_most 255 255 refl, λ h. omega (arith, h)), (one_alone (escape 62 (pos 1)) (long_one 62 (at_most 62 63 refl)), at_most 64 64 refl)),
   (refl, below 0 1 refl, (one_alone (escape 63 (pos 1)) (long_one 63 (at_most 63 63 refl)), at_most 64 64 refl)))
@@ -144,7 +145,8 @@ abbrev first_alone : List (Option Block)
 first_alone = coded (pair 0 (pos 1) ∷ []) ∷ replicate 5 None
 
 first_is_coded : CodedBlocks first_alone
-first_is_coded = All-cons (λ b. IfSome b IsCodedBlock) (coded (pair 0 (pos 1) ∷ [])) (replicate 5 None) one_coefficient (no_coded 5)
+first_is_coded = All-cons (λ b. IfSome b IsCodedBlock) (coded (pair 0 (pos 1)
+    ∷ [])) (replicate 5 None) one_coefficient (no_coded 5)
 
 pub blocks_of_kinds :
     BlocksFit Intra (replicate 6 (intra 255 []))
@@ -313,7 +315,8 @@ silent_groups numbers = map (λ n. group_of n 1 []) numbers
 
 pub silent_are_valid : (format : Format) (numbers : List ℕ) → All (IsValidGroup format) (silent_groups numbers)
 silent_are_valid format [] = All-nil (IsValidGroup format)
-silent_are_valid format (n ∷ numbers) = All-cons (IsValidGroup format) (group_of n 1 []) (silent_groups numbers) (silent_group format n) (silent_are_valid format numbers)
+silent_are_valid format (n
+    ∷ numbers) = All-cons (IsValidGroup format) (group_of n 1 []) (silent_groups numbers) (silent_group format n) (silent_are_valid format numbers)
 
 abbrev pub picture_of : ℕ → List Group → Picture
 picture_of tr groups = record { tr = tr; groups = groups }
@@ -360,7 +363,8 @@ bad_pictures = (
 
 abbrev intra_from : (last more : ℕ) → List Macroblock
 intra_from last zero = []
-intra_from last (suc more) = sent (last + 1) Intra None (pos 0) (pos 0) (replicate 6 (intra 255 [])) ∷ intra_from (last + 1) more
+intra_from last (suc more) = sent (last + 1) Intra None (pos 0) (pos 0) (replicate 6 (intra 255 []))
+    ∷ intra_from (last + 1) more
 
 all_intra : (last more : ℕ) → All (λ (m : Macroblock). is_intra m.kind ≡ true) (intra_from last more)
 all_intra last zero = All-nil (λ (m : Macroblock). is_intra m.kind ≡ true)
@@ -371,14 +375,16 @@ abbrev AllIntra : Group → Type 0
 AllIntra g = All (λ (m : Macroblock). is_intra m.kind ≡ true) g.macroblocks
 
 abbrev refresh_of : List Macroblock → Picture
-refresh_of last = picture_of 0 (group_of 1 8 (intra_from 0 33) ∷ group_of 3 8 (intra_from 0 33) ∷ group_of 5 8 last ∷ [])
+refresh_of last = picture_of 0 (group_of 1 8 (intra_from 0 33) ∷ group_of 3 8 (intra_from 0 33)
+    ∷ group_of 5 8 last ∷ [])
 
 pub a_refresh : IsRefresh Qcif (refresh_of (intra_from 0 33))
 a_refresh = record {
   qcif = refl;
   all_sent = refl;
   all_intra =
-    All-cons AllIntra (group_of 1 8 (intra_from 0 33)) (group_of 3 8 (intra_from 0 33) ∷ group_of 5 8 (intra_from 0 33) ∷ []) (all_intra 0 33)
+    All-cons AllIntra (group_of 1 8 (intra_from 0 33)) (group_of 3 8 (intra_from 0 33)
+        ∷ group_of 5 8 (intra_from 0 33) ∷ []) (all_intra 0 33)
     (All-cons AllIntra (group_of 3 8 (intra_from 0 33)) (group_of 5 8 (intra_from 0 33) ∷ []) (all_intra 0 33)
     (All-cons AllIntra (group_of 5 8 (intra_from 0 33)) [] (all_intra 0 33) (All-nil AllIntra)));
 }
