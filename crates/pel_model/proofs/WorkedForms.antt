@@ -8,9 +8,10 @@ use Rattle.pel_model.specs.Bits.{field, number}
 use Rattle.pel_model.specs.Codes.{word, mba_table, mtype_table, mvd_table, cbp_table, tcoeff_table}
 use Rattle.pel_model.specs.Records.{Macroblock, Picture}
 use Rattle.pel_model.specs.Regions.{empty_group}
-use Rattle.pel_model.specs.Text.{text, picture_header, group_header, macroblocks_text, macroblock_text, block_text, coefficient_word}
+use Rattle.pel_model.specs.Text.{text, macroblocks_text, macroblock_text, block_text, coefficient_word}
 use Rattle.pel_model.specs.Valid.{group_numbers, IsValidMacroblock, IsValidGroup, IsValid}
-use Rattle.pel_model.specs.Spelling.{FreeBits, LeftOut, Sent, Form, GroupsFit, IsSpelling, header_text, group_header_text, stuffed_text, input_text}
+use Rattle.pel_model.specs.Headers.{FreeBits, picture_header_text, group_header_text}
+use Rattle.pel_model.specs.Spelling.{LeftOut, Sent, Form, GroupsFit, IsSpelling, stuffed_text, input_text}
 use Rattle.pel_model.specs.Accepts.{counted_length, IsAccepted, LegalCif}
 use Rattle.pel_model.proofs.WorkedRecords.{digits, wide, group_of}
 use Rattle.pel_model.proofs.WorkedValid.{silent_groups, silent_are_valid, silent_cif, picture_of, cif_numbers}
@@ -26,7 +27,7 @@ abbrev pub nothing_sent : Picture
 nothing_sent = record { tr = 1; groups = empty_group 1 ∷ empty_group 3 ∷ empty_group 5 ∷ [] }
 
 pub header_alone : (input_text Qcif nothing nothing_sent ≡ word (codes "000000000000000100000000100001100000000")) × (counted_length Qcif nothing nothing_sent ≡ 32 + 3 * 26)
-unfolding header_text field
+unfolding picture_header_text field
 header_alone = (refl, refl)
 
 -- the same in CIF, without zeros: twelve groups are left out
@@ -37,7 +38,7 @@ abbrev pub cif_picture : Picture
 cif_picture = record { tr = 1; groups = map empty_group (group_numbers Cif) }
 
 pub cif_header_alone : (input_text Cif nothing_in_cif cif_picture ≡ word (codes "00000000000000010000000010001110")) × (counted_length Cif nothing_in_cif cif_picture ≡ 344)
-unfolding header_text field
+unfolding picture_header_text field
 cif_header_alone = (refl, refl)
 
 -- a group with two stuffings behind its header, and three zeros
@@ -49,7 +50,7 @@ one_header = record { tr = 1; groups = (record { number = 1; quant = 8; macroblo
     ∷ empty_group 5 ∷ [] }
 
 pub stuffed_group : (input_text Qcif stuffed one_header ≡ word (codes "00000000000000010000000010000110000000000000000100010100000000000111100000001111000")) × (counted_length Qcif stuffed one_header ≡ 80 + 2 * 26)
-unfolding header_text group_header_text stuffed_text field
+unfolding picture_header_text group_header_text stuffed_text field
 stuffed_group = (refl, refl)
 
 -- free bits 1, 0, 1 and 0, two spare octets behind the picture header; group 1 with a spare octet, two stuffings, a
@@ -73,7 +74,7 @@ abbrev pub dressed_bits : List Bool
 dressed_bits = word (codes "000000000000000100000000110101010000000011111111100000000000000001000101000101000101000000001111000000011111110101010000000011110000000000000001010101010000000")
 
 pub dressed_text : (input_text Qcif dressed one_block ≡ dressed_bits) × (counted_length Qcif dressed one_block ≡ 159 - 5 + 26)
-unfolding header_text group_header_text stuffed_text macroblock_text block_text coefficient_word field number mba_table mtype_table mvd_table cbp_table tcoeff_table
+unfolding picture_header_text group_header_text stuffed_text macroblock_text block_text coefficient_word field number mba_table mtype_table mvd_table cbp_table tcoeff_table
 dressed_text = (refl, refl)
 
 -- a CIF picture with spare octets and stuffing in several places; where no number of stuffings is given there is none
@@ -115,7 +116,7 @@ pub wide_text : (input_text Cif wide_form wide ≡ digits (
     ++ codes "00000011001 1 1011 10 10"
     ++ codes "1 00000001 011 00000011011 01001 001110 10"
     ++ codes "0")) × (counted_length Cif wide_form wide ≡ 697 + 7 * 26)
-unfolding header_text group_header_text stuffed_text macroblock_text block_text coefficient_word field number mba_table mtype_table mvd_table cbp_table tcoeff_table
+unfolding picture_header_text group_header_text stuffed_text macroblock_text block_text coefficient_word field number mba_table mtype_table mvd_table cbp_table tcoeff_table
 wide_text = (refl, refl)
 
 -- ---- what a form may leave out, and how many zeros it may have
@@ -138,7 +139,7 @@ forms_that_do_not = (
 
 -- seven zeros
 pub seven_zeros : IsSpelling Qcif nothing (word (codes "000000000000000100000000100001100000000")) nothing_sent
-unfolding header_text field
+unfolding picture_header_text field
 seven_zeros = record { fits = ((refl, refl), ((refl, refl), ((refl, refl), tt))); zeros = ltb-true 7 8 refl; text = refl; }
 
 -- eight zeros; other bits than the text; a form that does not fit
@@ -146,7 +147,7 @@ pub no_spellings :
     (IsSpelling Qcif (record nothing { zeros = 8 }) (word (codes "0000000000000001000000001000011000000000")) nothing_sent → ⊥)
     × (IsSpelling Qcif nothing [] nothing_sent → ⊥)
     × (IsSpelling Qcif nothing (word (codes "000000000000000100000000100001100000000")) one_header → ⊥)
-unfolding header_text field
+unfolding picture_header_text field
 no_spellings = (
   (λ h. let lt : 8 < 8 = h.zeros in omega (arith, lt)),
   (λ h. let e : 0 ≡ 39 = ap (λ (bits : List Bool). length bits) h.text in omega (arith, e)),
@@ -174,7 +175,7 @@ header_is_valid = record {
 }
 
 pub counted_at_the_limit : (counted_length Qcif (filled 1 5947) one_header ≡ 65536) × (counted_length Qcif (filled 6 5943) one_header ≡ 65537)
-unfolding header_text group_header_text stuffed_text field
+unfolding picture_header_text group_header_text stuffed_text field
 counted_at_the_limit = (refl, refl)
 
 pub accepted_at_the_limit : IsAccepted Qcif (filled 1 5947) (input_text Qcif (filled 1 5947) one_header) one_header
@@ -189,7 +190,7 @@ pub not_accepted :
     ((bits : List Bool) → IsAccepted Qcif (filled 6 5943) bits one_header → ⊥)
     × (IsAccepted Qcif nothing (word (codes "000000000000000100000000000001100000000")) (record nothing_sent { tr = 32 }) → ⊥)
     × (IsAccepted Qcif nothing [] nothing_sent → ⊥)
-unfolding header_text field
+unfolding picture_header_text field
 not_accepted = (
   (λ bits h. let le : 65537 ≤ 65536 = subst (λ n. n ≤ 65536) counted_at_the_limit.1 h.short in omega (arith, le)),
   (λ h. let lt : 32 < 32 = h.valid.so_far.tr in omega (arith, lt)),
@@ -211,7 +212,7 @@ pub a_legal_text : LegalCif (digits (
     ++ codes "0000000000000001 1010 00001 0"
     ++ codes "0000000000000001 1011 00001 0"
     ++ codes "0000000000000001 1100 00001 0"))
-unfolding picture_header group_header macroblocks_text field
+unfolding picture_header_text group_header_text macroblocks_text field
 a_legal_text = (picture_of 0 (silent_groups cif_numbers), silent_cif, refl, ltb-false 262144 344 refl)
 
 -- at most 262,144 bits, all of which may be there, of a valid picture

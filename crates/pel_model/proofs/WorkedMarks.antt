@@ -1,30 +1,32 @@
 -- Worked texts: the strict texts and the marks of the worked records, and the levels of blocks, as another implementation of
 -- H.261 has them.
 use Rattle.std.specs.Prelude.{◌≡◌, ℕ, Bool, true, false, List, [], ◌∷◌, map, replicate, Option, Some, None, ℤ, pos, negsuc, refl}
+use Rattle.pel_model.specs.Headers.{group_header_text, picture_header_text}
 use Rattle.pel_model.specs.declared.Format.TheVariants.{Qcif, Cif}
 use Rattle.pel_model.specs.declared.Mark.{Mark}
 use Rattle.pel_model.specs.declared.MbKind.TheVariants.{Intra, Inter, McFilQuant}
 use Rattle.pel_model.specs.Bits.{field, number}
 use Rattle.pel_model.specs.Codes.{mba_table, mtype_table, mvd_table, cbp_table, tcoeff_table}
 use Rattle.pel_model.specs.Records.{Across, Down, Coefficient, Block, Group, quantiser_behind}
-use Rattle.pel_model.specs.Text.{text, picture_header, group_header, macroblocks_text, macroblock_text, block_text, coefficient_word}
+use Rattle.pel_model.specs.Text.{text, macroblocks_text, macroblock_text, block_text, coefficient_word}
 use Rattle.pel_model.specs.Marks.{marks_of}
-use Rattle.pel_model.specs.Elements.{levels, macroblock_elements}
+use Rattle.pel_model.specs.Levels.{levels}
+use Rattle.pel_model.specs.Elements.{macroblock_elements}
 use Rattle.pel_model.specs.Grammar.{Mba, Mtype, Mquant, Mvd, Cbp, Dc, Tcoeff, Eob}
 use Rattle.pel_model.proofs.WorkedRecords.{kinds, kinds_bits, vectors, vectors_bits, wide, wide_bits, pair, escape, only, coded, intra, sent}
 
 -- ---- strict texts
 
 pub text_of_kinds : text Qcif kinds ≡ kinds_bits
-unfolding picture_header group_header macroblocks_text macroblock_text block_text coefficient_word field number mba_table mtype_table mvd_table cbp_table tcoeff_table
+unfolding picture_header_text group_header_text macroblocks_text macroblock_text block_text coefficient_word field number mba_table mtype_table mvd_table cbp_table tcoeff_table
 text_of_kinds = refl
 
 pub text_of_vectors : text Qcif vectors ≡ vectors_bits
-unfolding picture_header group_header macroblocks_text macroblock_text block_text coefficient_word field number mba_table mtype_table mvd_table cbp_table tcoeff_table
+unfolding picture_header_text group_header_text macroblocks_text macroblock_text block_text coefficient_word field number mba_table mtype_table mvd_table cbp_table tcoeff_table
 text_of_vectors = refl
 
 pub text_of_wide : text Cif wide ≡ wide_bits
-unfolding picture_header group_header macroblocks_text macroblock_text block_text coefficient_word field number mba_table mtype_table mvd_table cbp_table tcoeff_table
+unfolding picture_header_text group_header_text macroblocks_text macroblock_text block_text coefficient_word field number mba_table mtype_table mvd_table cbp_table tcoeff_table
 text_of_wide = refl
 
 -- ---- marks
@@ -56,7 +58,7 @@ pub marks_of_kinds : marks_of kinds ≡
     ∷ mark 592 50 1 12 17 (pos 0) (pos 0) false
     ∷ mark 668 20 3 33 9 (pos 0) (pos 0) false
     ∷ []
-unfolding picture_header group_header macroblocks_text macroblock_text block_text coefficient_word field number mba_table mtype_table mvd_table cbp_table tcoeff_table
+unfolding picture_header_text group_header_text macroblocks_text macroblock_text block_text coefficient_word field number mba_table mtype_table mvd_table cbp_table tcoeff_table
 marks_of_kinds = refl
 
 pub marks_of_vectors : marks_of vectors ≡
@@ -77,7 +79,7 @@ pub marks_of_vectors : marks_of vectors ≡
     ∷ mark 403 26 5 2 2 (pos 0) (negsuc 0) false
     ∷ mark 429 13 5 4 2 (pos 0) (pos 0) false
     ∷ []
-unfolding picture_header group_header macroblocks_text macroblock_text block_text coefficient_word field number mba_table mtype_table mvd_table cbp_table tcoeff_table
+unfolding picture_header_text group_header_text macroblocks_text macroblock_text block_text coefficient_word field number mba_table mtype_table mvd_table cbp_table tcoeff_table
 marks_of_vectors = refl
 
 pub marks_of_wide : marks_of wide ≡
@@ -91,7 +93,7 @@ pub marks_of_wide : marks_of wide ≡
     ∷ mark 699 20 12 32 1 (pos 0) (pos 0) false
     ∷ mark 719 36 12 33 1 (negsuc 0) (negsuc 14) false
     ∷ []
-unfolding picture_header group_header macroblocks_text macroblock_text block_text coefficient_word field number mba_table mtype_table mvd_table cbp_table tcoeff_table
+unfolding picture_header_text group_header_text macroblocks_text macroblock_text block_text coefficient_word field number mba_table mtype_table mvd_table cbp_table tcoeff_table
 marks_of_wide = refl
 
 -- the quantisers in effect at the ends of groups

@@ -1,6 +1,7 @@
 -- Worked compositions: the text of a CIF picture with another picture in each place, and of one with a picture in one place
 -- alone, as another implementation makes them.
 use Rattle.std.specs.Prelude.{◌≡◌, ℕ, zero, suc, ◌+◌, Bool, List, [], ◌∷◌, ◌++◌, map, take, drop, replicate, None, pos, negsuc, codes, refl}
+use Rattle.pel_model.specs.Headers.{group_header_text, picture_header_text}
 use Rattle.pel_model.specs.declared.Format.TheVariants.{Cif}
 use Rattle.pel_model.specs.declared.MbKind.TheVariants.{Intra, Inter, Mc, McCoded, McFil}
 use Rattle.pel_model.specs.declared.Quad.TheVariants.{One, Two, Three, Four}
@@ -8,7 +9,7 @@ use Rattle.pel_model.specs.Bits.{field, number}
 use Rattle.pel_model.specs.Codes.{mba_table, mtype_table, mvd_table, cbp_table, tcoeff_table}
 use Rattle.pel_model.specs.Records.{Macroblock, Picture}
 use Rattle.pel_model.specs.Regions.{number_of, composed, shown_in}
-use Rattle.pel_model.specs.Text.{text, picture_header, group_header, macroblocks_text, macroblock_text, block_text, coefficient_word}
+use Rattle.pel_model.specs.Text.{text, macroblocks_text, macroblock_text, block_text, coefficient_word}
 use Rattle.pel_model.proofs.WorkedRecords.{digits, pair, coded, intra, only, none_sent, sent, group_of}
 
 abbrev pub first : Picture
@@ -84,7 +85,7 @@ pub composed_text : text Cif (composed 7 first second third fourth) ≡ digits (
     ++ codes "0000000000000001 1011 01010 0"
     ++ codes "0000000000000001 1100 01101 0"
     ++ codes "011 0001 00000001 10 00000001 10 00000001 10 00000001 10 00000001 10 00000001 10")
-unfolding picture_header group_header macroblocks_text macroblock_text block_text coefficient_word field number mba_table mtype_table mvd_table cbp_table tcoeff_table
+unfolding picture_header_text group_header_text macroblocks_text macroblock_text block_text coefficient_word field number mba_table mtype_table mvd_table cbp_table tcoeff_table
 composed_text = refl
 
 -- ---- one alone: what is elsewhere are groups with quantiser 1 and no macroblocks
@@ -105,7 +106,7 @@ pub shown_in_one : text Cif (shown_in One 20 first) ≡ digits (
     ++ codes "0000000000000001 1010 00001 0"
     ++ codes "0000000000000001 1011 00001 0"
     ++ codes "0000000000000001 1100 00001 0")
-unfolding picture_header group_header macroblocks_text macroblock_text block_text coefficient_word field number mba_table mtype_table mvd_table cbp_table tcoeff_table
+unfolding picture_header_text group_header_text macroblocks_text macroblock_text block_text coefficient_word field number mba_table mtype_table mvd_table cbp_table tcoeff_table
 shown_in_one = refl
 
 pub shown_in_two : text Cif (shown_in Two 21 second) ≡ digits (
@@ -124,7 +125,7 @@ pub shown_in_two : text Cif (shown_in Two 21 second) ≡ digits (
     ++ codes "0000000000000001 1010 00001 0"
     ++ codes "0000000000000001 1011 00001 0"
     ++ codes "0000000000000001 1100 00001 0")
-unfolding picture_header group_header macroblocks_text macroblock_text block_text coefficient_word field number mba_table mtype_table mvd_table cbp_table tcoeff_table
+unfolding picture_header_text group_header_text macroblocks_text macroblock_text block_text coefficient_word field number mba_table mtype_table mvd_table cbp_table tcoeff_table
 shown_in_two = refl
 
 pub shown_in_three : text Cif (shown_in Three 22 third) ≡ digits (
@@ -142,7 +143,7 @@ pub shown_in_three : text Cif (shown_in Three 22 third) ≡ digits (
     ++ codes "0000000000000001 1010 00001 0"
     ++ codes "0000000000000001 1011 01010 0"
     ++ codes "0000000000000001 1100 00001 0")
-unfolding picture_header group_header macroblocks_text macroblock_text block_text coefficient_word field number mba_table mtype_table mvd_table cbp_table tcoeff_table
+unfolding picture_header_text group_header_text macroblocks_text macroblock_text block_text coefficient_word field number mba_table mtype_table mvd_table cbp_table tcoeff_table
 shown_in_three = refl
 
 pub shown_in_four : text Cif (shown_in Four 23 fourth) ≡ digits (
@@ -160,7 +161,7 @@ pub shown_in_four : text Cif (shown_in Four 23 fourth) ≡ digits (
     ++ codes "0000000000000001 1011 00001 0"
     ++ codes "0000000000000001 1100 01101 0"
     ++ codes "011 0001 00000001 10 00000001 10 00000001 10 00000001 10 00000001 10 00000001 10")
-unfolding picture_header group_header macroblocks_text macroblock_text block_text coefficient_word field number mba_table mtype_table mvd_table cbp_table tcoeff_table
+unfolding picture_header_text group_header_text macroblocks_text macroblock_text block_text coefficient_word field number mba_table mtype_table mvd_table cbp_table tcoeff_table
 shown_in_four = refl
 
 -- ---- a picture all of whose blocks have INTRADC 255 and no coefficient, in the fourth place: its headers and their places
@@ -181,7 +182,7 @@ pub headers_of_the_fourth : headers_at (214 ∷ 2411 ∷ 4608 ∷ []) (text Cif 
     ∷ digits (codes "0000000000000001 1010 01000 0")
     ∷ digits (codes "0000000000000001 1100 01000 0")
     ∷ []
-unfolding picture_header group_header macroblocks_text macroblock_text block_text coefficient_word field number mba_table mtype_table mvd_table cbp_table tcoeff_table
+unfolding picture_header_text group_header_text macroblocks_text macroblock_text block_text coefficient_word field number mba_table mtype_table mvd_table cbp_table tcoeff_table
 headers_of_the_fourth = refl
 
 pub numbers_of_places : map number_of (One ∷ Two ∷ Three ∷ Four ∷ []) ≡ 1 ∷ 2 ∷ 3 ∷ 4 ∷ []

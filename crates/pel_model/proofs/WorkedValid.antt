@@ -7,7 +7,7 @@ use Rattle.std.proofs.Math.Dec.{ltb}
 use Rattle.pel_model.specs.declared.Format.{Format}
 use Rattle.pel_model.specs.declared.Format.TheVariants.{Qcif, Cif}
 use Rattle.pel_model.specs.declared.MbKind.TheVariants.{Intra, IntraQuant, Inter, Mc, McCoded, McQuant}
-use Rattle.pel_model.specs.Codes.{tcoeff_table, is_intra}
+use Rattle.pel_model.specs.Codes.{tcoeff_table}
 use Rattle.pel_model.specs.Records.{Across, Down, Coefficient, Block, Macroblock, Group, Picture}
 use Rattle.pel_model.specs.Refresh.{IsRefresh}
 use Rattle.pel_model.specs.Valid.{IsValidCoefficient, IsIntraBlock, IsCodedBlock, BlocksFit, MquantFits, ComponentFits, IsValidMacroblock, AddressesRise, IsValidGroup, IsValidSoFar, IsValid}
@@ -211,15 +211,15 @@ pub components :
     × ComponentFits Qcif 1 Down (moving 11 (pos 0) (pos 15))
     × ComponentFits Qcif 1 Across (sent 1 Inter None (pos 0) (pos 0) none_sent)
 components = (
-  (at_most 15 15 refl, at_most 31 176 refl),
-  (at_most 15 15 refl, at_most 15 48 refl),
-  (at_most 0 15 refl, at_most 176 176 refl),
-  (at_most 0 15 refl, at_most 144 144 refl),
-  (at_most 0 15 refl, at_most 16 176 refl),
-  (at_most 15 15 refl, at_most 191 352 refl),
-  (at_most 0 15 refl, at_most 352 352 refl),
-  (at_most 0 15 refl, at_most 288 288 refl),
-  (at_most 15 15 refl, at_most 31 144 refl),
+  (at_most 15 15 refl, refl),
+  (at_most 15 15 refl, refl),
+  (at_most 0 15 refl, refl),
+  (at_most 0 15 refl, refl),
+  (at_most 0 15 refl, refl),
+  (at_most 15 15 refl, refl),
+  (at_most 0 15 refl, refl),
+  (at_most 0 15 refl, refl),
+  (at_most 15 15 refl, refl),
   refl)
 
 -- 16; one sample over each edge of both formats; a vector of a kind that has none
@@ -234,12 +234,12 @@ pub bad_components :
     × Not (ComponentFits Qcif 1 Across (sent 1 Inter None (pos 1) (pos 0) none_sent))
 bad_components = (
   (λ h. not_at_most 16 15 refl h.0),
-  (λ h. not_at_most 1 0 refl h.1),
-  (λ h. not_at_most 1 0 refl h.1),
-  (λ h. not_at_most 177 176 refl h.1),
-  (λ h. not_at_most 145 144 refl h.1),
-  (λ h. not_at_most 353 352 refl h.1),
-  (λ h. not_at_most 289 288 refl h.1),
+  (λ h. false≢true h.1),
+  (λ h. false≢true h.1),
+  (λ h. false≢true h.1),
+  (λ h. false≢true h.1),
+  (λ h. false≢true h.1),
+  (λ h. false≢true h.1),
   (λ h. let e : 1 ≡ 0 = ap nat_abs h in omega (arith, e)))
 
 -- ---- macroblocks
@@ -247,8 +247,8 @@ bad_components = (
 moving_is_valid : IsValidMacroblock Qcif 3 (moving 1 (pos 0) (negsuc 0))
 moving_is_valid = record {
   mquant = refl;
-  across = (at_most 0 15 refl, at_most 16 176 refl);
-  down = (at_most 1 15 refl, at_most 1 48 refl);
+  across = (at_most 0 15 refl, refl);
+  down = (at_most 1 15 refl, refl);
   six = refl;
   blocks = nothing_sent 6;
 }
@@ -263,8 +263,8 @@ pub bad_macroblocks :
     × Not (IsValidMacroblock Qcif 1 (sent 1 Mc None (pos 0) (pos 0) first_alone))
 bad_macroblocks = (
   (λ h. true≢false h.mquant),
-  (λ h. not_at_most 1 0 refl h.across.1),
-  (λ h. not_at_most 1 0 refl h.down.1),
+  (λ h. false≢true h.across.1),
+  (λ h. false≢true h.down.1),
   (λ h. let e : 5 ≡ 6 = h.six in omega (arith, e)),
   (λ h. true≢false (h.blocks 0 None (below 0 6 refl))))
 
@@ -303,7 +303,7 @@ bad_groups = (
   (λ h. not_below 0 0 refl h.quant.0),
   (λ h. not_at_most 32 31 refl h.quant.1),
   (λ h. not_at_most 34 33 refl h.addresses.1),
-  (λ h. not_at_most 1 0 refl (h.macroblocks 0 (moving 1 (pos 0) (negsuc 0)) (below 0 1 refl)).down.1))
+  (λ h. false≢true (h.macroblocks 0 (moving 1 (pos 0) (negsuc 0)) (below 0 1 refl)).down.1))
 
 -- ---- pictures (4.2.1)
 
@@ -366,39 +366,16 @@ intra_from last zero = []
 intra_from last (suc more) = sent (last + 1) Intra None (pos 0) (pos 0) (replicate 6 (intra 255 []))
     ∷ intra_from (last + 1) more
 
-all_intra : (last more : ℕ) → All (λ (m : Macroblock). is_intra m.kind ≡ true) (intra_from last more)
-all_intra last zero = All-nil (λ (m : Macroblock). is_intra m.kind ≡ true)
-all_intra last (suc more) =
-    All-cons (λ (m : Macroblock). is_intra m.kind ≡ true) (sent (last + 1) Intra None (pos 0) (pos 0) (replicate 6 (intra 255 []))) (intra_from (last + 1) more) refl (all_intra (last + 1) more)
-
-abbrev AllIntra : Group → Type 0
-AllIntra g = All (λ (m : Macroblock). is_intra m.kind ≡ true) g.macroblocks
-
 abbrev refresh_of : List Macroblock → Picture
 refresh_of last = picture_of 0 (group_of 1 8 (intra_from 0 33) ∷ group_of 3 8 (intra_from 0 33)
     ∷ group_of 5 8 last ∷ [])
 
 pub a_refresh : IsRefresh Qcif (refresh_of (intra_from 0 33))
-a_refresh = record {
-  qcif = refl;
-  all_sent = refl;
-  all_intra =
-    All-cons AllIntra (group_of 1 8 (intra_from 0 33)) (group_of 3 8 (intra_from 0 33)
-        ∷ group_of 5 8 (intra_from 0 33) ∷ []) (all_intra 0 33)
-    (All-cons AllIntra (group_of 3 8 (intra_from 0 33)) (group_of 5 8 (intra_from 0 33) ∷ []) (all_intra 0 33)
-    (All-cons AllIntra (group_of 5 8 (intra_from 0 33)) [] (all_intra 0 33) (All-nil AllIntra)));
-}
-
-abbrev as_number : Format → ℕ
-as_number Qcif = 0
-as_number Cif = 1
+a_refresh = refl
 
 -- 98 macroblocks; the last one not Intra; the same picture as CIF
 pub no_refreshes :
     Not (IsRefresh Qcif (refresh_of (intra_from 0 32)))
     × Not (IsRefresh Qcif (refresh_of (intra_from 0 32 ++ sent 33 Inter None (pos 0) (pos 0) first_alone ∷ [])))
     × Not (IsRefresh Cif (refresh_of (intra_from 0 33)))
-no_refreshes = (
-  (λ h. let e : 98 ≡ 99 = h.all_sent in omega (arith, e)),
-  (λ h. false≢true (h.all_intra 2 (group_of 5 8 []) (below 2 3 refl) 32 (moving 1 (pos 0) (pos 0)) (below 32 33 refl))),
-  (λ h. let e : 1 ≡ 0 = ap as_number h.qcif in omega (arith, e)))
+no_refreshes = ((λ h. false≢true h), (λ h. false≢true h), (λ h. false≢true h))

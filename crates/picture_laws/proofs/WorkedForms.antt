@@ -9,7 +9,7 @@ use Rattle.pel_model.specs.Spelling.{Form, Sent}
 use Rattle.pel_model.specs.Text.{coefficient_word}
 use Rattle.pel_model.proofs.WorkedForms.{plain, dressed, dressed_bits, one_block}
 use Rattle.pel_model.proofs.WorkedRecords.{pair, kinds, kinds_elements, vectors, vectors_elements, wide, wide_elements}
-use Rattle.picture_laws.specs.Elements.{elements}
+use Rattle.picture_laws.specs.PictureElements.{elements}
 use Rattle.picture_laws.proofs.Chains.{words}
 
 -- the strict forms of two pictures
