@@ -11,9 +11,9 @@ use Rattle.pel_model.specs.Regions.{empty_group}
 use Rattle.pel_model.specs.Text.{text, macroblocks_text, macroblock_text, block_text, coefficient_word}
 use Rattle.pel_model.specs.Valid.{group_numbers, IsValidMacroblock, IsValidGroup, IsValid}
 use Rattle.pel_model.specs.Headers.{FreeBits, picture_header_text, group_header_text}
-use Rattle.pel_model.specs.Spelling.{LeftOut, Sent, Form, GroupsFit, IsSpelling, stuffed_text, input_text}
+use Rattle.pel_model.specs.Spelling.{LeftOut, Sent, Form, strict_form, GroupsFit, IsSpelling, stuffed_text, input_text}
 use Rattle.pel_model.specs.Accepts.{counted_length, IsAccepted, LegalCif}
-use Rattle.pel_model.proofs.WorkedRecords.{digits, wide, group_of}
+use Rattle.pel_model.proofs.WorkedRecords.{digits, kinds, kinds_bits, wide_bits, wide, group_of}
 use Rattle.pel_model.proofs.WorkedValid.{silent_groups, silent_are_valid, silent_cif, picture_of, cif_numbers}
 
 abbrev pub plain : FreeBits
@@ -46,8 +46,11 @@ abbrev pub stuffed : Form
 stuffed = record { free = plain; spares = []; groups = Sent [] 2 [] ∷ LeftOut ∷ LeftOut ∷ []; zeros = 3 }
 
 abbrev pub one_header : Picture
-one_header = record { tr = 1; groups = (record { number = 1; quant = 8; macroblocks = [] }) ∷ empty_group 3
-    ∷ empty_group 5 ∷ [] }
+one_header = record {
+  tr = 1;
+  groups = (record { number = 1; quant = 8; macroblocks = [] }) ∷ empty_group 3
+      ∷ empty_group 5 ∷ [];
+}
 
 pub stuffed_group : (input_text Qcif stuffed one_header ≡ word (codes "00000000000000010000000010000110000000000000000100010100000000000111100000001111000")) × (counted_length Qcif stuffed one_header ≡ 80 + 2 * 26)
 unfolding picture_header_text group_header_text stuffed_text field
@@ -67,8 +70,11 @@ abbrev pub one_macroblock : Macroblock
 one_macroblock = record { address = 1; kind = Inter; mquant = None; across = pos 0; down = pos 0; blocks = Some (record { dc = None; coefficients = (record { run = 0; level = pos 1; long = false }) ∷ [] }) ∷ None ∷ None ∷ None ∷ None ∷ None ∷ [] }
 
 abbrev pub one_block : Picture
-one_block = record { tr = 1; groups = (record { number = 1; quant = 8; macroblocks = one_macroblock ∷ [] })
-    ∷ empty_group 3 ∷ (record { number = 5; quant = 10; macroblocks = [] }) ∷ [] }
+one_block = record {
+  tr = 1;
+  groups = (record { number = 1; quant = 8; macroblocks = one_macroblock ∷ [] })
+      ∷ empty_group 3 ∷ (record { number = 5; quant = 10; macroblocks = [] }) ∷ [];
+}
 
 abbrev pub dressed_bits : List Bool
 dressed_bits = word (codes "000000000000000100000000110101010000000011111111100000000000000001000101000101000101000000001111000000011111110101010000000011110000000000000001010101010000000")
@@ -80,22 +86,22 @@ dressed_text = (refl, refl)
 -- a CIF picture with spare octets and stuffing in several places; where no number of stuffings is given there is none
 abbrev pub wide_form : Form
 wide_form = record {
-  free = record { split = false; document = true; release = true; spare = false; };
+  free = record { split = false; document = true; release = true; spare = false };
   spares = 5 ∷ [];
   groups =
-    Sent [] 0 (2 ∷ [])
-    ∷ Sent (7 ∷ 255 ∷ []) 1 (0 ∷ 1 ∷ [])
-    ∷ LeftOut
-    ∷ LeftOut
-    ∷ LeftOut
-    ∷ LeftOut
-    ∷ LeftOut
-    ∷ Sent [] 0 []
-    ∷ Sent (0 ∷ []) 0 (1 ∷ [])
-    ∷ LeftOut
-    ∷ LeftOut
-    ∷ Sent [] 3 []
-    ∷ [];
+      Sent [] 0 (2 ∷ [])
+      ∷ Sent (7 ∷ 255 ∷ []) 1 (0 ∷ 1 ∷ [])
+      ∷ LeftOut
+      ∷ LeftOut
+      ∷ LeftOut
+      ∷ LeftOut
+      ∷ LeftOut
+      ∷ Sent [] 0 []
+      ∷ Sent (0 ∷ []) 0 (1 ∷ [])
+      ∷ LeftOut
+      ∷ LeftOut
+      ∷ Sent [] 3 []
+      ∷ [];
   zeros = 1;
 }
 
@@ -119,6 +125,14 @@ pub wide_text : (input_text Cif wide_form wide ≡ digits (
 unfolding picture_header_text group_header_text stuffed_text macroblock_text block_text coefficient_word field number mba_table mtype_table mvd_table cbp_table tcoeff_table
 wide_text = (refl, refl)
 
+-- in its strict form a picture is its strict text
+pub strict_texts :
+    (input_text Qcif (strict_form kinds) kinds ≡ kinds_bits)
+    × (input_text Cif (strict_form wide) wide ≡ wide_bits)
+    × (counted_length Cif (strict_form wide) wide ≡ 755)
+unfolding picture_header_text group_header_text stuffed_text macroblock_text block_text coefficient_word field number mba_table mtype_table mvd_table cbp_table tcoeff_table
+strict_texts = (refl, refl, refl)
+
 -- ---- what a form may leave out, and how many zeros it may have
 
 -- a group that is left out, and one whose form is that of a group that is sent
@@ -135,12 +149,13 @@ forms_that_do_not = (
   (λ h. let e : 2 ≡ 1 = h.0.0 in omega (arith, e)),
   (λ h. let e : 1 ≡ 0 = ap (λ (ms : List Macroblock). length ms) h.0.1 in omega (arith, e)),
   (λ h. h),
-  (λ h. h))
+  (λ h. h),
+)
 
 -- seven zeros
 pub seven_zeros : IsSpelling Qcif nothing (word (codes "000000000000000100000000100001100000000")) nothing_sent
 unfolding picture_header_text field
-seven_zeros = record { fits = ((refl, refl), ((refl, refl), ((refl, refl), tt))); zeros = ltb-true 7 8 refl; text = refl; }
+seven_zeros = record { fits = ((refl, refl), ((refl, refl), ((refl, refl), tt))); zeros = ltb-true 7 8 refl; text = refl }
 
 -- eight zeros; other bits than the text; a form that does not fit
 pub no_spellings :
@@ -151,15 +166,21 @@ unfolding picture_header_text field
 no_spellings = (
   (λ h. let lt : 8 < 8 = h.zeros in omega (arith, lt)),
   (λ h. let e : 0 ≡ 39 = ap (λ (bits : List Bool). length bits) h.text in omega (arith, e)),
-  (λ h. let e : 8 ≡ 1 = h.fits.0.0 in omega (arith, e)))
+  (λ h. let e : 8 ≡ 1 = h.fits.0.0 in omega (arith, e)),
+)
 
 -- ---- the limit
 
 -- spare octets of 9 bits and stuffings of 11 up to the last bit of a QCIF picture, and one bit more; two groups are left out
 abbrev pub filled : (spares stuffings : ℕ) → Form
 filled spares stuffings =
-    record { free = plain; spares = replicate spares 0; groups = Sent [] stuffings [] ∷ LeftOut ∷ LeftOut
-        ∷ []; zeros = 0; }
+    record {
+      free = plain;
+      spares = replicate spares 0;
+      groups = Sent [] stuffings [] ∷ LeftOut ∷ LeftOut
+          ∷ [];
+      zeros = 0;
+    }
 
 header_is_valid : IsValid Qcif one_header
 header_is_valid = record {
@@ -167,9 +188,9 @@ header_is_valid = record {
     tr = ltb-true 1 32 refl;
     numbers = refl;
     groups =
-      All-cons (IsValidGroup Qcif) (group_of 1 8 []) (empty_group 3 ∷ empty_group 5 ∷ [])
-      (record { quant = (ltb-true 0 8 refl, ltb-false 31 8 refl); addresses = tt; macroblocks = All-nil (IsValidMacroblock Qcif 1); })
-      (silent_are_valid Qcif (3 ∷ 5 ∷ []));
+        All-cons (IsValidGroup Qcif) (group_of 1 8 []) (empty_group 3 ∷ empty_group 5 ∷ [])
+        (record { quant = (ltb-true 0 8 refl, ltb-false 31 8 refl); addresses = tt; macroblocks = All-nil (IsValidMacroblock Qcif 1) })
+        (silent_are_valid Qcif (3 ∷ 5 ∷ []));
   };
   whole = refl;
 }
@@ -180,7 +201,7 @@ counted_at_the_limit = (refl, refl)
 
 pub accepted_at_the_limit : IsAccepted Qcif (filled 1 5947) (input_text Qcif (filled 1 5947) one_header) one_header
 accepted_at_the_limit = record {
-  spelling = record { fits = (tt, ((refl, refl), ((refl, refl), tt))); zeros = ltb-true 0 8 refl; text = refl; };
+  spelling = record { fits = (tt, ((refl, refl), ((refl, refl), tt))); zeros = ltb-true 0 8 refl; text = refl };
   valid = header_is_valid;
   short = subst (λ n. n ≤ 65536) (sym counted_at_the_limit.0) (ltb-false 65536 65536 refl);
 }
@@ -194,7 +215,8 @@ unfolding picture_header_text field
 not_accepted = (
   (λ bits h. let le : 65537 ≤ 65536 = subst (λ n. n ≤ 65536) counted_at_the_limit.1 h.short in omega (arith, le)),
   (λ h. let lt : 32 < 32 = h.valid.so_far.tr in omega (arith, lt)),
-  (λ h. no_spellings.1 h.spelling))
+  (λ h. no_spellings.1 h.spelling),
+)
 
 -- ---- legal texts
 

@@ -11,8 +11,8 @@ use Rattle.pel_model.specs.Records.{Across, Down, Coefficient, Block, Group, qua
 use Rattle.pel_model.specs.Text.{text, macroblocks_text, macroblock_text, block_text, coefficient_word}
 use Rattle.pel_model.specs.Marks.{marks_of}
 use Rattle.pel_model.specs.Levels.{levels}
-use Rattle.pel_model.specs.Elements.{macroblock_elements}
-use Rattle.pel_model.specs.Grammar.{Mba, Mtype, Mquant, Mvd, Cbp, Dc, Tcoeff, Eob}
+use Rattle.pel_model.specs.Elements.{spare_elements, macroblock_elements}
+use Rattle.pel_model.specs.Grammar.{Gei, Gspare, Mba, Mtype, Mquant, Mvd, Cbp, Dc, Tcoeff, Eob}
 use Rattle.pel_model.proofs.WorkedRecords.{kinds, kinds_bits, vectors, vectors_bits, wide, wide_bits, pair, escape, only, coded, intra, sent}
 
 -- ---- strict texts
@@ -125,11 +125,11 @@ pub levels_of_blocks : map levels (
     ∷ (pos 16 ∷ pos 0 ∷ pos 0 ∷ negsuc 0 ∷ pos 0 ∷ pos 0 ∷ pos 0 ∷ pos 127 ∷ pos 2 ∷ replicate 55 (pos 0))
     ∷ (pos 2032 ∷ replicate 63 (pos 0))
     ∷ (pos 8 ∷ pos 0 ∷ pos 0 ∷ pos 0 ∷ pos 0 ∷ pos 0 ∷ pos 0 ∷ pos 0 ∷ pos 0 ∷ pos 0 ∷ pos 0 ∷ pos 0 ∷ pos 0
-        ∷ pos 0 ∷ pos 0 ∷ pos 0 ∷ pos 0 ∷ pos 0 ∷ pos 0 ∷ pos 0 ∷ pos 0 ∷ pos 0 ∷ pos 0 ∷ pos 0 ∷ pos 0 ∷ pos 0
-        ∷ pos 0 ∷ pos 0 ∷ pos 0 ∷ pos 0 ∷ pos 0 ∷ pos 0 ∷ pos 0 ∷ pos 0 ∷ pos 0 ∷ pos 0 ∷ pos 0 ∷ pos 0 ∷ pos 0
-        ∷ pos 0 ∷ pos 0 ∷ pos 0 ∷ pos 0 ∷ pos 0 ∷ pos 0 ∷ pos 0 ∷ pos 0 ∷ pos 0 ∷ pos 0 ∷ pos 0 ∷ pos 0 ∷ pos 0
-        ∷ pos 0 ∷ pos 0 ∷ pos 0 ∷ pos 0 ∷ pos 0 ∷ pos 0 ∷ pos 0 ∷ pos 0 ∷ pos 0 ∷ pos 0 ∷ pos 0 ∷ negsuc 126
-        ∷ replicate 0 (pos 0))
+    ∷ pos 0 ∷ pos 0 ∷ pos 0 ∷ pos 0 ∷ pos 0 ∷ pos 0 ∷ pos 0 ∷ pos 0 ∷ pos 0 ∷ pos 0 ∷ pos 0 ∷ pos 0 ∷ pos 0
+    ∷ pos 0 ∷ pos 0 ∷ pos 0 ∷ pos 0 ∷ pos 0 ∷ pos 0 ∷ pos 0 ∷ pos 0 ∷ pos 0 ∷ pos 0 ∷ pos 0 ∷ pos 0 ∷ pos 0
+    ∷ pos 0 ∷ pos 0 ∷ pos 0 ∷ pos 0 ∷ pos 0 ∷ pos 0 ∷ pos 0 ∷ pos 0 ∷ pos 0 ∷ pos 0 ∷ pos 0 ∷ pos 0 ∷ pos 0
+    ∷ pos 0 ∷ pos 0 ∷ pos 0 ∷ pos 0 ∷ pos 0 ∷ pos 0 ∷ pos 0 ∷ pos 0 ∷ pos 0 ∷ pos 0 ∷ pos 0 ∷ negsuc 126
+    ∷ replicate 0 (pos 0))
     ∷ []
 levels_of_blocks = refl
 
@@ -138,7 +138,7 @@ levels_of_blocks = refl
 
 pub elements_of_moving : macroblock_elements 7 (negsuc 1, pos 30) (pos 14, negsuc 17) (sent 9 McFilQuant (Some 1) (pos 15) (pos 14) (only 2 (coded (pair 0 (pos 1) ∷ escape 3 (negsuc 1) ∷ [])))) ≡
     Mba 7 ∷ Mtype McFilQuant ∷ Mquant 1 ∷ Mvd Across (negsuc 1, pos 30) ∷ Mvd Down (pos 14, negsuc 17) ∷ Cbp 16
-        ∷ Tcoeff (pair 0 (pos 1)) ∷ Tcoeff (escape 3 (negsuc 1)) ∷ Eob ∷ []
+    ∷ Tcoeff (pair 0 (pos 1)) ∷ Tcoeff (escape 3 (negsuc 1)) ∷ Eob ∷ []
 unfolding number
 elements_of_moving = refl
 
@@ -149,6 +149,9 @@ elements_of_standing = refl
 
 pub elements_of_still : macroblock_elements 7 (negsuc 1, pos 30) (pos 14, negsuc 17) (sent 9 Intra None (pos 0) (pos 0) (intra 1 [] ∷ intra 2 (pair 0 (pos 1) ∷ []) ∷ intra 3 [] ∷ intra 4 [] ∷ intra 5 [] ∷ intra 6 [] ∷ [])) ≡
     Mba 7 ∷ Mtype Intra ∷ Dc 1 ∷ Eob ∷ Dc 2 ∷ Tcoeff (pair 0 (pos 1)) ∷ Eob ∷ Dc 3 ∷ Eob ∷ Dc 4 ∷ Eob ∷ Dc 5
-        ∷ Eob ∷ Dc 6 ∷ Eob ∷ []
+    ∷ Eob ∷ Dc 6 ∷ Eob ∷ []
 unfolding number
 elements_of_still = refl
+
+pub elements_of_spares : spare_elements Gei Gspare (5 ∷ 255 ∷ []) ≡ Gei true ∷ Gspare 5 ∷ Gei true ∷ Gspare 255 ∷ Gei false ∷ []
+elements_of_spares = refl

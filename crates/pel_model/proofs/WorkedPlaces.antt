@@ -16,51 +16,51 @@ abbrev pub first : Picture
 first = record {
   tr = 1;
   groups =
-    group_of 1 2 (
-        sent 1 Inter None (pos 0) (pos 0) (only 1 (coded (pair 0 (pos 1) ∷ [])))
-        ∷ [])
-    ∷ group_of 3 3 []
-    ∷ group_of 5 4 (
-        sent 33 Mc None (pos 0) (negsuc 0) none_sent
-        ∷ [])
-    ∷ [];
+      group_of 1 2 (
+      sent 1 Inter None (pos 0) (pos 0) (only 1 (coded (pair 0 (pos 1) ∷ [])))
+      ∷ [])
+      ∷ group_of 3 3 []
+      ∷ group_of 5 4 (
+      sent 33 Mc None (pos 0) (negsuc 0) none_sent
+      ∷ [])
+      ∷ [];
 }
 
 abbrev pub second : Picture
 second = record {
   tr = 2;
   groups =
-    group_of 1 5 []
-    ∷ group_of 3 6 (
-        sent 11 McFil None (negsuc 0) (pos 1) none_sent
-        ∷ sent 12 Mc None (pos 0) (pos 0) none_sent
-        ∷ [])
-    ∷ group_of 5 7 []
-    ∷ [];
+      group_of 1 5 []
+      ∷ group_of 3 6 (
+      sent 11 McFil None (negsuc 0) (pos 1) none_sent
+      ∷ sent 12 Mc None (pos 0) (pos 0) none_sent
+      ∷ [])
+      ∷ group_of 5 7 []
+      ∷ [];
 }
 
 abbrev pub third : Picture
 third = record {
   tr = 3;
   groups =
-    group_of 1 8 (
-        sent 33 McCoded None (negsuc 14) (pos 15) (only 6 (coded (pair 0 (pos 1) ∷ [])))
-        ∷ [])
-    ∷ group_of 3 9 []
-    ∷ group_of 5 10 []
-    ∷ [];
+      group_of 1 8 (
+      sent 33 McCoded None (negsuc 14) (pos 15) (only 6 (coded (pair 0 (pos 1) ∷ [])))
+      ∷ [])
+      ∷ group_of 3 9 []
+      ∷ group_of 5 10 []
+      ∷ [];
 }
 
 abbrev pub fourth : Picture
 fourth = record {
   tr = 4;
   groups =
-    group_of 1 11 []
-    ∷ group_of 3 12 []
-    ∷ group_of 5 13 (
-        sent 2 Intra None (pos 0) (pos 0) (replicate 6 (intra 1 []))
-        ∷ [])
-    ∷ [];
+      group_of 1 11 []
+      ∷ group_of 3 12 []
+      ∷ group_of 5 13 (
+      sent 2 Intra None (pos 0) (pos 0) (replicate 6 (intra 1 []))
+      ∷ [])
+      ∷ [];
 }
 
 -- ---- all four

@@ -49,33 +49,33 @@ abbrev pub kinds : Picture
 kinds = record {
   tr = 21;
   groups =
-    group_of 1 8 (
-        sent 1 Inter None (pos 0) (pos 0) (only 1 (coded (pair 0 (pos 1) ∷ pair 0 (negsuc 0) ∷ pair 0 (negsuc 14)
-            ∷ [])))
-        ∷ sent 2 InterQuant (Some 5) (pos 0) (pos 0) (only 6 (coded (pair 2 (negsuc 0) ∷ escape 0 (pos 1)
-            ∷ escape 0 (negsuc 126) ∷ [])))
-        ∷ sent 3 Inter None (pos 0) (pos 0) (coded (pair 0 (negsuc 0) ∷ []) ∷ coded (pair 26 (pos 1) ∷ [])
-            ∷ coded (pair 0 (pos 2) ∷ pair 4 (pos 2) ∷ []) ∷ coded (escape 0 (pos 1) ∷ pair 1 (pos 7) ∷ [])
-            ∷ None ∷ None ∷ [])
-        ∷ sent 4 Mc None (pos 3) (pos 2) none_sent
-        ∷ sent 5 McCoded None (negsuc 1) (pos 2) (only 5 (coded (pair 0 (negsuc 0) ∷ [])))
-        ∷ sent 6 McQuant (Some 31) (negsuc 1) (pos 15) (only 4 (coded (pair 0 (pos 1) ∷ [])))
-        ∷ sent 7 McFil None (pos 0) (pos 0) none_sent
-        ∷ sent 8 McFilCoded None (negsuc 14) (pos 1) (only 3 (coded (pair 0 (pos 1) ∷ [])))
-        ∷ sent 9 McFilQuant (Some 1) (pos 15) (pos 15) (only 2 (coded (pair 0 (pos 1) ∷ [])))
-        ∷ sent 10 Intra None (pos 0) (pos 0) (intra 1 [] ∷ intra 127 (pair 0 (pos 1) ∷ [])
-            ∷ intra 129 (pair 0 (negsuc 0) ∷ []) ∷ intra 255 (escape 62 (pos 1) ∷ [])
-            ∷ intra 254 (escape 0 (pos 1) ∷ []) ∷ intra 16 (pair 0 (pos 3) ∷ pair 5 (negsuc 2) ∷ []) ∷ [])
-        ∷ sent 11 IntraQuant (Some 17) (pos 0) (pos 0) (replicate 6 (intra 255 []))
-        ∷ sent 12 Inter None (pos 0) (pos 0) (coded (pair 0 (pos 1) ∷ []) ∷ coded (pair 0 (pos 1) ∷ [])
-            ∷ coded (pair 0 (pos 1) ∷ []) ∷ coded (pair 0 (pos 1) ∷ []) ∷ coded (pair 0 (pos 1) ∷ [])
-            ∷ coded (escape 63 (negsuc 0) ∷ []) ∷ [])
-        ∷ [])
-    ∷ group_of 3 9 (
-        sent 33 Inter None (pos 0) (pos 0) (only 1 (coded (pair 0 (pos 1) ∷ [])))
-        ∷ [])
-    ∷ group_of 5 31 []
-    ∷ [];
+      group_of 1 8 (
+      sent 1 Inter None (pos 0) (pos 0) (only 1 (coded (pair 0 (pos 1) ∷ pair 0 (negsuc 0) ∷ pair 0 (negsuc 14)
+      ∷ [])))
+      ∷ sent 2 InterQuant (Some 5) (pos 0) (pos 0) (only 6 (coded (pair 2 (negsuc 0) ∷ escape 0 (pos 1)
+      ∷ escape 0 (negsuc 126) ∷ [])))
+      ∷ sent 3 Inter None (pos 0) (pos 0) (coded (pair 0 (negsuc 0) ∷ []) ∷ coded (pair 26 (pos 1) ∷ [])
+      ∷ coded (pair 0 (pos 2) ∷ pair 4 (pos 2) ∷ []) ∷ coded (escape 0 (pos 1) ∷ pair 1 (pos 7) ∷ [])
+      ∷ None ∷ None ∷ [])
+      ∷ sent 4 Mc None (pos 3) (pos 2) none_sent
+      ∷ sent 5 McCoded None (negsuc 1) (pos 2) (only 5 (coded (pair 0 (negsuc 0) ∷ [])))
+      ∷ sent 6 McQuant (Some 31) (negsuc 1) (pos 15) (only 4 (coded (pair 0 (pos 1) ∷ [])))
+      ∷ sent 7 McFil None (pos 0) (pos 0) none_sent
+      ∷ sent 8 McFilCoded None (negsuc 14) (pos 1) (only 3 (coded (pair 0 (pos 1) ∷ [])))
+      ∷ sent 9 McFilQuant (Some 1) (pos 15) (pos 15) (only 2 (coded (pair 0 (pos 1) ∷ [])))
+      ∷ sent 10 Intra None (pos 0) (pos 0) (intra 1 [] ∷ intra 127 (pair 0 (pos 1) ∷ [])
+      ∷ intra 129 (pair 0 (negsuc 0) ∷ []) ∷ intra 255 (escape 62 (pos 1) ∷ [])
+      ∷ intra 254 (escape 0 (pos 1) ∷ []) ∷ intra 16 (pair 0 (pos 3) ∷ pair 5 (negsuc 2) ∷ []) ∷ [])
+      ∷ sent 11 IntraQuant (Some 17) (pos 0) (pos 0) (replicate 6 (intra 255 []))
+      ∷ sent 12 Inter None (pos 0) (pos 0) (coded (pair 0 (pos 1) ∷ []) ∷ coded (pair 0 (pos 1) ∷ [])
+      ∷ coded (pair 0 (pos 1) ∷ []) ∷ coded (pair 0 (pos 1) ∷ []) ∷ coded (pair 0 (pos 1) ∷ [])
+      ∷ coded (escape 63 (negsuc 0) ∷ []) ∷ [])
+      ∷ [])
+      ∷ group_of 3 9 (
+      sent 33 Inter None (pos 0) (pos 0) (only 1 (coded (pair 0 (pos 1) ∷ [])))
+      ∷ [])
+      ∷ group_of 5 31 []
+      ∷ [];
 }
 
 abbrev pub kinds_bits : List Bool
@@ -103,30 +103,30 @@ kinds_elements =
     Psc ∷ Tr 21 ∷ Ptype 3 ∷ Pei false
     ∷ Gbsc ∷ Gn 1 ∷ Gquant 8 ∷ Gei false
     ∷ Mba 1 ∷ Mtype Inter ∷ Cbp 32 ∷ Tcoeff (pair 0 (pos 1)) ∷ Tcoeff (pair 0 (negsuc 0))
-        ∷ Tcoeff (pair 0 (negsuc 14)) ∷ Eob
+    ∷ Tcoeff (pair 0 (negsuc 14)) ∷ Eob
     ∷ Mba 1 ∷ Mtype InterQuant ∷ Mquant 5 ∷ Cbp 1 ∷ Tcoeff (pair 2 (negsuc 0)) ∷ Tcoeff (escape 0 (pos 1))
-        ∷ Tcoeff (escape 0 (negsuc 126)) ∷ Eob
+    ∷ Tcoeff (escape 0 (negsuc 126)) ∷ Eob
     ∷ Mba 1 ∷ Mtype Inter ∷ Cbp 60 ∷ Tcoeff (pair 0 (negsuc 0)) ∷ Eob ∷ Tcoeff (pair 26 (pos 1)) ∷ Eob
-        ∷ Tcoeff (pair 0 (pos 2)) ∷ Tcoeff (pair 4 (pos 2)) ∷ Eob ∷ Tcoeff (escape 0 (pos 1))
-        ∷ Tcoeff (pair 1 (pos 7)) ∷ Eob
+    ∷ Tcoeff (pair 0 (pos 2)) ∷ Tcoeff (pair 4 (pos 2)) ∷ Eob ∷ Tcoeff (escape 0 (pos 1))
+    ∷ Tcoeff (pair 1 (pos 7)) ∷ Eob
     ∷ Mba 1 ∷ Mtype Mc ∷ Mvd Across (pos 3, negsuc 28) ∷ Mvd Down (pos 2, negsuc 29)
     ∷ Mba 1 ∷ Mtype McCoded ∷ Mvd Across (negsuc 4, pos 27) ∷ Mvd Down (pos 0, pos 0) ∷ Cbp 2
-        ∷ Tcoeff (pair 0 (negsuc 0)) ∷ Eob
+    ∷ Tcoeff (pair 0 (negsuc 0)) ∷ Eob
     ∷ Mba 1 ∷ Mtype McQuant ∷ Mquant 31 ∷ Mvd Across (pos 0, pos 0) ∷ Mvd Down (pos 13, negsuc 18) ∷ Cbp 4
-        ∷ Tcoeff (pair 0 (pos 1)) ∷ Eob
+    ∷ Tcoeff (pair 0 (pos 1)) ∷ Eob
     ∷ Mba 1 ∷ Mtype McFil ∷ Mvd Across (pos 2, negsuc 29) ∷ Mvd Down (negsuc 14, pos 17)
     ∷ Mba 1 ∷ Mtype McFilCoded ∷ Mvd Across (negsuc 14, pos 17) ∷ Mvd Down (pos 1, pos 1) ∷ Cbp 8
-        ∷ Tcoeff (pair 0 (pos 1)) ∷ Eob
+    ∷ Tcoeff (pair 0 (pos 1)) ∷ Eob
     ∷ Mba 1 ∷ Mtype McFilQuant ∷ Mquant 1 ∷ Mvd Across (negsuc 1, pos 30) ∷ Mvd Down (pos 14, negsuc 17) ∷ Cbp 16
-        ∷ Tcoeff (pair 0 (pos 1)) ∷ Eob
+    ∷ Tcoeff (pair 0 (pos 1)) ∷ Eob
     ∷ Mba 1 ∷ Mtype Intra ∷ Dc 1 ∷ Eob ∷ Dc 127 ∷ Tcoeff (pair 0 (pos 1)) ∷ Eob ∷ Dc 129
-        ∷ Tcoeff (pair 0 (negsuc 0)) ∷ Eob ∷ Dc 255 ∷ Tcoeff (escape 62 (pos 1)) ∷ Eob ∷ Dc 254
-        ∷ Tcoeff (escape 0 (pos 1)) ∷ Eob ∷ Dc 16 ∷ Tcoeff (pair 0 (pos 3)) ∷ Tcoeff (pair 5 (negsuc 2)) ∷ Eob
+    ∷ Tcoeff (pair 0 (negsuc 0)) ∷ Eob ∷ Dc 255 ∷ Tcoeff (escape 62 (pos 1)) ∷ Eob ∷ Dc 254
+    ∷ Tcoeff (escape 0 (pos 1)) ∷ Eob ∷ Dc 16 ∷ Tcoeff (pair 0 (pos 3)) ∷ Tcoeff (pair 5 (negsuc 2)) ∷ Eob
     ∷ Mba 1 ∷ Mtype IntraQuant ∷ Mquant 17 ∷ Dc 255 ∷ Eob ∷ Dc 255 ∷ Eob ∷ Dc 255 ∷ Eob ∷ Dc 255 ∷ Eob ∷ Dc 255
-        ∷ Eob ∷ Dc 255 ∷ Eob
+    ∷ Eob ∷ Dc 255 ∷ Eob
     ∷ Mba 1 ∷ Mtype Inter ∷ Cbp 63 ∷ Tcoeff (pair 0 (pos 1)) ∷ Eob ∷ Tcoeff (pair 0 (pos 1)) ∷ Eob
-        ∷ Tcoeff (pair 0 (pos 1)) ∷ Eob ∷ Tcoeff (pair 0 (pos 1)) ∷ Eob ∷ Tcoeff (pair 0 (pos 1)) ∷ Eob
-        ∷ Tcoeff (escape 63 (negsuc 0)) ∷ Eob
+    ∷ Tcoeff (pair 0 (pos 1)) ∷ Eob ∷ Tcoeff (pair 0 (pos 1)) ∷ Eob ∷ Tcoeff (pair 0 (pos 1)) ∷ Eob
+    ∷ Tcoeff (escape 63 (negsuc 0)) ∷ Eob
     ∷ Gbsc ∷ Gn 3 ∷ Gquant 9 ∷ Gei false
     ∷ Mba 33 ∷ Mtype Inter ∷ Cbp 32 ∷ Tcoeff (pair 0 (pos 1)) ∷ Eob
     ∷ Gbsc ∷ Gn 5 ∷ Gquant 31 ∷ Gei false ∷ []
@@ -139,28 +139,28 @@ abbrev pub vectors : Picture
 vectors = record {
   tr = 0;
   groups =
-    group_of 1 31 []
-    ∷ group_of 3 4 (
-        sent 10 Mc None (pos 3) (negsuc 1) none_sent
-        ∷ sent 11 Mc None (negsuc 0) (negsuc 1) none_sent
-        ∷ sent 12 Mc None (pos 1) (pos 0) none_sent
-        ∷ sent 13 Mc None (pos 1) (pos 0) none_sent
-        ∷ sent 22 Mc None (negsuc 14) (pos 15) none_sent
-        ∷ sent 23 Mc None (pos 15) (negsuc 14) none_sent
-        ∷ sent 24 Mc None (negsuc 14) (pos 14) none_sent
-        ∷ sent 26 Mc None (pos 2) (pos 3) none_sent
-        ∷ sent 27 Inter None (pos 0) (pos 0) (only 1 (coded (pair 0 (pos 1) ∷ [])))
-        ∷ sent 28 McFil None (pos 1) (pos 1) none_sent
-        ∷ sent 29 McFil None (pos 1) (pos 1) none_sent
-        ∷ sent 30 Intra None (pos 0) (pos 0) (replicate 6 (intra 255 []))
-        ∷ sent 31 Mc None (pos 0) (negsuc 0) none_sent
-        ∷ [])
-    ∷ group_of 5 1 (
-        sent 1 McFil None (pos 0) (negsuc 0) none_sent
-        ∷ sent 2 McQuant (Some 2) (pos 0) (negsuc 0) (only 1 (coded (pair 0 (pos 1) ∷ [])))
-        ∷ sent 4 Inter None (pos 0) (pos 0) (only 6 (coded (pair 0 (pos 1) ∷ [])))
-        ∷ [])
-    ∷ [];
+      group_of 1 31 []
+      ∷ group_of 3 4 (
+      sent 10 Mc None (pos 3) (negsuc 1) none_sent
+      ∷ sent 11 Mc None (negsuc 0) (negsuc 1) none_sent
+      ∷ sent 12 Mc None (pos 1) (pos 0) none_sent
+      ∷ sent 13 Mc None (pos 1) (pos 0) none_sent
+      ∷ sent 22 Mc None (negsuc 14) (pos 15) none_sent
+      ∷ sent 23 Mc None (pos 15) (negsuc 14) none_sent
+      ∷ sent 24 Mc None (negsuc 14) (pos 14) none_sent
+      ∷ sent 26 Mc None (pos 2) (pos 3) none_sent
+      ∷ sent 27 Inter None (pos 0) (pos 0) (only 1 (coded (pair 0 (pos 1) ∷ [])))
+      ∷ sent 28 McFil None (pos 1) (pos 1) none_sent
+      ∷ sent 29 McFil None (pos 1) (pos 1) none_sent
+      ∷ sent 30 Intra None (pos 0) (pos 0) (replicate 6 (intra 255 []))
+      ∷ sent 31 Mc None (pos 0) (negsuc 0) none_sent
+      ∷ [])
+      ∷ group_of 5 1 (
+      sent 1 McFil None (pos 0) (negsuc 0) none_sent
+      ∷ sent 2 McQuant (Some 2) (pos 0) (negsuc 0) (only 1 (coded (pair 0 (pos 1) ∷ [])))
+      ∷ sent 4 Inter None (pos 0) (pos 0) (only 6 (coded (pair 0 (pos 1) ∷ [])))
+      ∷ [])
+      ∷ [];
 }
 
 abbrev pub vectors_bits : List Bool
@@ -207,7 +207,7 @@ vectors_elements =
     ∷ Gbsc ∷ Gn 5 ∷ Gquant 1 ∷ Gei false
     ∷ Mba 1 ∷ Mtype McFil ∷ Mvd Across (pos 0, pos 0) ∷ Mvd Down (negsuc 0, negsuc 0)
     ∷ Mba 1 ∷ Mtype McQuant ∷ Mquant 2 ∷ Mvd Across (pos 0, pos 0) ∷ Mvd Down (pos 0, pos 0) ∷ Cbp 32
-        ∷ Tcoeff (pair 0 (pos 1)) ∷ Eob
+    ∷ Tcoeff (pair 0 (pos 1)) ∷ Eob
     ∷ Mba 2 ∷ Mtype Inter ∷ Cbp 1 ∷ Tcoeff (pair 0 (pos 1)) ∷ Eob ∷ []
 
 -- ---- wide
@@ -217,36 +217,36 @@ abbrev pub wide : Picture
 wide = record {
   tr = 31;
   groups =
-    group_of 1 8 (
-        sent 11 McCoded None (pos 15) (pos 0) (only 1 (coded (pair 0 (pos 1) ∷ escape 3 (negsuc 4)
-            ∷ escape 0 (pos 127) ∷ [])))
-        ∷ sent 12 InterQuant (Some 3) (pos 0) (pos 0) (None ∷ None ∷ None ∷ coded (pair 0 (negsuc 0) ∷ [])
-            ∷ coded (pair 0 (pos 1) ∷ []) ∷ None ∷ [])
-        ∷ [])
-    ∷ group_of 2 9 (
-        sent 1 McFilQuant (Some 30) (negsuc 14) (pos 15) (only 6 (coded (pair 10 (pos 2) ∷ [])))
-        ∷ sent 2 McFil None (negsuc 14) (pos 15) none_sent
-        ∷ sent 13 Intra None (pos 0) (pos 0) (intra 255 [] ∷ intra 7 (pair 0 (negsuc 1) ∷ []) ∷ intra 255 []
-            ∷ intra 255 [] ∷ intra 255 [] ∷ intra 255 [] ∷ [])
-        ∷ [])
-    ∷ group_of 3 1 []
-    ∷ group_of 4 1 []
-    ∷ group_of 5 1 []
-    ∷ group_of 6 1 []
-    ∷ group_of 7 1 []
-    ∷ group_of 8 10 (
-        sent 33 IntraQuant (Some 12) (pos 0) (pos 0) (replicate 6 (intra 255 []))
-        ∷ [])
-    ∷ group_of 9 31 (
-        sent 23 Mc None (pos 0) (pos 15) none_sent
-        ∷ [])
-    ∷ group_of 10 1 []
-    ∷ group_of 11 1 []
-    ∷ group_of 12 1 (
-        sent 32 Inter None (pos 0) (pos 0) (only 2 (coded (pair 0 (pos 1) ∷ [])))
-        ∷ sent 33 McCoded None (negsuc 0) (negsuc 14) (only 5 (coded (pair 3 (pos 1) ∷ [])))
-        ∷ [])
-    ∷ [];
+      group_of 1 8 (
+      sent 11 McCoded None (pos 15) (pos 0) (only 1 (coded (pair 0 (pos 1) ∷ escape 3 (negsuc 4)
+      ∷ escape 0 (pos 127) ∷ [])))
+      ∷ sent 12 InterQuant (Some 3) (pos 0) (pos 0) (None ∷ None ∷ None ∷ coded (pair 0 (negsuc 0) ∷ [])
+      ∷ coded (pair 0 (pos 1) ∷ []) ∷ None ∷ [])
+      ∷ [])
+      ∷ group_of 2 9 (
+      sent 1 McFilQuant (Some 30) (negsuc 14) (pos 15) (only 6 (coded (pair 10 (pos 2) ∷ [])))
+      ∷ sent 2 McFil None (negsuc 14) (pos 15) none_sent
+      ∷ sent 13 Intra None (pos 0) (pos 0) (intra 255 [] ∷ intra 7 (pair 0 (negsuc 1) ∷ []) ∷ intra 255 []
+      ∷ intra 255 [] ∷ intra 255 [] ∷ intra 255 [] ∷ [])
+      ∷ [])
+      ∷ group_of 3 1 []
+      ∷ group_of 4 1 []
+      ∷ group_of 5 1 []
+      ∷ group_of 6 1 []
+      ∷ group_of 7 1 []
+      ∷ group_of 8 10 (
+      sent 33 IntraQuant (Some 12) (pos 0) (pos 0) (replicate 6 (intra 255 []))
+      ∷ [])
+      ∷ group_of 9 31 (
+      sent 23 Mc None (pos 0) (pos 15) none_sent
+      ∷ [])
+      ∷ group_of 10 1 []
+      ∷ group_of 11 1 []
+      ∷ group_of 12 1 (
+      sent 32 Inter None (pos 0) (pos 0) (only 2 (coded (pair 0 (pos 1) ∷ [])))
+      ∷ sent 33 McCoded None (negsuc 0) (negsuc 14) (only 5 (coded (pair 3 (pos 1) ∷ [])))
+      ∷ [])
+      ∷ [];
 }
 
 abbrev pub wide_bits : List Bool
@@ -279,14 +279,14 @@ wide_elements =
     Psc ∷ Tr 31 ∷ Ptype 7 ∷ Pei false
     ∷ Gbsc ∷ Gn 1 ∷ Gquant 8 ∷ Gei false
     ∷ Mba 11 ∷ Mtype McCoded ∷ Mvd Across (pos 15, negsuc 16) ∷ Mvd Down (pos 0, pos 0) ∷ Cbp 32
-        ∷ Tcoeff (pair 0 (pos 1)) ∷ Tcoeff (escape 3 (negsuc 4)) ∷ Tcoeff (escape 0 (pos 127)) ∷ Eob
+    ∷ Tcoeff (pair 0 (pos 1)) ∷ Tcoeff (escape 3 (negsuc 4)) ∷ Tcoeff (escape 0 (pos 127)) ∷ Eob
     ∷ Mba 1 ∷ Mtype InterQuant ∷ Mquant 3 ∷ Cbp 6 ∷ Tcoeff (pair 0 (negsuc 0)) ∷ Eob ∷ Tcoeff (pair 0 (pos 1)) ∷ Eob
     ∷ Gbsc ∷ Gn 2 ∷ Gquant 9 ∷ Gei false
     ∷ Mba 1 ∷ Mtype McFilQuant ∷ Mquant 30 ∷ Mvd Across (negsuc 14, pos 17) ∷ Mvd Down (pos 15, negsuc 16)
-        ∷ Cbp 1 ∷ Tcoeff (pair 10 (pos 2)) ∷ Eob
+    ∷ Cbp 1 ∷ Tcoeff (pair 10 (pos 2)) ∷ Eob
     ∷ Mba 1 ∷ Mtype McFil ∷ Mvd Across (pos 0, pos 0) ∷ Mvd Down (pos 0, pos 0)
     ∷ Mba 11 ∷ Mtype Intra ∷ Dc 255 ∷ Eob ∷ Dc 7 ∷ Tcoeff (pair 0 (negsuc 1)) ∷ Eob ∷ Dc 255 ∷ Eob ∷ Dc 255 ∷ Eob
-        ∷ Dc 255 ∷ Eob ∷ Dc 255 ∷ Eob
+    ∷ Dc 255 ∷ Eob ∷ Dc 255 ∷ Eob
     ∷ Gbsc ∷ Gn 3 ∷ Gquant 1 ∷ Gei false
     ∷ Gbsc ∷ Gn 4 ∷ Gquant 1 ∷ Gei false
     ∷ Gbsc ∷ Gn 5 ∷ Gquant 1 ∷ Gei false
@@ -294,7 +294,7 @@ wide_elements =
     ∷ Gbsc ∷ Gn 7 ∷ Gquant 1 ∷ Gei false
     ∷ Gbsc ∷ Gn 8 ∷ Gquant 10 ∷ Gei false
     ∷ Mba 33 ∷ Mtype IntraQuant ∷ Mquant 12 ∷ Dc 255 ∷ Eob ∷ Dc 255 ∷ Eob ∷ Dc 255 ∷ Eob ∷ Dc 255 ∷ Eob ∷ Dc 255
-        ∷ Eob ∷ Dc 255 ∷ Eob
+    ∷ Eob ∷ Dc 255 ∷ Eob
     ∷ Gbsc ∷ Gn 9 ∷ Gquant 31 ∷ Gei false
     ∷ Mba 23 ∷ Mtype Mc ∷ Mvd Across (pos 0, pos 0) ∷ Mvd Down (pos 15, negsuc 16)
     ∷ Gbsc ∷ Gn 10 ∷ Gquant 1 ∷ Gei false
@@ -302,4 +302,4 @@ wide_elements =
     ∷ Gbsc ∷ Gn 12 ∷ Gquant 1 ∷ Gei false
     ∷ Mba 32 ∷ Mtype Inter ∷ Cbp 16 ∷ Tcoeff (pair 0 (pos 1)) ∷ Eob
     ∷ Mba 1 ∷ Mtype McCoded ∷ Mvd Across (negsuc 0, negsuc 0) ∷ Mvd Down (negsuc 14, pos 17) ∷ Cbp 2
-        ∷ Tcoeff (pair 3 (pos 1)) ∷ Eob ∷ []
+    ∷ Tcoeff (pair 3 (pos 1)) ∷ Eob ∷ []

@@ -47,8 +47,15 @@ abbrev pub said : List Element → List (ℕ × ℕ × ℕ × ℕ × ℤ × ℤ)
 said [] = []
 said (e ∷ before) =
     cond (may_end (slot (e ∷ before)))
-    ((begun (e ∷ before), group (e ∷ before), address (e ∷ before), quantiser (e
-        ∷ before), vector_component Across (e ∷ before), vector_component Down (e ∷ before)) ∷ said before)
+    ((
+      begun (e ∷ before),
+      group (e ∷ before),
+      address (e ∷ before),
+      quantiser (e
+          ∷ before),
+      vector_component Across (e ∷ before),
+      vector_component Down (e ∷ before),
+    ) ∷ said before)
     (said before)
 
 pub said_by_kinds : reverse (said (reverse kinds_elements)) ≡
@@ -224,13 +231,23 @@ group_headers =
     ∷ (Cif, 0, digits (cif ++ gob_4 ++ gob_4), At 74 BadGroup)  -- a group twice
     ∷ (Qcif, 0, digits (qcif ++ gob_1 ++ gob_5), Whole 84)  -- a group left out
     -- two spare octets, stuffing and a macroblock
-    ∷ (Qcif, 0, digits (qcif
-        ++ codes "0000000000000001 0001 01000 1 10000001 1 00000000 0 00000001111 1 1 1010 10 10"), Whole 97)
+    ∷ (
+      Qcif,
+      0,
+      digits (qcif
+          ++ codes "0000000000000001 0001 01000 1 10000001 1 00000000 0 00000001111 1 1 1010 10 10"),
+      Whole 97,
+    )
     -- no flag behind a spare octet
     ∷ (Qcif, 0, digits (qcif ++ codes "0000000000000001 0001 01000 1 10000001"), At 66 Cut)
     -- a macroblock with all six blocks, stuffing twice, and another macroblock
-    ∷ (Qcif, 0, digits (qcif ++ gob_1 ++ codes "1 0001" ++ grey
-        ++ codes "00000001111 00000001111 1 1 1010 10 10"), Whole 155)
+    ∷ (
+      Qcif,
+      0,
+      digits (qcif ++ gob_1 ++ codes "1 0001" ++ grey
+          ++ codes "00000001111 00000001111 1 1 1010 10 10"),
+      Whole 155,
+    )
     ∷ (Qcif, 0, digits (qcif ++ gob_1 ++ codes "00000001111" ++ gob_3), Whole 95)  -- a header behind stuffing
     ∷ []
 
@@ -245,11 +262,21 @@ addresses =
     -- address 34 by a difference of 1
     ∷ (Qcif, 0, digits (qcif ++ gob_1 ++ codes "00000011000 1 1010 10 10 1 1 1010 10 10"), At 78 BadAddress)
     -- address 33 by two differences, and in the next group again
-    ∷ (Qcif, 0, digits (qcif ++ gob_1 ++ codes "011 1 1010 10 10 00000011010 1 1010 10 10" ++ gob_3
-        ++ codes "00000011000 1 1010 10 10"), Whole 136)
+    ∷ (
+      Qcif,
+      0,
+      digits (qcif ++ gob_1 ++ codes "011 1 1010 10 10 00000011010 1 1010 10 10" ++ gob_3
+          ++ codes "00000011000 1 1010 10 10"),
+      Whole 136,
+    )
     -- stuffing leaves the address
-    ∷ (Qcif, 0, digits (qcif ++ gob_1
-        ++ codes "00000011000 1 1010 10 10 00000001111 1 1 1010 10 10"), At 89 BadAddress)
+    ∷ (
+      Qcif,
+      0,
+      digits (qcif ++ gob_1
+          ++ codes "00000011000 1 1010 10 10 00000001111 1 1 1010 10 10"),
+      At 89 BadAddress,
+    )
     ∷ (Cif, 0, digits (cif ++ gob_1 ++ codes "1 0000000000"), At 59 NoCode)  -- no kind of ten zeros
     ∷ (Cif, 0, digits (cif ++ gob_1 ++ codes "1 1 000000000"), At 60 NoCode)  -- no pattern of nine zeros
     ∷ []
@@ -329,35 +356,75 @@ components_are = refl
 abbrev pub predictors : List Case
 predictors =
     -- none at address 1
-    (Qcif, 0, digits (qcif ++ gob_1 ++ codes "00001010 000000001 00000011011 1" ++ gob_3
-        ++ codes "1 000000001 1 1"), Whole 125)
+    (
+      Qcif,
+      0,
+      digits (qcif ++ gob_1 ++ codes "00001010 000000001 00000011011 1" ++ gob_3
+          ++ codes "1 000000001 1 1"),
+      Whole 125,
+    )
     -- none at address 12: -1 would leave the picture
     ∷ (Qcif, 0, digits (qcif ++ gob_1 ++ codes "00001010 000000001 011 1 1 000000001 1 1"), Whole 91)
     -- none at address 23
     ∷ (Qcif, 0, digits (qcif ++ gob_1 ++ codes "00000100011 000000001 011 1 1 000000001 1 1"), Whole 94)
     -- one at address 24
-    ∷ (Qcif, 0, digits (qcif ++ gob_1
-        ++ codes "00000100010 000000001 00000011010 1 1 000000001 00000011010 1"), Whole 112)
+    ∷ (
+      Qcif,
+      0,
+      digits (qcif ++ gob_1
+          ++ codes "00000100010 000000001 00000011010 1 1 000000001 00000011010 1"),
+      Whole 112,
+    )
     -- none behind a macroblock that is not MC
-    ∷ (Qcif, 0, digits (qcif ++ gob_1
-        ++ codes "00001011 000000001 00000011010 1 1 1 1010 10 10 00000001111 00001010 000000001 1 1"), Whole 127)
+    ∷ (
+      Qcif,
+      0,
+      digits (qcif ++ gob_1
+          ++ codes "00001011 000000001 00000011010 1 1 1 1010 10 10 00000001111 00001010 000000001 1 1"),
+      Whole 127,
+    )
     -- none behind a macroblock that is not MC, in the same row
-    ∷ (Qcif, 0, digits (qcif ++ gob_1
-        ++ codes "0000110 000000001 00000011010 1 1 1 1010 10 10 1 000000001 1 1"), Whole 108)
+    ∷ (
+      Qcif,
+      0,
+      digits (qcif ++ gob_1
+          ++ codes "0000110 000000001 00000011010 1 1 1 1010 10 10 1 000000001 1 1"),
+      Whole 108,
+    )
     -- that vector kept would leave the picture
-    ∷ (Qcif, 0, digits (qcif ++ gob_1
-        ++ codes "0000110 000000001 00000011010 1 1 000000001 1 1 1 000000001 1 1"), At 108 VectorOutside)
+    ∷ (
+      Qcif,
+      0,
+      digits (qcif ++ gob_1
+          ++ codes "0000110 000000001 00000011010 1 1 000000001 1 1 1 000000001 1 1"),
+      At 108 VectorOutside,
+    )
     -- none behind a macroblock that is not MC: 15 would not be in range
-    ∷ (Qcif, 0, digits (qcif ++ gob_1
-        ++ codes "1 000000001 00000011010 1 1 1 1010 10 10 1 000000001 010 1"), Whole 104)
+    ∷ (
+      Qcif,
+      0,
+      digits (qcif ++ gob_1
+          ++ codes "1 000000001 00000011010 1 1 1 1010 10 10 1 000000001 010 1"),
+      Whole 104,
+    )
     -- none behind an Intra macroblock
-    ∷ (Qcif, 0, digits (qcif ++ gob_1 ++ codes "1 000000001 00000011010 1 1 0001" ++ grey
-        ++ codes "1 000000001 010 1"), Whole 159)
+    ∷ (
+      Qcif,
+      0,
+      digits (qcif ++ gob_1 ++ codes "1 000000001 00000011010 1 1 0001" ++ grey
+          ++ codes "1 000000001 010 1"),
+      Whole 159,
+    )
     -- none behind an address that is not sent
     ∷ (Qcif, 0, digits (qcif ++ gob_1 ++ codes "1 000000001 00000011010 1 011 000000001 010 1"), Whole 96)
     -- one behind stuffing
-    ∷ (Qcif, 0, digits (qcif ++ gob_1
-        ++ codes "1 000000001 00000011010 1 00000001111 1 000000001 010 1"), At 101 BadVector)
+    ∷ (
+      Qcif,
+      0,
+      digits (qcif ++ gob_1
+          ++ codes "1 000000001 00000011010 1 00000001111 1 000000001 010 1"),
+      At 101 BadVector,
+    )
     -- the components apart: 15 across, 0 down
     ∷ (Qcif, 0, digits (qcif ++ gob_1 ++ codes "1 000000001 00000011010 1 1 000000001 1 010"), Whole 94)
     ∷ []
@@ -370,16 +437,31 @@ predictors_are = refl
 abbrev pub blocks : List Case
 blocks =
     -- INTRADC 1, 127, 129, 254, 255 and 2
-    (Qcif, 0, digits (qcif ++ gob_1
-        ++ codes "1 0001 00000001 10 01111111 10 10000001 10 11111110 10 11111111 10 00000010 10"), Whole 123)
+    (
+      Qcif,
+      0,
+      digits (qcif ++ gob_1
+          ++ codes "1 0001 00000001 10 01111111 10 10000001 10 11111110 10 11111111 10 00000010 10"),
+      Whole 123,
+    )
     -- five blocks of six
-    ∷ (Qcif, 0, digits (qcif ++ gob_1
-        ++ codes "1 0001 11111111 10 11111111 10 11111111 10 11111111 10 11111111 10"), At 113 Cut)
+    ∷ (
+      Qcif,
+      0,
+      digits (qcif ++ gob_1
+          ++ codes "1 0001 11111111 10 11111111 10 11111111 10 11111111 10 11111111 10"),
+      At 113 Cut,
+    )
     -- a seventh block
     ∷ (Qcif, 0, digits (qcif ++ gob_1 ++ codes "1 0001" ++ grey ++ codes "11111111 10"), At 133 Cut)
     -- INTRADC 128 in the last block
-    ∷ (Qcif, 0, digits (qcif ++ gob_1
-        ++ codes "1 0001 11111111 10 11111111 10 11111111 10 11111111 10 11111111 10 10000000 10"), At 113 BadDc)
+    ∷ (
+      Qcif,
+      0,
+      digits (qcif ++ gob_1
+          ++ codes "1 0001 11111111 10 11111111 10 11111111 10 11111111 10 11111111 10 10000000 10"),
+      At 113 BadDc,
+    )
     ∷ (Cif, 0, digits (cif ++ gob_1 ++ codes "1 0001 00000000 10"), At 63 BadDc)  -- INTRADC 0
     -- an end of a block first: level 1 of a block that is not Intra
     ∷ (Qcif, 0, digits (qcif ++ gob_1 ++ codes "1 1 1010 10 10"), Whole 68)
@@ -390,8 +472,13 @@ blocks =
     ∷ (Qcif, 0, digits (qcif ++ gob_1 ++ codes "1 1 0010100 10 10 10 10"), Whole 75)  -- pattern 33
     ∷ (Qcif, 0, digits (qcif ++ gob_1 ++ codes "1 1 00000111 10 10 10 10 10 10 10 10"), Whole 84)  -- pattern 30
     -- INTRADC and run 62
-    ∷ (Qcif, 0, digits (qcif ++ gob_1
-        ++ codes "1 0001 11111111 000001 111110 00000001 10 11111111 10 11111111 10 11111111 10 11111111 10 11111111 10"), Whole 143)
+    ∷ (
+      Qcif,
+      0,
+      digits (qcif ++ gob_1
+          ++ codes "1 0001 11111111 000001 111110 00000001 10 11111111 10 11111111 10 11111111 10 11111111 10 11111111 10"),
+      Whole 143,
+    )
     -- INTRADC and run 63
     ∷ (Qcif, 0, digits (qcif ++ gob_1 ++ codes "1 0001 11111111 000001 111111 00000001 10"), At 71 TooMany)
     -- run 63 without INTRADC
@@ -399,14 +486,29 @@ blocks =
     -- run 63 behind one coefficient
     ∷ (Qcif, 0, digits (qcif ++ gob_1 ++ codes "1 1 1010 10 000001 111111 00000001 10"), At 66 TooMany)
     -- runs 26, 26 and 9, and a code of run 0
-    ∷ (Qcif, 0, digits (qcif ++ gob_1
-        ++ codes "1 1 1010 00000000110110 00000000110110 0000000100010 110 10"), Whole 110)
+    ∷ (
+      Qcif,
+      0,
+      digits (qcif ++ gob_1
+          ++ codes "1 1 1010 00000000110110 00000000110110 0000000100010 110 10"),
+      Whole 110,
+    )
     -- runs 26, 26 and 9, and a code of run 1
-    ∷ (Qcif, 0, digits (qcif ++ gob_1
-        ++ codes "1 1 1010 00000000110110 00000000110110 00001010 0110 10"), At 100 TooMany)
+    ∷ (
+      Qcif,
+      0,
+      digits (qcif ++ gob_1
+          ++ codes "1 1 1010 00000000110110 00000000110110 00001010 0110 10"),
+      At 100 TooMany,
+    )
     -- two blocks of 64
-    ∷ (Qcif, 0, digits (qcif ++ gob_1
-        ++ codes "1 1 0010100 000001 111111 00000001 10 000001 111111 00000001 10"), Whole 111)
+    ∷ (
+      Qcif,
+      0,
+      digits (qcif ++ gob_1
+          ++ codes "1 1 0010100 000001 111111 00000001 10 000001 111111 00000001 10"),
+      Whole 111,
+    )
     ∷ (Qcif, 0, digits (qcif ++ gob_1 ++ codes "1 1 1010 000001 000000 01111111 10"), Whole 86)  -- level 127
     ∷ (Qcif, 0, digits (qcif ++ gob_1 ++ codes "1 1 1010 000001 000000 11111111 10"), Whole 86)  -- level -1
     ∷ (Qcif, 0, digits (qcif ++ gob_1 ++ codes "1 1 1010 000001 000000 10000001 10"), Whole 86)  -- level -127
@@ -441,11 +543,21 @@ limits =
     ∷ (Cif, 261735, digits (cif ++ gob_12 ++ codes "1 0001" ++ grey), Whole 261858)  -- the last group of CIF
     ∷ (Cif, 261736, digits (cif ++ gob_12 ++ codes "1 0001" ++ grey), At 261857 TooLong)  -- one bit later
     -- all twelve groups: nothing is to come
-    ∷ (Cif, 261790, digits (cif ++ gob_1 ++ gob_2 ++ gob_3 ++ gob_4 ++ gob_5 ++ gob_6 ++ gob_7 ++ gob_8 ++ gob_9
-        ++ gob_10 ++ gob_11 ++ gob_12 ++ codes "1 1 1010 10 10"), Whole 262144)
+    ∷ (
+      Cif,
+      261790,
+      digits (cif ++ gob_1 ++ gob_2 ++ gob_3 ++ gob_4 ++ gob_5 ++ gob_6 ++ gob_7 ++ gob_8 ++ gob_9
+          ++ gob_10 ++ gob_11 ++ gob_12 ++ codes "1 1 1010 10 10"),
+      Whole 262144,
+    )
     -- one bit later the end of the block is too long
-    ∷ (Cif, 261791, digits (cif ++ gob_1 ++ gob_2 ++ gob_3 ++ gob_4 ++ gob_5 ++ gob_6 ++ gob_7 ++ gob_8 ++ gob_9
-        ++ gob_10 ++ gob_11 ++ gob_12 ++ codes "1 1 1010 10 10"), At 262143 TooLong)
+    ∷ (
+      Cif,
+      261791,
+      digits (cif ++ gob_1 ++ gob_2 ++ gob_3 ++ gob_4 ++ gob_5 ++ gob_6 ++ gob_7 ++ gob_8 ++ gob_9
+          ++ gob_10 ++ gob_11 ++ gob_12 ++ codes "1 1 1010 10 10"),
+      At 262143 TooLong,
+    )
     -- stuffing up to the limit
     ∷ (Qcif, 65415, digits (qcif ++ gob_1 ++ gob_3 ++ gob_5 ++ codes "00000001111"), Whole 65536)
     -- one bit later
@@ -462,22 +574,47 @@ limits =
     -- behind BadQuant
     ∷ (Qcif, 65420, digits (qcif ++ gob_1 ++ gob_3 ++ gob_5 ++ codes "1 00001 00000"), At 65536 BadQuant)
     -- behind BadAddress
-    ∷ (Qcif, 65404, digits (qcif ++ gob_1 ++ gob_3 ++ gob_5
-        ++ codes "00000011000 000000001 1 1 1"), At 65536 BadAddress)
+    ∷ (
+      Qcif,
+      65404,
+      digits (qcif ++ gob_1 ++ gob_3 ++ gob_5
+          ++ codes "00000011000 000000001 1 1 1"),
+      At 65536 BadAddress,
+    )
     -- behind BadVector
-    ∷ (Qcif, 65413, digits (qcif ++ gob_1 ++ gob_3 ++ gob_5
-        ++ codes "011 000000001 00000011001 1"), At 65535 BadVector)
+    ∷ (
+      Qcif,
+      65413,
+      digits (qcif ++ gob_1 ++ gob_3 ++ gob_5
+          ++ codes "011 000000001 00000011001 1"),
+      At 65535 BadVector,
+    )
     -- behind VectorOutside
-    ∷ (Cif, 261783, digits (cif ++ gob_1 ++ gob_2 ++ gob_3 ++ gob_4 ++ gob_5 ++ gob_6 ++ gob_7 ++ gob_8 ++ gob_9
-        ++ gob_10 ++ gob_11 ++ gob_12 ++ codes "00001010 000000001 010"), At 262144 VectorOutside)
+    ∷ (
+      Cif,
+      261783,
+      digits (cif ++ gob_1 ++ gob_2 ++ gob_3 ++ gob_4 ++ gob_5 ++ gob_6 ++ gob_7 ++ gob_8 ++ gob_9
+          ++ gob_10 ++ gob_11 ++ gob_12 ++ codes "00001010 000000001 010"),
+      At 262144 VectorOutside,
+    )
     -- behind BadDc
     ∷ (Qcif, 65420, digits (qcif ++ gob_1 ++ gob_3 ++ gob_5 ++ codes "1 0001 10000000"), At 65535 BadDc)
     -- behind BadLevel
-    ∷ (Qcif, 65419, digits (qcif ++ gob_1 ++ gob_3 ++ gob_5
-        ++ codes "1 1 1010 000001 000000 00000000"), At 65535 BadLevel)
+    ∷ (
+      Qcif,
+      65419,
+      digits (qcif ++ gob_1 ++ gob_3 ++ gob_5
+          ++ codes "1 1 1010 000001 000000 00000000"),
+      At 65535 BadLevel,
+    )
     -- behind TooMany
-    ∷ (Qcif, 65417, digits (qcif ++ gob_1 ++ gob_3 ++ gob_5
-        ++ codes "1 1 1010 10 000001 111111 00000001"), At 65535 TooMany)
+    ∷ (
+      Qcif,
+      65417,
+      digits (qcif ++ gob_1 ++ gob_3 ++ gob_5
+          ++ codes "1 1 1010 10 000001 111111 00000001"),
+      At 65535 TooMany,
+    )
     -- a word that is cut is cut, past the limit too
     ∷ (Qcif, 65426, digits (qcif ++ gob_1 ++ gob_3 ++ gob_5 ++ codes "0000001"), At 65536 Cut)
     -- no word is no word, past the limit too
@@ -519,7 +656,7 @@ pub elements_of_dressed : elements_of Qcif dressed ≡
     ∷ Gbsc ∷ Gn 1 ∷ Gquant 8 ∷ Gei true ∷ Gspare 3 ∷ Gei false
     ∷ Stuffing
     ∷ Mba 1 ∷ Mtype McFilQuant ∷ Mquant 1 ∷ Mvd Across (pos 0, pos 0) ∷ Mvd Down (pos 0, pos 0) ∷ Cbp 32
-        ∷ Tcoeff (pair 0 (pos 1)) ∷ Eob
+    ∷ Tcoeff (pair 0 (pos 1)) ∷ Eob
     ∷ Mba 1 ∷ Mtype Intra ∷ Dc 255 ∷ Eob ∷ Dc 255 ∷ Eob ∷ []
 unfolding read_from next_within_limit next rows field number mba_table mtype_table mvd_table cbp_table tcoeff_table
 elements_of_dressed = refl

@@ -46,7 +46,8 @@ good_coefficients = (
   (at_most 0 63 refl, (below 0 1 refl, at_most 1 127 refl)),
   refl,
   refl,
-  refl)
+  refl,
+)
 
 -- a run of 64, the levels 0, 128 and -128, and pairs without a code
 pub bad_coefficients :
@@ -67,7 +68,8 @@ bad_coefficients = (
   (λ h. false≢true h),
   (λ h. false≢true h),
   (λ h. false≢true h),
-  (λ h. false≢true h))
+  (λ h. false≢true h),
+)
 
 -- ---- blocks (4.2.4)
 
@@ -85,7 +87,8 @@ pub full_blocks : IsIntraBlock (block (Some 255) (escape 62 (pos 1)
     ∷ [])) × IsCodedBlock (block None (escape 63 (pos 1) ∷ []))
 full_blocks = (
   ((below 0 255 refl, at_most 255 255 refl, λ h. omega (arith, h)), (one_alone (escape 62 (pos 1)) (long_one 62 (at_most 62 63 refl)), at_most 64 64 refl)),
-  (refl, below 0 1 refl, (one_alone (escape 63 (pos 1)) (long_one 63 (at_most 63 63 refl)), at_most 64 64 refl)))
+  (refl, below 0 1 refl, (one_alone (escape 63 (pos 1)) (long_one 63 (at_most 63 63 refl)), at_most 64 64 refl)),
+)
 
 -- INTRADC 0, 128, 256 and none; a 65th place; a coefficient that is not valid
 pub bad_intra_blocks :
@@ -101,7 +104,8 @@ bad_intra_blocks = (
   (λ h. not_at_most 256 255 refl h.0.1),
   (λ h. h.0),
   (λ h. not_at_most 65 64 refl h.1.1),
-  (λ h. not_below 0 0 refl (h.1.0 0 (pair 0 (pos 1)) (below 0 1 refl)).1.0))
+  (λ h. not_below 0 0 refl (h.1.0 0 (pair 0 (pos 1)) (below 0 1 refl)).1.0),
+)
 
 -- INTRADC; no coefficient; a 65th place; a coefficient that is not valid
 pub bad_coded_blocks :
@@ -113,7 +117,8 @@ bad_coded_blocks = (
   (λ h. true≢false h.0),
   (λ h. not_below 0 0 refl h.1),
   (λ h. not_at_most 65 64 refl h.2.1),
-  (λ h. not_below 0 0 refl (h.2.0 0 (pair 0 (pos 1)) (below 0 1 refl)).1.0))
+  (λ h. not_below 0 0 refl (h.2.0 0 (pair 0 (pos 1)) (below 0 1 refl)).1.0),
+)
 
 -- ---- the blocks of a kind (4.2.3.2, 4.2.3.5)
 
@@ -159,7 +164,8 @@ blocks_of_kinds = (
   same_intra 6,
   ((0, coded (pair 0 (pos 1) ∷ []), below 0 6 refl, refl, refl), first_is_coded),
   ((0, coded (pair 0 (pos 1) ∷ []), below 0 6 refl, refl, refl), first_is_coded),
-  nothing_sent 6)
+  nothing_sent 6,
+)
 
 -- an Intra macroblock without its last block, and with a block that is not Intra; one with CBP that has no block, and one
 -- with an Intra block; one without CBP that has a block
@@ -174,7 +180,8 @@ blocks_that_do_not_fit = (
   (λ h. (h 5 None (below 5 6 refl)).0),
   (λ h. false≢true (list_any-from_Any is_some none_sent h.0)),
   (λ h. true≢false (h.1 0 None (below 0 6 refl)).0),
-  (λ h. true≢false (h 0 None (below 0 6 refl))))
+  (λ h. true≢false (h 0 None (below 0 6 refl))),
+)
 
 -- ---- quantisers of macroblocks (4.2.3.3)
 
@@ -190,7 +197,8 @@ bad_mquants = (
   (λ h. h),
   (λ h. not_below 0 0 refl h.0),
   (λ h. not_at_most 32 31 refl h.1),
-  (λ h. true≢false h))
+  (λ h. true≢false h),
+)
 
 -- ---- vectors (4.2.3.4)
 
@@ -220,7 +228,8 @@ components = (
   (at_most 0 15 refl, refl),
   (at_most 0 15 refl, refl),
   (at_most 15 15 refl, refl),
-  refl)
+  refl,
+)
 
 -- 16; one sample over each edge of both formats; a vector of a kind that has none
 pub bad_components :
@@ -240,7 +249,8 @@ bad_components = (
   (λ h. false≢true h.1),
   (λ h. false≢true h.1),
   (λ h. false≢true h.1),
-  (λ h. let e : 1 ≡ 0 = ap nat_abs h in omega (arith, e)))
+  (λ h. let e : 1 ≡ 0 = ap nat_abs h in omega (arith, e)),
+)
 
 -- ---- macroblocks
 
@@ -266,7 +276,8 @@ bad_macroblocks = (
   (λ h. false≢true h.across.1),
   (λ h. false≢true h.down.1),
   (λ h. let e : 5 ≡ 6 = h.six in omega (arith, e)),
-  (λ h. true≢false (h.blocks 0 None (below 0 6 refl))))
+  (λ h. true≢false (h.blocks 0 None (below 0 6 refl))),
+)
 
 -- ---- groups (4.2.2)
 
@@ -283,7 +294,8 @@ bad_addresses = (
   (λ h. not_at_most 34 33 refl h.1),
   (λ h. not_below 2 2 refl h.2.0),
   (λ h. not_below 0 0 refl h.0),
-  (λ h. not_below 3 2 refl h.2.0))
+  (λ h. not_below 3 2 refl h.2.0),
+)
 
 -- upwards out of group 3, which is no fault; the greatest quantiser
 pub a_group : IsValidGroup Qcif (group_of 3 31 (moving 1 (pos 0) (negsuc 0) ∷ []))
@@ -303,7 +315,8 @@ bad_groups = (
   (λ h. not_below 0 0 refl h.quant.0),
   (λ h. not_at_most 32 31 refl h.quant.1),
   (λ h. not_at_most 34 33 refl h.addresses.1),
-  (λ h. false≢true (h.macroblocks 0 (moving 1 (pos 0) (negsuc 0)) (below 0 1 refl)).down.1))
+  (λ h. false≢true (h.macroblocks 0 (moving 1 (pos 0) (negsuc 0)) (below 0 1 refl)).down.1),
+)
 
 -- ---- pictures (4.2.1)
 
@@ -357,7 +370,8 @@ bad_pictures = (
   (λ h. not_below 32 32 refl h.so_far.tr),
   (λ h. let e : 5 ≡ 3 = ap second h.so_far.numbers in omega (arith, e)),
   (λ h. not_below 0 0 refl (h.so_far.groups 0 (group_of 1 1 []) (below 0 3 refl)).quant.0),
-  (λ h. let e : 2 ≡ 3 = h.whole in omega (arith, e)))
+  (λ h. let e : 2 ≡ 3 = h.whole in omega (arith, e)),
+)
 
 -- ---- refreshes
 

@@ -1,30 +1,32 @@
 -- Worked elements of input forms: those that another implementation reads from the bits.
-use Rattle.std.specs.Prelude.{◌≡◌, ◌++◌, Bool, true, false, List, [], ◌∷◌, pos, negsuc, refl}
+use Rattle.std.specs.Prelude.{◌≡◌, ◌++◌, true, false, [], ◌∷◌, pos, refl}
 use Rattle.pel_model.specs.declared.Format.TheVariants.{Qcif, Cif}
 use Rattle.pel_model.specs.declared.MbKind.TheVariants.{Inter}
 use Rattle.pel_model.specs.Bits.{field, number}
 use Rattle.pel_model.specs.Codes.{mba_table, mtype_table, mvd_table, cbp_table, tcoeff_table}
-use Rattle.pel_model.specs.Grammar.{Element, Psc, Tr, Ptype, Pei, Pspare, Gbsc, Gn, Gquant, Gei, Gspare, Stuffing, Mba, Mtype, Cbp, Tcoeff, Eob}
-use Rattle.pel_model.specs.Spelling.{Form, Sent}
+use Rattle.pel_model.specs.Grammar.{Psc, Tr, Ptype, Pei, Pspare, Gbsc, Gn, Gquant, Gei, Gspare, Stuffing, Mba, Mtype, Cbp, Tcoeff, Eob}
+use Rattle.pel_model.specs.Spelling.{strict_form}
 use Rattle.pel_model.specs.Text.{coefficient_word}
-use Rattle.pel_model.proofs.WorkedForms.{plain, dressed, dressed_bits, one_block}
+use Rattle.pel_model.proofs.WorkedForms.{dressed, dressed_bits, one_block}
 use Rattle.pel_model.proofs.WorkedRecords.{pair, kinds, kinds_elements, vectors, vectors_elements, wide, wide_elements}
 use Rattle.picture_laws.specs.PictureElements.{elements}
 use Rattle.picture_laws.proofs.Chains.{words}
 
--- the strict forms of two pictures
-abbrev strict : Form
-strict = record { free = plain; spares = []; groups = Sent [] 0 [] ∷ Sent [] 0 [] ∷ Sent [] 0 [] ∷ []; zeros = 0; }
+-- ---- strict forms
 
-elements_of_kinds : elements Qcif strict kinds ≡ kinds_elements
+elements_of_kinds : elements Qcif (strict_form kinds) kinds ≡ kinds_elements
 unfolding number mvd_table
 elements_of_kinds = refl
 
-elements_of_vectors : elements Qcif strict vectors ≡ vectors_elements
+elements_of_vectors : elements Qcif (strict_form vectors) vectors ≡ vectors_elements
 unfolding number mvd_table
 elements_of_vectors = refl
 
--- a form with all that a sender may add
+elements_of_wide : elements Cif (strict_form wide) wide ≡ wide_elements
+unfolding number mvd_table
+elements_of_wide = refl
+
+-- ---- a form with all that a sender may add
 elements_of_dressed : elements Qcif dressed one_block ≡
     Psc ∷ Tr 1 ∷ Ptype 42 ∷ Pei true ∷ Pspare 0 ∷ Pei true ∷ Pspare 255 ∷ Pei false
     ∷ Gbsc ∷ Gn 1 ∷ Gquant 8 ∷ Gei true ∷ Gspare 69 ∷ Gei false ∷ Stuffing ∷ Stuffing
