@@ -1,5 +1,4 @@
 //! What a kind of macroblock has: the columns of the table of MTYPE (H.261, 4.2.3.2).
-#![tactic(auto)]
 
 ghost use Rattle.std.specs.Prelude.{◌≡◌};
 ghost use Rattle.pel_model.specs.Codes.{is_intra as intra_by_table, has_mquant as mquant_by_table, has_vector as vector_by_table, has_cbp as cbp_by_table};

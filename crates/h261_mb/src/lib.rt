@@ -1,9 +1,12 @@
-//! Macroblocks of H.261 (4.2.3): one is read past and its mark is given, or its first fault is found.
+//! Macroblocks of H.261 (4.2.3): the header of one is read, or one is read past and its mark is given, or the first fault
+//! is found.
 #![tactic(auto)]
 
 mod blocks;
-mod head;
+mod front;
+mod header;
 mod kinds;
+mod pattern;
 mod state;
 mod vector;
 
@@ -15,13 +18,11 @@ ghost use Rattle.pel_model.specs.Walk.{Good, Bad, read, Walked};
 ghost use Rattle.h261_mb.specs.Inside.{IsMacroblockSoFar};
 ghost use Rattle.h261_mb.specs.State.{IsReady, Stands, IsRead};
 
-use blocks::{count_blocks, skip_blocks};
-use head::read_head;
-use kinds::is_intra;
+use blocks::skip_blocks;
+pub use header::{Header, read_header};
 use pel_bits::Reader;
 use pel_model::{Fault, Format, Mark};
 pub use state::MbState;
-use vector::vector_after;
 
 /// Reads one macroblock, from its MBA on, and gives its mark, whose place counts from the reader's first bit. `state` is
 /// that behind a group header or a macroblock of the group, and becomes that behind this one. Stuffing stands before the
@@ -38,9 +39,10 @@ pub fn scan_mb(
 ) -> Result<Mark, Fault>
     requires group { is_group format group ≡ true }
     requires ready { IsReady state.old }
-    ensures walk { (before : List Element) (d n : ℕ) → Stands group state.old before →
-        read mba_rows r.old.0 ≡ Good (Mba d) n →
-        Walked (next format) before (IsRead group r.old.1 before state.new) (IsMacroblockSoFar before) result r.old r.new }
+    ensures walk { (before : List Element) (d n : ℕ) →
+        Stands group state.old before → read mba_rows r.old.0 ≡ Good (Mba d) n →
+        Walked (next format) before (IsRead group r.old.1 before state.new)
+        (IsMacroblockSoFar before) result r.old r.new }
     ensures no_word { (why : Why) → read mba_rows r.old.0 ≡ Bad why →
         (result ≡ Err (record { place = r.old.1; why = why })) × (r.new ≡ r.old) }
     ensures stuffing { (n : ℕ) → read mba_rows r.old.0 ≡ Good Stuffing n →
@@ -49,25 +51,18 @@ pub fn scan_mb(
     ensures ready { IfOk result (λ _. IsReady state.new) }
 {
     let at = r.place();
-    let head = read_head(r, state)?;
-    let (h, v) = vector_after(r, format, group, &head)?;
-    let count = count_blocks(r, head.kind)?;
-    let intra = is_intra(head.kind);
-    skip_blocks(r, intra, count)?;
-    *state = MbState {
-        address: head.address,
-        quant: head.quant,
-        h,
-        v,
-    };
+    let header = read_header(r, format, group, state)?;
+    let intra = header.is_intra();
+    skip_blocks(r, intra, header.pattern.count_ones())?;
+    *state = header.state_behind();
     Ok(Mark {
         at,
         len: r.place() - at,
         group,
-        address: head.address,
-        quant_after: head.quant,
-        h_after: h,
-        v_after: v,
+        address: header.address,
+        quant_after: header.quant,
+        h_after: header.h,
+        v_after: header.v,
         intra,
     })
 }

@@ -1,3 +1,4 @@
+pub mod Codings
 pub mod ComesWithin
 pub mod Comings
 pub mod EmptyGroups

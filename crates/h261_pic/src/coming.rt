@@ -1,6 +1,5 @@
 //! What may come behind a picture's header, a group's header, a macroblock or stuffing: the end, a group, stuffing or a
 //! macroblock (H.261, 4.2.1 to 4.2.3).
-#![tactic(auto)]
 
 ghost use Rattle.std.specs.Prelude.{◌≡◌, ◌≤◌, false, List, IfOk};
 ghost use Rattle.pel_model.specs.declared.Format.{Format};

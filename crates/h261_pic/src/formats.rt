@@ -1,8 +1,7 @@
 //! What the format of a picture decides: its groups of blocks with their numbers (H.261, 4.2.2) and its greatest number of
 //! bits (5.2).
-#![tactic(auto)]
 
-ghost use Rattle.std.specs.Prelude.{◌≡◌, ◌<◌, ◌≤◌, true, slice_index};
+ghost use Rattle.std.specs.Prelude.{◌≡◌, ◌-◌, ◌*◌, ◌<◌, ◌≤◌, true, slice_index};
 ghost use Rattle.pel_model.specs.Grammar.{is_group as is_group_of};
 ghost use Rattle.pel_model.specs.Text.{group_header_length};
 ghost use Rattle.pel_model.specs.Valid.{group_numbers, group_count as group_count_of, limit};
@@ -10,7 +9,7 @@ ghost use Rattle.pel_model.specs.Valid.{group_numbers, group_count as group_coun
 use pel_model::Format;
 
 /// The number of bits of a group header: GBSC, GN, GQUANT and a GEI of 0 (4.2.2).
-pub const GROUP_HEADER_BITS: u32 = 26;
+const GROUP_HEADER_BITS: u32 = 26;
 
 /// The greatest number of bits of a picture.
 pub fn longest(format: Format) -> u32
@@ -30,6 +29,14 @@ pub fn group_count(format: Format) -> usize
         Format::Qcif => 3,
         Format::Cif => 12,
     }
+}
+
+/// The last place at which an element may end, where so many groups were begun.
+pub fn last_end(format: Format, begun: u32) -> u32
+    ensures { result ≡ limit format - group_header_length * (group_count_of format - begun) }
+{
+    let groups = group_count(format) as u32;
+    longest(format) - GROUP_HEADER_BITS * groups.saturating_sub(begun)
 }
 
 /// Whether this is the number of a group: 1, 3 or 5 in QCIF, 1 to 12 in CIF.

@@ -1,13 +1,13 @@
 //! A group of blocks as a sender may send it: header, macroblocks and stuffing, read within the picture's limit.
-#![tactic(auto)]
 
 ghost use Rattle.std.specs.Prelude.{◌≡◌, ◌<◌, ◌≤◌, ℕ, Bool, true, List, Result, IfOk};
 ghost use Rattle.pel_model.specs.Grammar.{Element, is_group as is_group_of};
 ghost use Rattle.h261_pic.specs.ReadGroup.{GroupComes, GroupIsReadOrFails};
 
 use crate::coming::Coming;
+use crate::formats::last_end;
 use crate::input_headers::GroupHeader;
-use crate::limited::{coming_within, group_header_within, last_end, macroblock_within};
+use crate::limited::{coming_within, group_header_within, macroblock_within};
 use arrayvec::ArrayVec;
 use h261_mb::MbState;
 use pel_bits::Reader;

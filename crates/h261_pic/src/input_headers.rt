@@ -1,5 +1,4 @@
 //! The headers of pictures and of groups of blocks as senders may send them, with spare bytes (H.261, 4.2.1, 4.2.2).
-#![tactic(auto)]
 
 ghost use Rattle.std.specs.Prelude.{◌≡◌, ◌≤◌, ◌<◌, ◌^◌, ◌&&◌, ℕ, true, List, length, take, nat_lt, IfOk, IfErr};
 ghost use Rattle.pel_bits.specs.Reading.{skipped};

@@ -1,11 +1,9 @@
 //! The parts of a coded picture, each read within the limit of its format (H.261, 5.2): an element that ends past the limit
 //! is too long. A group's header that is still to come counts as if it were sent, so that the strict text has room for it.
-#![tactic(auto)]
 
-ghost use Rattle.std.specs.Prelude.{◌≡◌, ◌+◌, ◌-◌, ◌*◌, ◌<◌, ◌≤◌, ℕ, true, List, [], take, IfOk};
+ghost use Rattle.std.specs.Prelude.{◌≡◌, ◌-◌, ◌<◌, ◌≤◌, ℕ, true, List, [], take, IfOk};
 ghost use Rattle.pel_model.specs.declared.Format.{Format as PictureFormat};
-ghost use Rattle.pel_model.specs.Text.{group_header_length};
-ghost use Rattle.pel_model.specs.Valid.{group_count as group_count_of, limit};
+ghost use Rattle.pel_model.specs.Valid.{limit};
 ghost use Rattle.pel_model.specs.Grammar.{Element, Mba, mba_rows, slot, AtGn, AtGroup, AtMacroblock, group as group_before, begun as begun_before, is_group as is_group_of, counted, picture};
 ghost use Rattle.pel_model.specs.Walk.{Good, read};
 ghost use Rattle.h261_mb.specs.State.{IsReady, Stands, IsRead};
@@ -14,19 +12,11 @@ ghost use Rattle.h261_pic.specs.Comes.{Comes};
 ghost use Rattle.h261_pic.specs.Reached.{EndsAt, Reached, FollowsOrFails};
 
 use crate::coming::{Coming, take_coming, take_group_or_end};
-use crate::formats::{GROUP_HEADER_BITS, group_count, longest};
+use crate::formats::last_end;
 use crate::input_headers::{GroupHeader, read_group_header, read_picture_header};
 use h261_mb::{MbState, scan_mb};
 use pel_bits::Reader;
 use pel_model::{Fault, Format, Mark, Why};
-
-/// The last place at which an element may end, where so many groups were begun.
-pub fn last_end(format: Format, begun: u32) -> u32
-    ensures { result ≡ limit format - group_header_length * (group_count_of format - begun) }
-{
-    let groups = group_count(format) as u32;
-    longest(format) - GROUP_HEADER_BITS * groups.saturating_sub(begun)
-}
 
 /// Takes a picture header as `read_picture_header` does, from the first bit on.
 pub fn picture_header_within(r: &mut Reader<'_>, format: Format) -> Result<u8, Fault>

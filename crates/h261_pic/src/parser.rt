@@ -1,5 +1,4 @@
 //! A picture in any input form, or its first fault.
-#![tactic(auto)]
 
 ghost use Rattle.std.specs.Prelude.{◌≡◌, ℕ, IfOk, IfErr, IsOk};
 ghost use Rattle.pel_model.specs.declared.Why.{Why as Reason};
@@ -7,7 +6,7 @@ ghost use Rattle.pel_model.specs.Records.{Picture};
 ghost use Rattle.pel_model.specs.Accepts.{Accepts};
 ghost use Rattle.pel_model.specs.Grammar.{picture as picture_grammar};
 ghost use Rattle.pel_model.specs.Walk.{FirstFault};
-ghost use Rattle.h261_pic.specs.Coded.{nothing, coding};
+ghost use Rattle.h261_pic.specs.Coded.{nothing, coding, IsFinished};
 
 use crate::coded::Coded;
 use crate::formats::{group_count, group_place};
@@ -26,7 +25,9 @@ use pel_model::{Fault, Format};
 /// header.
 pub fn parse(bits: Bits<'_>, want: Format, into: &mut Coded) -> Result<(), Fault>
     requires { into.old.format ≡ want }
-    ensures accepted { IfOk result (λ _. (picture : Picture) × Accepts want bits.entry picture × (into.new ≡ coding want picture)) }
+    ensures accepted { IfOk result (λ _.
+        (picture : Picture) × Accepts want bits.entry picture × (into.new ≡ coding want picture)) }
+    ensures finished { IfOk result (λ _. IsFinished into.new) }
     ensures only { (picture : Picture) → Accepts want bits.entry picture → IsOk result × (into.new ≡ coding want picture) }
     ensures refused { IfErr result (λ fault. FirstFault (picture_grammar want) bits.entry fault.place fault.why × (into.new ≡ nothing want)) }
     ensures faults { (place : ℕ) (why : Reason) → FirstFault (picture_grammar want) bits.entry place why → result ≡ Err (record { place = place; why = why }) }

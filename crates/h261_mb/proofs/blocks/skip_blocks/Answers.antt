@@ -44,4 +44,4 @@ pub returns-clause-walk : goal.returns-clause-walk
 returns-clause-walk c = λ format before k kind_is intra due to_come.
     let so_far = c.loop-block.invariant.so_far format before k kind_is intra due to_come in
     let none_left : c.args.count - c.loop-block._block ≡ 0 = omega arith in
-    (flat_map block_elements so_far.read, so_far.walk, (so_far.read, omega (arith, so_far.many), refl, so_far.due ∙ ap (block_slot k) none_left))
+    (flat_map block_elements so_far.read, so_far.walk, record { sent = so_far.read; many = omega (arith, so_far.many); elements = refl; due = so_far.due ∙ ap (block_slot k) none_left })

@@ -6,7 +6,7 @@ use Rattle.pel_model.specs.Walk.{read}
 use Rattle.pel_model.specs.Grammar.{Mvd, AtMvd, stays_within, may_end, table_rows}
 use Rattle.h261_mb.proofs.Slots.{no_word, at-mvd}
 use Rattle.h261_mb.proofs.Vectors.{is_chosen, is_none, mvd-good, mvd-outside, mvd-bad}
-use Rattle.h261_mb.proofs.vector.take_component.Goals as goal
+use Rattle.h261_mb.proofs.vector.take_mvd.Goals as goal
 
 pub returns-then-not-stays_within-clause-walk : goal.returns-then-not-stays_within-clause-walk
 returns-then-not-stays_within-clause-walk c = λ format before axis due vector_is side_is corner_is.
@@ -23,7 +23,7 @@ returns-else-not-stays_within-clause-walk c = λ format before axis due vector_i
     let component_is = told.1 ∙ sym (to_z-of_z w8 c.in-Some.component (search rules)) in
     let inside = ap (stays_within c.args.side c.args.first) component_is ∙ (sym c.stays_within.ensures ∙ c.if-not-stays_within.false) in
     let good = mvd-good format before c.args.r.now axis c.args.last c.args.first c.args.side c.in-Ok.values word.0 due vector_is side_is corner_is word.1 told.0 inside in
-    (Mvd axis c.in-Ok.values ∷ [], (word.0, good, word.2), (c.in-Ok.values, refl, component_is))
+    (Mvd axis c.in-Ok.values ∷ [], (word.0, good, word.2), record { values = c.in-Ok.values; elements = refl; component_is = component_is })
 
 pub returns-else-not-stays_within-clause-onward : goal.returns-else-not-stays_within-clause-onward
 returns-else-not-stays_within-clause-onward c =

@@ -4,7 +4,7 @@ use Rattle.pel_model.specs.Walk.{read}
 use Rattle.pel_model.specs.Grammar.{Cbp, AtCbp, table_rows}
 use Rattle.h261_mb.proofs.Slots.{good, no_word, at-cbp}
 use Rattle.h261_mb.proofs.Words.{cbp_within}
-use Rattle.h261_mb.proofs.blocks.take_pattern.Goals as goal
+use Rattle.h261_mb.proofs.pattern.take_cbp.Goals as goal
 
 pub returns-in-Ok-clause-taken : goal.returns-in-Ok-clause-taken
 returns-in-Ok-clause-taken c = λ format before due.

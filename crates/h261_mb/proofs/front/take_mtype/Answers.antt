@@ -3,7 +3,7 @@ use Rattle.pel_model.specs.Codes.{mtype_table}
 use Rattle.pel_model.specs.Walk.{read}
 use Rattle.pel_model.specs.Grammar.{Mtype, AtMtype, table_rows}
 use Rattle.h261_mb.proofs.Slots.{good, no_word, at-mtype}
-use Rattle.h261_mb.proofs.head.take_kind.Goals as goal
+use Rattle.h261_mb.proofs.front.take_mtype.Goals as goal
 
 pub returns-in-Ok-clause-taken : goal.returns-in-Ok-clause-taken
 returns-in-Ok-clause-taken c = λ format before due.

@@ -7,7 +7,8 @@ use Rattle.pel_model.specs.Walk.{after}
 use Rattle.pel_model.specs.Grammar.{Element, Mba, Mtype, slot, vector_slot, vector, address, resets_predictor}
 use Rattle.h261_mb.specs.declared.state.MbState.{MbState}
 use Rattle.pel_model.specs.Elements.{mquant_elements}
-use Rattle.h261_mb.specs.State.{Stands, IsBegun}
+use Rattle.h261_mb.specs.State.{Stands}
+use Rattle.h261_mb.specs.Parts.{IsBegun}
 
 -- the predictor, by the component of the macroblock before
 abbrev pub predicted : MbKind → ℕ → ℕ → ℤ → ℤ

@@ -3,7 +3,7 @@ use Rattle.std.proofs.lemmas.Bool.{eq-eqb, ne_eqb}
 use Rattle.pel_bits.specs.Reading.{zeros}
 use Rattle.pel_bits.proofs.RunBits.{number-fits_in}
 use Rattle.h261_mb.proofs.Slots.{mquant-cut, mquant-good, mquant-bad}
-use Rattle.h261_mb.proofs.head.take_quant.Goals as goal
+use Rattle.h261_mb.proofs.front.take_mquant.Goals as goal
 
 pub returns-then-left-lt5-clause-taken : goal.returns-then-left-lt5-clause-taken
 returns-then-left-lt5-clause-taken c = λ format before due.

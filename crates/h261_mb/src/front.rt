@@ -1,47 +1,48 @@
-//! The first elements of a macroblock: MBA, MTYPE and MQUANT, and the predictor of its vector.
-#![tactic(auto)]
+//! The front of a macroblock header: MBA, MTYPE and MQUANT (H.261, 4.2.3), and the predictor of its vector.
 
-ghost use Rattle.std.specs.Prelude.{◌≡◌, ℕ, ◌+◌, ◌-◌, ◌<◌, ◌≤◌, cond, Bool, List, [], ◌∷◌, Option, unwrap_or, IfOk};
+ghost use Rattle.std.specs.Prelude.{◌≡◌, ℕ, ◌-◌, ◌<◌, ◌≤◌, List, ◌∷◌, IfOk};
 ghost use Rattle.pel_model.specs.declared.Format.{Format};
 ghost use Rattle.pel_model.specs.declared.Why.{Why as Reason};
 ghost use Rattle.pel_model.specs.declared.Why.TheVariants.{NoCode};
-ghost use Rattle.pel_model.specs.Codes.{has_mquant as mquant_by_table, has_vector as vector_by_table};
-ghost use Rattle.pel_model.specs.Grammar.{Element, Mba, Mtype, Mquant, Stuffing, mba_rows, slot, AtMacroblock, AtMtype, AtMquant, vector_slot, address as address_before, resets_predictor as anew, next};
-ghost use Rattle.pel_model.specs.Walk.{Good, Bad, read, after, Takes, Walked};
+ghost use Rattle.pel_model.specs.Grammar.{Element, Mba, Mtype, Mquant, Stuffing, mba_rows, slot, AtMacroblock, AtMtype, AtMquant, address as address_before, resets_predictor as anew, next};
+ghost use Rattle.pel_model.specs.Walk.{Good, Bad, read, Takes, Walked};
 ghost use Rattle.h261_mb.specs.Inside.{StaysInside, IsMacroblockSoFar};
-ghost use Rattle.pel_model.specs.Elements.{mquant_elements};
-ghost use Rattle.h261_mb.specs.State.{IsReady, IsNear, Stands, IsBegun};
+ghost use Rattle.h261_mb.specs.Parts.{IsFront, IsMquant};
+ghost use Rattle.h261_mb.specs.State.{IsReady, IsNear, Stands};
 
 use crate::kinds::{has_mquant, has_vector};
-use crate::state::{Head, MbState};
+use crate::state::{Front, MbState};
 use pel_bits::Reader;
 use pel_model::{Fault, MbKind, Why};
 use vlc_codes::{MbaRow, mba, mtype};
 
-/// Reads MBA, MTYPE and, where the kind has it, MQUANT, and gives with them the predictor of the vector.
-pub fn read_head(r: &mut Reader<'_>, state: &MbState) -> Result<Head, Fault>
+/// The greatest address of a macroblock in its group (H.261, 4.2.2).
+const LAST_ADDRESS: u8 = 33;
+
+/// Takes MBA, MTYPE and, where the kind has it, MQUANT, and gives with them the predictor of the vector.
+pub fn read_front(r: &mut Reader<'_>, state: &MbState) -> Result<Front, Fault>
     requires { IsReady state.now }
-    ensures walk { (format : Format) (before : List Element) (number d n : ℕ) → Stands number state.now before →
-        read mba_rows r.old.0 ≡ Good (Mba d) n →
-        Walked (next format) before
-        (λ head es new. (mquant : Option ℕ) × (es ≡ Mba (head.address - state.now.address) ∷ Mtype head.kind ∷ mquant_elements mquant) × IsBegun number head (after before es))
+    ensures walk { (format : Format) (before : List Element) (number d n : ℕ) →
+        Stands number state.now before → read mba_rows r.old.0 ≡ Good (Mba d) n →
+        Walked (next format) before (IsFront number state.now.address before)
         (IsMacroblockSoFar before) result r.old r.new }
     ensures no_word { (why : Reason) → read mba_rows r.old.0 ≡ Bad why →
         (result ≡ Err (record { place = r.old.1; why = why })) × (r.new ≡ r.old) }
     ensures stuffing { (n : ℕ) → read mba_rows r.old.0 ≡ Good Stuffing n →
         (result ≡ Err (record { place = r.old.1; why = NoCode })) × (r.new ≡ r.old) }
-    ensures within { IfOk result (λ head. (0 < head.address) × (head.address ≤ 33) × IsNear head.h × IsNear head.v) }
+    ensures within { IfOk result (λ front.
+        (0 < front.address) × (front.address ≤ 33) × IsNear front.h × IsNear front.v) }
     ensures onward { IfOk result (λ _. r.old.1 ≤ r.new.1) }
 {
-    let address = take_address(r, state.address)?;
-    let kind = take_kind(r)?;
-    let quant = quant_after(r, kind, state.quant)?;
+    let address = take_mba(r, state.address)?;
+    let kind = take_mtype(r)?;
+    let quant = read_mquant(r, kind, state.quant)?;
     let (h, v) = if has_vector(kind) && !starts_anew(address - state.address, address) {
         (state.h, state.v)
     } else {
         (0, 0)
     };
-    Ok(Head {
+    Ok(Front {
         address,
         kind,
         quant,
@@ -52,9 +53,10 @@ pub fn read_head(r: &mut Reader<'_>, state: &MbState) -> Result<Head, Fault>
 
 // Takes MBA and gives the address, at most 33 (H.261, 4.2.3.1).
 #[inline]
-fn take_address(r: &mut Reader<'_>, last: u8) -> Result<u8, Fault>
+fn take_mba(r: &mut Reader<'_>, last: u8) -> Result<u8, Fault>
     requires { last ≤ 33 }
-    ensures taken { (format : Format) (before : List Element) (d n : ℕ) → slot before ≡ AtMacroblock → address_before before ≡ last →
+    ensures taken { (format : Format) (before : List Element) (d n : ℕ) →
+        slot before ≡ AtMacroblock → address_before before ≡ last →
         read mba_rows r.old.0 ≡ Good (Mba d) n →
         Takes (λ address. Mba (address - last)) (next format before r.old) result r.old r.new }
     ensures no_word { (why : Reason) → read mba_rows r.old.0 ≡ Bad why →
@@ -68,7 +70,7 @@ fn take_address(r: &mut Reader<'_>, last: u8) -> Result<u8, Fault>
     let mut ahead = r.copy();
     match mba(&mut ahead) {
         Ok(MbaRow::Step(difference)) => {
-            if difference > 33 - last {
+            if difference > LAST_ADDRESS - last {
                 return Err(Fault {
                     place,
                     why: Why::BadAddress,
@@ -87,7 +89,7 @@ fn take_address(r: &mut Reader<'_>, last: u8) -> Result<u8, Fault>
 
 // Takes MTYPE (H.261, 4.2.3.2).
 #[inline]
-fn take_kind(r: &mut Reader<'_>) -> Result<MbKind, Fault>
+fn take_mtype(r: &mut Reader<'_>) -> Result<MbKind, Fault>
     ensures taken { (format : Format) (before : List Element) → slot before ≡ AtMtype →
         Takes Mtype (next format before r.old) result r.old r.new }
     ensures onward { IfOk result (λ _. r.old.1 ≤ r.new.1) }
@@ -99,17 +101,16 @@ fn take_kind(r: &mut Reader<'_>) -> Result<MbKind, Fault>
     }
 }
 
-// Takes MQUANT where the kind has it, and gives the quantiser in effect.
+// Takes MQUANT where the kind has it, and gives the quantiser in effect, which was `last` before.
 #[inline]
-fn quant_after(r: &mut Reader<'_>, kind: MbKind, last: u8) -> Result<u8, Fault>
+fn read_mquant(r: &mut Reader<'_>, kind: MbKind, last: u8) -> Result<u8, Fault>
     ensures walk { (format : Format) (before : List Element) →
-        Walked (next format) (Mtype kind ∷ before)
-        (λ quant es new. (mquant : Option ℕ) × (es ≡ mquant_elements mquant) × (quant ≡ unwrap_or mquant last) × (slot (after (Mtype kind ∷ before) es) ≡ vector_slot kind))
+        Walked (next format) (Mtype kind ∷ before) (IsMquant kind last before)
         (StaysInside (Mtype kind ∷ before)) result r.old r.new }
     ensures onward { IfOk result (λ _. r.old.1 ≤ r.new.1) }
 {
     if has_mquant(kind) {
-        take_quant(r)
+        take_mquant(r)
     } else {
         Ok(last)
     }
@@ -117,7 +118,7 @@ fn quant_after(r: &mut Reader<'_>, kind: MbKind, last: u8) -> Result<u8, Fault>
 
 // Takes MQUANT, 5 bits that are not 0 (H.261, 4.2.3.3).
 #[inline]
-fn take_quant(r: &mut Reader<'_>) -> Result<u8, Fault>
+fn take_mquant(r: &mut Reader<'_>) -> Result<u8, Fault>
     ensures taken { (format : Format) (before : List Element) → slot before ≡ AtMquant →
         Takes Mquant (next format before r.old) result r.old r.new }
     ensures onward { IfOk result (λ _. r.old.1 ≤ r.new.1) }

@@ -1,7 +1,7 @@
 use Rattle.std.proofs.Common.{◌<◌, refl, arith}
 use Rattle.h261_mb.proofs.Slots.{mba-good, mba-bad}
 use Rattle.h261_mb.proofs.Words.{mba_above}
-use Rattle.h261_mb.proofs.head.take_address.Goals as goal
+use Rattle.h261_mb.proofs.front.take_mba.Goals as goal
 
 pub returns-then-difference-last-clause-taken : goal.returns-then-difference-last-clause-taken
 returns-then-difference-last-clause-taken c = λ format before d n due address_is is.

@@ -1,0 +1,8 @@
+use Rattle.h261_pic.proofs.Codings.{equal-codings, finished-codings}
+use Rattle.h261_pic.proofs.laws.codings_of_pictures.Goals as goal
+
+pub returns-clause-equal : goal.returns-clause-equal
+returns-clause-equal c = equal-codings
+
+pub returns-clause-finished : goal.returns-clause-finished
+returns-clause-finished c = finished-codings
