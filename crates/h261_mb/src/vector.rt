@@ -5,7 +5,7 @@ ghost use Rattle.pel_model.specs.declared.Format.{Format as PictureFormat};
 ghost use Rattle.pel_model.specs.declared.Format.TheVariants.{Cif};
 ghost use Rattle.pel_model.specs.Valid.{side as side_of, corner};
 ghost use Rattle.pel_model.specs.Records.{Axis, Across, Down};
-ghost use Rattle.pel_model.specs.Grammar.{Element, Mvd, slot, AtMvd, group as group_before, address as address_before, vector as vector_before, component_from, in_range as is_in_range, is_group, stays_within as stays, next};
+ghost use Rattle.pel_model.specs.Grammar.{Element, Mvd, slot, AtMvd, group as group_before, address as address_before, vector_component, component_from, in_range as is_in_range, is_group, stays_within as stays, next};
 ghost use Rattle.pel_model.specs.Walk.{Walked};
 ghost use Rattle.h261_mb.specs.Inside.{StaysInside};
 ghost use Rattle.h261_mb.specs.Parts.{IsBegun, AreComponents, IsVector, IsMvd};
@@ -52,7 +52,7 @@ fn take_components(
     requires near { IsNear front.now.h × IsNear front.now.v }
     ensures walk { (before : List Element) → slot before ≡ AtMvd Across →
         group_before before ≡ group → address_before before ≡ front.now.address →
-        vector_before Across before ≡ front.now.h → vector_before Down before ≡ front.now.v →
+        vector_component Across before ≡ front.now.h → vector_component Down before ≡ front.now.v →
         Walked (next format) before (AreComponents front.now)
         (StaysInside before) result r.old r.new }
     ensures near { IfOk result (λ vector. IsNear vector.0 × IsNear vector.1) }
@@ -68,7 +68,7 @@ fn take_mvd(r: &mut Reader<'_>, last: i8, first: u32, side: u32) -> Result<i8, F
     requires near { IsNear last }
     requires first { first ≤ side_of Cif Across }
     ensures walk { (format : PictureFormat) (before : List Element) (axis : Axis) →
-        slot before ≡ AtMvd axis → vector_before axis before ≡ last → side_of format axis ≡ side →
+        slot before ≡ AtMvd axis → vector_component axis before ≡ last → side_of format axis ≡ side →
         corner axis (group_before before) (address_before before) ≡ first →
         Walked (next format) before (IsMvd axis last)
         (StaysInside before) result r.old r.new }
