@@ -1,6 +1,6 @@
 //! The header of a macroblock: its elements before its blocks (H.261, 4.2.3).
 
-ghost use Rattle.std.specs.Prelude.{◌≡◌, ℕ, ◌<◌, true, List, IfOk, slice_get};
+ghost use Rattle.std.specs.Prelude.{◌≡◌, ℕ, ◌<◌, ◌≤◌, true, List, IfOk, slice_get};
 ghost use Rattle.pel_model.specs.declared.Why.{Why};
 ghost use Rattle.pel_model.specs.declared.Why.TheVariants.{NoCode};
 ghost use Rattle.pel_model.specs.Bits.{field};
@@ -91,6 +91,7 @@ pub fn read_header(
     ensures stuffing { (n : ℕ) → read mba_rows r.old.0 ≡ Good Stuffing n →
         (result ≡ Err (record { place = r.old.1; why = NoCode })) × (r.new ≡ r.old) }
     ensures ready { IfOk result (λ header. IsReady (state_behind header)) }
+    ensures onward { IfOk result (λ _. r.old.1 ≤ r.new.1) }
 {
     let front = read_front(r, state)?;
     let (h, v) = read_vector(r, format, group, &front)?;

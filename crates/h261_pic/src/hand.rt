@@ -27,10 +27,20 @@ impl Hand {
         ensures four { IfOk result (λ hand. hand.four.value ≡ nothing Qcif) }
     {
         Ok(Hand {
-            one: Box::new(alloc, Coded::reserve(alloc, Format::Qcif)?)?,
-            two: Box::new(alloc, Coded::reserve(alloc, Format::Qcif)?)?,
-            three: Box::new(alloc, Coded::reserve(alloc, Format::Qcif)?)?,
-            four: Box::new(alloc, Coded::reserve(alloc, Format::Qcif)?)?,
+            one: empty(alloc)?,
+            two: empty(alloc)?,
+            three: empty(alloc)?,
+            four: empty(alloc)?,
         })
     }
+}
+
+// An empty QCIF picture.
+fn empty(alloc: Global) -> Result<Box<Coded>, NoMemory>
+    ensures { IfOk result (λ picture. picture.value ≡ nothing Qcif) }
+{
+    let Ok(picture) = Box::new(alloc, Coded::reserve(alloc, Format::Qcif)?) else {
+        return Err(NoMemory);
+    };
+    Ok(picture)
 }

@@ -7,7 +7,7 @@ ghost use Rattle.pel_model.specs.Valid.{limit};
 ghost use Rattle.pel_model.specs.Grammar.{Element, Mba, mba_rows, slot, AtGn, AtGroup, AtMacroblock, group as group_before, begun as begun_before, is_group as is_group_of, counted, next_within_limit};
 ghost use Rattle.pel_model.specs.Walk.{Good, read};
 ghost use Rattle.h261_mb.specs.State.{IsReady, Stands, IsRead};
-ghost use Rattle.h261_pic.specs.HeaderElements.{picture_header_elements, group_header_elements};
+ghost use Rattle.h261_pic.specs.HeaderElements.{IsPictureHeader, IsGroupHeader};
 ghost use Rattle.h261_pic.specs.Comes.{Comes};
 ghost use Rattle.h261_pic.specs.Reached.{EndsAt, Reached, FollowsOrFails};
 
@@ -21,7 +21,7 @@ use pel_model::{Fault, Format, Mark, Why};
 /// Takes a picture header as `read_picture_header` does, from the first bit on.
 pub fn picture_header_within(r: &mut Reader<'_>, format: Format) -> Result<u8, Fault>
     requires { r.old.1 ≡ 0 }
-    ensures walk { Reached format [] (λ tr es new. (ptype : ℕ) × (spares : List ℕ) × (es ≡ picture_header_elements tr ptype spares)) result r.old r.new }
+    ensures walk { Reached format [] IsPictureHeader result r.old r.new }
     ensures within { IfOk result (λ tr. tr < 32) }
 {
     let end = last_end(format, 0);
@@ -42,9 +42,12 @@ pub fn group_header_within(
     last: u8,
     end: u32,
 ) -> Result<GroupHeader, Fault>
-    ensures walk { (before : List Element) → slot before ≡ AtGn → group_before before ≡ last → EndsAt format before end → r.old.1 ≤ end →
-        Reached format before (λ header es new. (spares : List ℕ) × (es ≡ group_header_elements header.number header.quant spares)) result r.old r.new }
-    ensures within { IfOk result (λ header. (is_group_of format header.number ≡ true) × (last < header.number) × (0 < header.quant) × (header.quant < 32)) }
+    ensures walk { (before : List Element) → slot before ≡ AtGn → group_before before ≡ last →
+        EndsAt format before end → r.old.1 ≤ end →
+        Reached format before IsGroupHeader result r.old r.new }
+    ensures number { IfOk result (λ header.
+        (is_group_of format header.number ≡ true) × (last < header.number)) }
+    ensures quant { IfOk result (λ header. (0 < header.quant) × (header.quant < 32)) }
 {
     let begin = r.copy();
     let header = read_group_header(r, format, last);
@@ -66,8 +69,8 @@ pub fn macroblock_within(
 ) -> Result<Mark, Fault>
     requires group { is_group_of format group ≡ true }
     requires ready { IsReady state.old }
-    ensures walk { (before : List Element) (d n : ℕ) → Stands group state.old before → read mba_rows r.old.0 ≡ Good (Mba d) n →
-        EndsAt format before end → r.old.1 ≤ end →
+    ensures walk { (before : List Element) (d n : ℕ) → Stands group state.old before →
+        read mba_rows r.old.0 ≡ Good (Mba d) n → EndsAt format before end → r.old.1 ≤ end →
         Reached format before (IsRead group r.old.1 before state.new) result r.old r.new }
     ensures ready { IsReady state.new }
 {
@@ -85,7 +88,8 @@ pub fn macroblock_within(
 /// Says what comes where a macroblock may, as `take_coming` does, behind so many groups begun.
 pub fn coming_within(r: &mut Reader<'_>, format: Format, begun: u32) -> Result<Coming, Fault>
     requires { begun ≤ 13 }
-    ensures { (before : List Element) → slot before ≡ AtMacroblock → begun_before before ≡ begun → counted format before r.old.1 ≤ limit format →
+    ensures { (before : List Element) → slot before ≡ AtMacroblock → begun_before before ≡ begun →
+        counted format before r.old.1 ≤ limit format →
         Comes (next_within_limit format before r.old) result r.old r.new }
 {
     let mut ahead = r.copy();
@@ -103,7 +107,8 @@ pub fn coming_within(r: &mut Reader<'_>, format: Format, begun: u32) -> Result<C
 
 /// Says whether a group comes behind a picture header, and then takes its start code; else the picture ends.
 pub fn group_follows(r: &mut Reader<'_>, format: Format) -> Result<bool, Fault>
-    ensures { (before : List Element) → slot before ≡ AtGroup → begun_before before ≡ 0 → counted format before r.old.1 ≤ limit format →
+    ensures { (before : List Element) → slot before ≡ AtGroup → begun_before before ≡ 0 →
+        counted format before r.old.1 ≤ limit format →
         FollowsOrFails (next_within_limit format before r.old) result r.old r.new }
 {
     let place = r.place();

@@ -30,40 +30,36 @@ returns-in_err-skip_blocks-clause-walk c =
     rw (p.1, p.2) (λ before d n stands is.
     let header = c.in_ok-header.header in
     let read = c.in_ok-header.ensures.walk before d n stands is in
-    let h = read.2 in
+    let h = read.wanted in
     let counted = six_ones header.pattern (pattern-within header.kind header.pattern h.pattern) in
-    let bad = c.in_err-skip_blocks.ensures.walk c.args.format (after before read.0) header.kind h.kind_is (sym c.is_intra-intra.ensures)
+    let bad = c.in_err-skip_blocks.ensures.walk c.args.format (after before read.elements) header.kind h.kind_is (sym c.is_intra-intra.ensures)
     (h.due ∙ ap (block_slot header.kind) (sym counted)) (h.to_come ∙ sym counted) in
-    fails_later (next c.args.format) before (IsMacroblockSoFar before) c.args.r.now c.read_header.new.r c.skip_blocks.new.r read.0 bad.0 _ read.1 bad.1
-    (so_far_later before read.0 bad.0 (header-begins read.0 _ _ _ _ _ _ h.elements) (inside-header read.0 _ _ _ _ _ _ h.elements) bad.2) bad.3 bad.4)
+    fails_later (next c.args.format) before (IsMacroblockSoFar before) c.args.r.now c.read_header.new.r c.skip_blocks.new.r read.elements _ read.walk bad (so_far_later before read.elements bad.elements (header-begins read.elements _ _ _ _ _ _ h.elements) (inside-header read.elements _ _ _ _ _ _ h.elements) bad.part))
 
 pub returns-clause-walk : goal.returns-clause-walk
 returns-clause-walk c = λ before d n stands is.
     let header = c.in_ok-header.header in
     let read = c.in_ok-header.ensures.walk before d n stands is in
-    let h = read.2 in
-    let there = after before read.0 in
+    let h = read.wanted in
+    let there = after before read.elements in
     let six = pattern-within header.kind header.pattern h.pattern in
     let counted = six_ones header.pattern six in
     let blocks = c.in_ok-skip_blocks.ensures.walk c.args.format there header.kind h.kind_is (sym c.is_intra-intra.ensures)
     (h.due ∙ ap (block_slot header.kind) (sym counted)) (h.to_come ∙ sym counted) in
-    let sent = blocks.2 in
-    let es = read.0 ++ blocks.0 in
-    let behind : after before es ≡ after there blocks.0 = after-append before read.0 blocks.0 in
-    let say = say_again c.args.group header.address header.quant header.h header.v there (after there blocks.0) (behind_blocks there sent.sent blocks.0 sent.elements) h.say in
+    let sent = blocks.wanted in
+    let es = read.elements ++ blocks.elements in
+    let behind : after before es ≡ after there blocks.elements = after-append before read.elements blocks.elements in
+    let say = say_again c.args.group header.address header.quant header.h header.v there (after there blocks.elements) (behind_blocks there sent.sent blocks.elements sent.elements) h.say in
     let pattern : List Bool = field header.pattern 6 in
     let m : Macroblock = record { address = header.address; kind = header.kind; mquant = h.mquant; across = header.h; down = header.v; blocks = placed pattern sent.sent } in
     let state : MbState = state_behind header in
     let told : c.state_behind.result ≡ state = c.state_behind.ensures in
-    let mark : ℕ → ℕ → MbState → Bool → Mark = λ at end s intra. record { at = at; len = end - at; group = c.args.group; address = s.address; quant_after = s.quant; h_after = s.h; v_after = s.v; intra = intra } in (
-      es,
-      goes-append (next c.args.format) before c.args.r.now c.read_header.new.r c.skip_blocks.new.r read.0 blocks.0 read.1 blocks.1,
-      record {
+    let mark : ℕ → ℕ → MbState → Bool → Mark = λ at end s intra. record { at = at; len = end - at; group = c.args.group; address = s.address; quant_after = s.quant; h_after = s.h; v_after = s.v; intra = intra } in record { elements = es; walk = goes-append (next c.args.format) before c.args.r.now c.read_header.new.r c.skip_blocks.new.r read.elements blocks.elements read.walk blocks.walk; wanted = record {
         macroblock = m;
         difference = h.difference;
         across = h.across;
         down = h.down;
-        elements = whole_elements m h.difference h.across h.down pattern sent.sent refl (sent.many ∙ counted ∙ sym (six_counted header.pattern six)) read.0 blocks.0
+        elements = whole_elements m h.difference h.across h.down pattern sent.sent refl (sent.many ∙ counted ∙ sym (six_counted header.pattern six)) read.elements blocks.elements
             (h.elements ∙ ap (header_elements h.difference header.kind h.mquant h.across h.down) (sym (six_number header.pattern six))) sent.elements;
         stands = subst (λ (s : MbState). Stands c.args.group s (after before es)) (sym told)
             (subst (λ (b : List Element). Stands c.args.group state b) (sym behind) (record { due = sent.due; say = say }));
@@ -78,5 +74,4 @@ returns-clause-walk c = λ before d n stands is.
             ∙ (ap (λ (end : ℕ). mark c.args.r.now.1 end state c.is_intra-intra.result) c.place.ensures
             ∙ (ap (mark c.args.r.now.1 c.skip_blocks.new.r.1 state) c.is_intra-intra.ensures
             ∙ ap (λ (s : MbState). mark c.args.r.now.1 c.skip_blocks.new.r.1 s (is_intra header.kind)) (sym told))));
-      },
-    )
+      } }

@@ -15,7 +15,7 @@ returns-in_err-address-clause-walk c =
     let p = err_from_is_err_and c.from_residual.result c.from_residual.ensures.1 in
     rw (p.1, p.2) (λ format before number d n stands is.
     let took = c.in_err-address.ensures.taken format before d n stands.due stands.say.address_is is in
-    fails_here (next format) before (IsMacroblockSoFar before) c.args.r.now c.args.r.now c.take_mba.new.r [] _ refl (tt, inl refl) took.0 took.1 took.2)
+    fails_here (next format) before (IsMacroblockSoFar before) c.args.r.now c.args.r.now c.take_mba.new.r [] _ refl (tt, inl refl) took.bad took.place took.kept)
 
 pub returns-in_err-kind-clause-walk : goal.returns-in_err-kind-clause-walk
 returns-in_err-kind-clause-walk c =
@@ -24,7 +24,7 @@ returns-in_err-kind-clause-walk c =
     let took = c.in_ok-address.ensures.taken format before d n stands.due stands.say.address_is is in
     let mba = Mba (c.in_ok-address.address - c.args.state.now.address) in
     let bad = c.in_err-kind.ensures.taken format (mba ∷ before) refl in
-    fails_here (next format) before (IsMacroblockSoFar before) c.args.r.now c.take_mba.new.r c.take_mtype.new.r (mba ∷ []) _ took (tt, inr refl) bad.0 bad.1 bad.2)
+    fails_here (next format) before (IsMacroblockSoFar before) c.args.r.now c.take_mba.new.r c.take_mtype.new.r (mba ∷ []) _ (took.len, took.good, took.behind) (tt, inr refl) bad.bad bad.place bad.kept)
 
 pub returns-in_err-quant-clause-walk : goal.returns-in_err-quant-clause-walk
 returns-in_err-quant-clause-walk c =
@@ -35,7 +35,7 @@ returns-in_err-quant-clause-walk c =
     let kind = c.in_ok-kind.ensures.taken format (mba ∷ before) refl in
     let later = c.in_err-quant.ensures.walk format (mba ∷ before) in
     let mtype = Mtype c.in_ok-kind.kind in
-    (mba ∷ mtype ∷ later.0, goes_first (next format) before c.args.r.now c.take_mba.new.r c.read_mquant.new.r mba took.0 (mtype ∷ later.0) took.1 took.2 (goes_first (next format) (mba ∷ before) c.take_mba.new.r c.take_mtype.new.r c.read_mquant.new.r mtype kind.0 later.0 kind.1 kind.2 later.1), (later.2.0, inr later.2.1), later.3, later.4))
+    record { elements = mba ∷ mtype ∷ later.elements; walk = goes_first (next format) before c.args.r.now c.take_mba.new.r c.read_mquant.new.r mba took.len (mtype ∷ later.elements) took.good took.behind (goes_first (next format) (mba ∷ before) c.take_mba.new.r c.take_mtype.new.r c.read_mquant.new.r mtype kind.len later.elements kind.good kind.behind later.walk); part = (later.part.0, inr later.part.1); bad = later.bad; place = later.place })
 
 pub returns-clause-walk : goal.returns-clause-walk
 returns-clause-walk c = λ format before number d n stands is.
@@ -68,12 +68,12 @@ returns-clause-walk c = λ format before number d n stands is.
     let v : ℤ = to_z w8 (of_z w8 c.if-has_vector.h.1) in
     let h_is = to_z-of_z w8 c.if-has_vector.h.0 (search rules) in
     let v_is = to_z-of_z w8 c.if-has_vector.h.1 (search rules) in
-    let behind = begun number state before stands at c.in_ok-quant.quant k h v later.2.mquant (c.in_ok-address.ensures.within.0) later.2.quant_is (ap (λ es. slot (after (mtype ∷ mba ∷ before) es)) (sym later.2.elements) ∙ later.2.due) (near.0 ∙ sym h_is) (near.1 ∙ sym v_is) in (
+    let behind = begun number state before stands at c.in_ok-quant.quant k h v later.wanted.mquant (c.in_ok-address.ensures.within.0) later.wanted.quant_is (ap (λ es. slot (after (mtype ∷ mba ∷ before) es)) (sym later.wanted.elements) ∙ later.wanted.due) (near.0 ∙ sym h_is) (near.1 ∙ sym v_is) in (
       mba ∷ mtype ∷ later.0,
       goes_first (next format) before c.args.r.now c.take_mba.new.r c.read_mquant.new.r mba took.0 (mtype ∷ later.0) took.1 took.2 (goes_first (next format) (mba ∷ before) c.take_mba.new.r c.take_mtype.new.r c.read_mquant.new.r mtype kind.0 later.0 kind.1 kind.2 later.1),
       record {
-        mquant = later.2.mquant;
-        elements = ap (λ es. mba ∷ mtype ∷ es) later.2.elements;
-        begun = subst (λ (es : List Element). IsBegun number (record { address = at; kind = k; quant = c.in_ok-quant.quant; h = h; v = v }) (after (mtype ∷ mba ∷ before) es)) (sym later.2.elements) behind;
+        mquant = later.wanted.mquant;
+        elements = ap (λ es. mba ∷ mtype ∷ es) later.wanted.elements;
+        begun = subst (λ (es : List Element). IsBegun number (record { address = at; kind = k; quant = c.in_ok-quant.quant; h = h; v = v }) (after (mtype ∷ mba ∷ before) es)) (sym later.wanted.elements) behind;
       },
     )

@@ -11,9 +11,9 @@ use Rattle.h261_mb.proofs.Steps.{fails_here}
 use Rattle.h261_mb.proofs.front.read_mquant.Goals as goal
 
 taken : (format : Format) (before : List Element) (kind : MbKind) (last : ℕ) (old new : List Bool × ℕ) (result : Result ℕ Fault) → Takes Mquant (next format (Mtype kind ∷ before) old) result old new → slot (Mtype kind ∷ before) ≡ AtMquant → Walked (next format) (Mtype kind ∷ before) (IsMquant kind last before) (StaysInside (Mtype kind ∷ before)) result old new
-taken format before kind last old new (Ok q) took due = (Mquant q ∷ [], took, record { mquant = Some q; elements = refl; quant_is = refl; due = refl })
+taken format before kind last old new (Ok q) took due = record { elements = Mquant q ∷ []; walk = (took.len, took.good, took.behind); wanted = record { mquant = Some q; elements = refl; quant_is = refl; due = refl } }
 taken format before kind last old new (Err f) took due =
-    fails_here (next format) (Mtype kind ∷ before) (StaysInside (Mtype kind ∷ before)) old old new [] f refl (tt, ap may_end due) took.0 took.1 took.2
+    fails_here (next format) (Mtype kind ∷ before) (StaysInside (Mtype kind ∷ before)) old old new [] f refl (tt, ap may_end due) took.bad took.place took.kept
 
 pub returns-then-has_mquant-clause-walk : goal.returns-then-has_mquant-clause-walk
 returns-then-has_mquant-clause-walk c = λ format before.

@@ -7,7 +7,7 @@ use Rattle.h261_mb.proofs.front.take_mquant.Goals as goal
 
 pub returns-then-left-lt5-clause-taken : goal.returns-then-left-lt5-clause-taken
 returns-then-left-lt5-clause-taken c = λ format before due.
-    (mquant-cut format before c.args.r.now due (omega arith), c.place-place.ensures, refl)
+    record { bad = mquant-cut format before c.args.r.now due (omega arith); place = c.place-place.ensures; kept = refl }
 
 pub overflow_cast-quant : goal.overflow_cast-quant
 overflow_cast-quant c =
@@ -17,8 +17,8 @@ overflow_cast-quant c =
 
 pub returns-then-quant-eq0-clause-taken : goal.returns-then-quant-eq0-clause-taken
 returns-then-quant-eq0-clause-taken c = λ format before due.
-    (mquant-bad format before c.args.r.now due c.peek-quant.result (omega arith) c.peek-quant.ensures (eq-eqb c.peek-quant.result 0 c.if-quant-eq0.true), c.place-place.ensures, refl)
+    record { bad = mquant-bad format before c.args.r.now due c.peek-quant.result (omega arith) c.peek-quant.ensures (eq-eqb c.peek-quant.result 0 c.if-quant-eq0.true); place = c.place-place.ensures; kept = refl }
 
 pub returns-clause-taken : goal.returns-clause-taken
 returns-clause-taken c = λ format before due.
-    (5, mquant-good format before c.args.r.now due c.peek-quant.result (omega arith) c.peek-quant.ensures (ne_eqb c.peek-quant.result 0 c.if-quant-eq0.false), c.skip.ensures)
+    record { len = 5; good = mquant-good format before c.args.r.now due c.peek-quant.result (omega arith) c.peek-quant.ensures (ne_eqb c.peek-quant.result 0 c.if-quant-eq0.false); behind = c.skip.ensures }

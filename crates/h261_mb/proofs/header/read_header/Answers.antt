@@ -29,9 +29,8 @@ returns-in_err-h-clause-walk c =
     rw (p.1, p.2) (λ before d n stands is.
     let next = next c.args.format in
     let front = c.in_ok-front.ensures.walk c.args.format before c.args.group d n stands is in
-    let bad = c.in_err-h.ensures.walk (after before front.0) front.2.begun in
-    fails_later next before (IsMacroblockSoFar before) c.args.r.now c.read_front.new.r c.read_vector.new.r front.0 bad.0 _ front.1 bad.1
-    (so_far_later before front.0 bad.0 (begins front.0 _ _ _ front.2.elements) (inside-front front.0 _ _ _ front.2.elements) bad.2) bad.3 bad.4)
+    let bad = c.in_err-h.ensures.walk (after before front.elements) front.wanted.begun in
+    fails_later next before (IsMacroblockSoFar before) c.args.r.now c.read_front.new.r c.read_vector.new.r front.elements _ front.walk bad (so_far_later before front.elements bad.elements (begins front.elements _ _ _ front.wanted.elements) (inside-front front.elements _ _ _ front.wanted.elements) bad.part))
 
 pub returns-in_err-pattern-clause-walk : goal.returns-in_err-pattern-clause-walk
 returns-in_err-pattern-clause-walk c =
@@ -39,14 +38,12 @@ returns-in_err-pattern-clause-walk c =
     rw (p.1, p.2) (λ before d n stands is.
     let next = next c.args.format in
     let front = c.in_ok-front.ensures.walk c.args.format before c.args.group d n stands is in
-    let began = after before front.0 in
-    let vector = c.in_ok-h.ensures.walk began front.2.begun in
-    let moved = vector.2.moved in
-    let bad = c.in_err-pattern.ensures.walk c.args.format (after began vector.0) moved.due moved.kind_is moved.blocks_are in
-    let later = fails_later next began (StaysInside began) c.read_front.new.r c.read_vector.new.r c.read_pattern.new.r vector.0 bad.0 _ vector.1 bad.1
-    (stays_later began vector.0 bad.0 (inside-read_vector vector.0 _ _ _ vector.2.elements) bad.2) bad.3 bad.4 in
-    fails_later next before (IsMacroblockSoFar before) c.args.r.now c.read_front.new.r c.read_pattern.new.r front.0 later.0 _ front.1 later.1
-    (so_far_later before front.0 later.0 (begins front.0 _ _ _ front.2.elements) (inside-front front.0 _ _ _ front.2.elements) later.2) later.3 later.4)
+    let began = after before front.elements in
+    let vector = c.in_ok-h.ensures.walk began front.wanted.begun in
+    let moved = vector.wanted.moved in
+    let bad = c.in_err-pattern.ensures.walk c.args.format (after began vector.elements) moved.due moved.kind_is moved.blocks_are in
+    let later = fails_later next began (StaysInside began) c.read_front.new.r c.read_vector.new.r c.read_pattern.new.r vector.elements _ vector.walk bad (stays_later began vector.elements bad.elements (inside-read_vector vector.elements _ _ _ vector.wanted.elements) bad.part) in
+    fails_later next before (IsMacroblockSoFar before) c.args.r.now c.read_front.new.r c.read_pattern.new.r front.elements _ front.walk later (so_far_later before front.elements later.elements (begins front.elements _ _ _ front.wanted.elements) (inside-front front.elements _ _ _ front.wanted.elements) later.part))
 
 pub returns-clause-walk : goal.returns-clause-walk
 returns-clause-walk c = λ before d n stands is.
@@ -54,30 +51,27 @@ returns-clause-walk c = λ before d n stands is.
     let kind = c.in_ok-front.front.kind in
     let number_of = c.args.group in
     let front = c.in_ok-front.ensures.walk c.args.format before number_of d n stands is in
-    let began = after before front.0 in
-    let vector = c.in_ok-h.ensures.walk began front.2.begun in
-    let there = after began vector.0 in
-    let moved = vector.2.moved in
+    let began = after before front.elements in
+    let vector = c.in_ok-h.ensures.walk began front.wanted.begun in
+    let there = after began vector.elements in
+    let moved = vector.wanted.moved in
     let cbp = c.in_ok-pattern.ensures.walk c.args.format there moved.due moved.kind_is moved.blocks_are in
-    let coded = after there cbp.0 in
-    let es = front.0 ++ (vector.0 ++ cbp.0) in
-    let walk = goes-append next before c.args.r.now c.read_front.new.r c.read_pattern.new.r front.0 (vector.0 ++ cbp.0) front.1
-    (goes-append next began c.read_front.new.r c.read_vector.new.r c.read_pattern.new.r vector.0 cbp.0 vector.1 cbp.1) in
-    let behind : after before es ≡ coded = after-append before front.0 (vector.0 ++ cbp.0) ∙ after-append began vector.0 cbp.0 in
-    let same = behind_cbp there kind c.in_ok-pattern.pattern cbp.0 cbp.2.elements in
-    let here = say_again number_of c.in_ok-front.front.address c.in_ok-front.front.quant c.in_ok-h.h c.in_ok-h.v there coded same moved.say in (
-      es,
-      walk,
-      record {
+    let coded = after there cbp.elements in
+    let es = front.elements ++ (vector.elements ++ cbp.elements) in
+    let walk = goes-append next before c.args.r.now c.read_front.new.r c.read_pattern.new.r front.elements (vector.elements ++ cbp.elements) front.walk
+    (goes-append next began c.read_front.new.r c.read_vector.new.r c.read_pattern.new.r vector.elements cbp.elements vector.walk cbp.walk) in
+    let behind : after before es ≡ coded = after-append before front.elements (vector.elements ++ cbp.elements) ∙ after-append began vector.elements cbp.elements in
+    let same = behind_cbp there kind c.in_ok-pattern.pattern cbp.elements cbp.wanted.elements in
+    let here = say_again number_of c.in_ok-front.front.address c.in_ok-front.front.quant c.in_ok-h.h c.in_ok-h.v there coded same moved.say in record { elements = es; walk = walk; wanted = record {
         difference = c.in_ok-front.front.address - c.args.state.now.address;
-        mquant = front.2.mquant;
-        across = vector.2.across;
-        down = vector.2.down;
-        elements = whole_header front.0 vector.0 cbp.0 _ kind front.2.mquant vector.2.across vector.2.down c.in_ok-pattern.pattern front.2.elements vector.2.elements cbp.2.elements;
-        pattern = cbp.2.fits;
-        due = subst (λ (b : List Element). slot b ≡ block_slot kind (ones c.in_ok-pattern.pattern)) (sym behind) cbp.2.due;
+        mquant = front.wanted.mquant;
+        across = vector.wanted.across;
+        down = vector.wanted.down;
+        elements = whole_header front.elements vector.elements cbp.elements _ kind front.wanted.mquant vector.wanted.across vector.wanted.down c.in_ok-pattern.pattern front.wanted.elements vector.wanted.elements cbp.wanted.elements;
+        pattern = cbp.wanted.fits;
+        due = subst (λ (b : List Element). slot b ≡ block_slot kind (ones c.in_ok-pattern.pattern)) (sym behind) cbp.wanted.due;
         kind_is = subst (λ (b : List Element). kind_of b ≡ kind) (sym behind) (said_kind there coded kind same moved.kind_is);
-        to_come = subst (λ (b : List Element). blocks b ≡ ones c.in_ok-pattern.pattern) (sym behind) cbp.2.to_come;
+        to_come = subst (λ (b : List Element). blocks b ≡ ones c.in_ok-pattern.pattern) (sym behind) cbp.wanted.to_come;
         say = subst (λ (b : List Element). Say number_of c.in_ok-front.front.address c.in_ok-front.front.quant (to_z w8 (of_z w8 c.in_ok-h.h)) (to_z w8 (of_z w8 c.in_ok-h.v)) b) (sym behind) (record {
           number_is = here.number_is;
           address_is = here.address_is;
@@ -85,5 +79,4 @@ returns-clause-walk c = λ before d n stands is.
           across_is = here.across_is ∙ sym (to_z-of_z w8 c.in_ok-h.h (search rules));
           down_is = here.down_is ∙ sym (to_z-of_z w8 c.in_ok-h.v (search rules));
         });
-      },
-    )
+      } }

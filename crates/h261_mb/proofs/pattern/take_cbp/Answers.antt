@@ -9,14 +9,14 @@ use Rattle.h261_mb.proofs.pattern.take_cbp.Goals as goal
 pub returns-in-Ok-clause-taken : goal.returns-in-Ok-clause-taken
 returns-in-Ok-clause-taken c = λ format before due.
     let word = c.in-Ok.ensures in
-    (word.0, good format before c.args.r.now AtCbp (read (table_rows cbp_table Cbp) c.args.r.now.0) due (at-cbp c.args.r.now.0) (Cbp c.in-Ok.pattern) word.0 word.1 refl, word.2)
+    record { len = word.len; good = good format before c.args.r.now AtCbp (read (table_rows cbp_table Cbp) c.args.r.now.0) due (at-cbp c.args.r.now.0) (Cbp c.in-Ok.pattern) word.len word.good refl; behind = word.behind }
 
 pub returns-in-Ok-clause-six : goal.returns-in-Ok-clause-six
 returns-in-Ok-clause-six c =
     let word = c.in-Ok.ensures in
-    cbp_within c.args.r.now.0 c.in-Ok.pattern word.0 word.1
+    cbp_within c.args.r.now.0 c.in-Ok.pattern word.len word.good
 
 pub returns-in-Err-clause-taken : goal.returns-in-Err-clause-taken
 returns-in-Err-clause-taken c = λ format before due.
     let word = c.in-Err.ensures in
-    (no_word format before c.args.r.now AtCbp (read (table_rows cbp_table Cbp) c.args.r.now.0) due (at-cbp c.args.r.now.0) c.in-Err.why word.0, c.place-place.ensures, word.1)
+    record { bad = no_word format before c.args.r.now AtCbp (read (table_rows cbp_table Cbp) c.args.r.now.0) due (at-cbp c.args.r.now.0) c.in-Err.why word.bad; place = c.place-place.ensures; kept = word.kept }

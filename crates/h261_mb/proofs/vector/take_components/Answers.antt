@@ -27,10 +27,10 @@ returns-in_err-v-clause-walk c =
     let left = corner_at Across before c.args.group c.args.front.now.address c.left_edge.result number_is address_is c.left_edge.ensures.value in
     let top = corner_at Down before c.args.group c.args.front.now.address c.top_edge.result number_is address_is c.top_edge.ensures.value in
     let first = c.in_ok-h.ensures.walk c.args.format before Across due (across_is ∙ sym (to_z-of_z w8 c.args.front.now.h (search rules))) (sym c.width.ensures) left in
-    let across = Mvd Across first.2.values in
-    let took = subst (λ (es : List Element). Goes next before c.args.r.now es c.take_mvd.new.r) first.2.elements first.1 in
+    let across = Mvd Across first.wanted.values in
+    let took = subst (λ (es : List Element). Goes next before c.args.r.now es c.take_mvd.new.r) first.wanted.elements first.walk in
     let later = c.in_err-v.ensures.walk c.args.format (across ∷ before) Down refl (down_is ∙ sym (to_z-of_z w8 c.args.front.now.v (search rules))) (sym c.height.ensures) top in
-    (across ∷ later.0, goes_first next before c.args.r.now c.take_mvd.new.r c.take_mvd-2.new.r across took.0 later.0 took.1 took.2 later.1, later.2, later.3, later.4))
+    record { elements = across ∷ later.elements; walk = goes_first next before c.args.r.now c.take_mvd.new.r c.take_mvd-2.new.r across took.0 later.elements took.1 took.2 later.walk; part = later.part; bad = later.bad; place = later.place })
 
 pub returns-clause-walk : goal.returns-clause-walk
 returns-clause-walk c = λ before due number_is address_is across_is down_is.
@@ -41,18 +41,14 @@ returns-clause-walk c = λ before due number_is address_is across_is down_is.
     let h_is = to_z-of_z w8 front.h (search rules) in
     let v_is = to_z-of_z w8 front.v (search rules) in
     let first = c.in_ok-h.ensures.walk c.args.format before Across due (across_is ∙ sym h_is) (sym c.width.ensures) left in
-    let across = Mvd Across first.2.values in
-    let took = subst (λ (es : List Element). Goes next before c.args.r.now es c.take_mvd.new.r) first.2.elements first.1 in
+    let across = Mvd Across first.wanted.values in
+    let took = subst (λ (es : List Element). Goes next before c.args.r.now es c.take_mvd.new.r) first.wanted.elements first.walk in
     let later = c.in_ok-v.ensures.walk c.args.format (across ∷ before) Down refl (down_is ∙ sym v_is) (sym c.height.ensures) top in
-    let across_told = ap (λ (z : ℤ). component_from z first.2.values) (sym h_is) ∙ (first.2.component_is ∙ sym (to_z-of_z w8 c.in_ok-h.h (search rules))) in
-    let down_told = ap (λ (z : ℤ). component_from z later.2.values) (sym v_is) ∙ (later.2.component_is ∙ sym (to_z-of_z w8 c.in_ok-v.v (search rules))) in (
-      across ∷ later.0,
-      goes_first next before c.args.r.now c.take_mvd.new.r c.take_mvd-2.new.r across took.0 later.0 took.1 took.2 later.1,
-      record {
-        across = first.2.values;
-        down = later.2.values;
-        elements = ap (λ (es : List Element). across ∷ es) later.2.elements;
+    let across_told = ap (λ (z : ℤ). component_from z first.wanted.values) (sym h_is) ∙ (first.wanted.component_is ∙ sym (to_z-of_z w8 c.in_ok-h.h (search rules))) in
+    let down_told = ap (λ (z : ℤ). component_from z later.wanted.values) (sym v_is) ∙ (later.wanted.component_is ∙ sym (to_z-of_z w8 c.in_ok-v.v (search rules))) in record { elements = across ∷ later.elements; walk = goes_first next before c.args.r.now c.take_mvd.new.r c.take_mvd-2.new.r across took.0 later.elements took.1 took.2 later.walk; wanted = record {
+        across = first.wanted.values;
+        down = later.wanted.values;
+        elements = ap (λ (es : List Element). across ∷ es) later.wanted.elements;
         across_is = across_told;
         down_is = down_told;
-      },
-    )
+      } }
