@@ -192,9 +192,9 @@ accepted_built format bits es end walk short ends p =
 
 pub walk-record : WalkHasRecord
 walk-record format bits es reads =
-    let goes = goes-next format [] (start bits) es reads.0 reads.1 in
-    let walk = goes-walk format [] (start bits) es reads.0 goes in
-    let short = goes-within format [] (start bits) es reads.0 reads.1 (omega (arith, headers_fit format)) in
-    let stop = stopped format (after [] es) reads.0 (picture-stop format (after [] es) reads.0 reads.2) in
+    let goes = goes-next format [] (start bits) es reads.end reads.walk in
+    let walk = goes-walk format [] (start bits) es reads.end goes in
+    let short = goes-within format [] (start bits) es reads.end reads.walk (omega (arith, headers_fit format)) in
+    let stop = stopped format (after [] es) reads.end (picture-stop format (after [] es) reads.end reads.stop) in
     let r : IsRest format [] es = record { chain = walk.chain; final = stop.0 } in
-    accepted_built format bits es reads.0 walk short stop.1 (read_picture format es (length reads.0.0) r)
+    accepted_built format bits es reads.end walk short stop.1 (read_picture format es (length reads.end.0) r)
