@@ -203,7 +203,7 @@ impl Coded {
     }
 
     // Adds groups with GQUANT 1 and no macroblocks, up to the one with this place, from 0 on.
-    pub(crate) fn leave_out(&mut self, place: usize)
+    pub(crate) fn add_empty_groups(&mut self, place: usize)
         requires begun { 0 < length self.old.bits }
         requires there { place ≤ group_count self.old.format }
         ensures { self.new ≡ emptied (place - length self.old.groups) self.old }

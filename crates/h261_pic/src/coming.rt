@@ -41,7 +41,7 @@ pub fn take_coming(r: &mut Reader<'_>) -> Result<Coming, Fault>
             *r = ahead;
             Ok(Coming::Stuffing)
         }
-        Err(why) => take_group_code(r, why),
+        Err(why) => take_gbsc(r, why),
     }
 }
 
@@ -55,7 +55,7 @@ pub fn take_group_or_end(r: &mut Reader<'_>) -> Result<Coming, Fault>
     if is_end(r) {
         return Ok(Coming::End);
     }
-    take_group_code(r, Why::NoCode)
+    take_gbsc(r, Why::NoCode)
 }
 
 // At most 7 bits are left, and all are 0.
@@ -68,7 +68,7 @@ fn is_end(r: &Reader<'_>) -> bool
 
 // Takes GBSC (4.2.2.1). `why` is the reason why no word of MBA stands here, or NoCode behind a picture header, where none
 // may.
-fn take_group_code(r: &mut Reader<'_>, why: Why) -> Result<Coming, Fault>
+fn take_gbsc(r: &mut Reader<'_>, why: Why) -> Result<Coming, Fault>
     ensures behind_a_group { (format : Format) (before : List Element) → slot before ≡ AtMacroblock → is_end_of r.old.0 ≡ false →
         read mba_rows r.old.0 ≡ Bad why → Comes (next format before r.old) result r.old r.new }
     ensures behind_a_header { (format : Format) (before : List Element) → slot before ≡ AtGroup → is_end_of r.old.0 ≡ false →

@@ -29,9 +29,9 @@ pub fn read_picture_header(r: &mut Reader<'_>, format: Format) -> Result<u8, Fau
         IsPictureHeaderSoFar result r.old r.new }
     ensures within { IfOk result (λ tr. tr < 32) }
 {
-    take_start(r)?;
+    take_psc(r)?;
     let tr = take_field(r, 5)?;
-    take_type(r, format)?;
+    take_ptype(r, format)?;
     pass_spares(r)?;
     Ok(tr as u8)
 }
@@ -47,14 +47,14 @@ pub fn read_group_header(r: &mut Reader<'_>, format: Format, last: u8) -> Result
         (is_group_of format header.number ≡ true) × (last < header.number)) }
     ensures quant { IfOk result (λ header. (0 < header.quant) × (header.quant < 32)) }
 {
-    let number = take_number(r, format, last)?;
-    let quant = take_quant(r)?;
+    let number = take_gn(r, format, last)?;
+    let quant = take_gquant(r)?;
     pass_spares(r)?;
     Ok(GroupHeader { number, quant })
 }
 
 // Takes PSC. Bits that do not begin with it, nor are a front of it, are no picture (4.2.1.1).
-fn take_start(r: &mut Reader<'_>) -> Result<(), Fault>
+fn take_psc(r: &mut Reader<'_>) -> Result<(), Fault>
     ensures { (format : PictureFormat) (before : List Element) → slot before ≡ AtPsc →
         Takes (λ _. Psc) (next format before r.old) result r.old r.new }
 {
@@ -77,7 +77,7 @@ fn take_start(r: &mut Reader<'_>) -> Result<(), Fault>
 }
 
 // Takes PTYPE, 6 bits, of which the fourth is the format and the fifth is HI_RES, 1 where it is off (4.2.1.3).
-fn take_type(r: &mut Reader<'_>, format: Format) -> Result<u32, Fault>
+fn take_ptype(r: &mut Reader<'_>, format: Format) -> Result<u32, Fault>
     ensures taken { (before : List Element) → slot before ≡ AtPtype →
         Takes Ptype (next format before r.old) result r.old r.new }
 {
@@ -110,7 +110,7 @@ fn names(format: Format, ptype: u32) -> bool
 }
 
 // Takes GN, 4 bits: a number of the format, above that of the group before (4.2.2.2).
-fn take_number(r: &mut Reader<'_>, format: Format, last: u8) -> Result<u8, Fault>
+fn take_gn(r: &mut Reader<'_>, format: Format, last: u8) -> Result<u8, Fault>
     ensures taken { (before : List Element) → slot before ≡ AtGn → group before ≡ last →
         Takes Gn (next format before r.old) result r.old r.new }
     ensures within { IfOk result (λ n. (is_group_of format n ≡ true) × (last < n)) }
@@ -135,7 +135,7 @@ fn may_come(format: Format, number: u8, last: u8) -> bool
 }
 
 // Takes GQUANT, 5 bits that are not 0 (4.2.2.3).
-fn take_quant(r: &mut Reader<'_>) -> Result<u8, Fault>
+fn take_gquant(r: &mut Reader<'_>) -> Result<u8, Fault>
     ensures taken { (format : PictureFormat) (before : List Element) → slot before ≡ AtGquant →
         Takes Gquant (next format before r.old) result r.old r.new }
     ensures within { IfOk result (λ q. (0 < q) × (q < 32)) }

@@ -55,10 +55,10 @@ fn read_picture(bits: &Bits<'_>, format: Format, into: &mut Coded) -> Result<(),
         begun += 1;
         let group = read_group(&mut r, format, last, begun)?;
         last = group.header.number;
-        into.leave_out(group_place(format, last));
+        into.add_empty_groups(group_place(format, last));
         into.add_group(group.header.quant, bits, &group.marks);
         another = group.another;
     }
-    into.leave_out(group_count(format));
+    into.add_empty_groups(group_count(format));
     Ok(())
 }

@@ -54,7 +54,10 @@ returns-clause-walk c = λ before d n stands is.
     let m : Macroblock = record { address = header.address; kind = header.kind; mquant = h.mquant; across = header.h; down = header.v; blocks = placed pattern sent.sent } in
     let state : MbState = state_behind header in
     let told : c.state_behind.result ≡ state = c.state_behind.ensures in
-    let mark : ℕ → ℕ → MbState → Bool → Mark = λ at end s intra. record { at = at; len = end - at; group = c.args.group; address = s.address; quant_after = s.quant; h_after = s.h; v_after = s.v; intra = intra } in record { elements = es; walk = goes-append (next c.args.format) before c.args.r.now c.read_header.new.r c.skip_blocks.new.r read.elements blocks.elements read.walk blocks.walk; wanted = record {
+    let mark : ℕ → ℕ → MbState → Bool → Mark = λ at end s intra. record { at = at; len = end - at; group = c.args.group; address = s.address; quant_after = s.quant; h_after = s.h; v_after = s.v; intra = intra } in record {
+      elements = es;
+      walk = goes-append (next c.args.format) before c.args.r.now c.read_header.new.r c.skip_blocks.new.r read.elements blocks.elements read.walk blocks.walk;
+      wanted = record {
         macroblock = m;
         difference = h.difference;
         across = h.across;
@@ -74,4 +77,5 @@ returns-clause-walk c = λ before d n stands is.
             ∙ (ap (λ (end : ℕ). mark c.args.r.now.1 end state c.is_intra-intra.result) c.place.ensures
             ∙ (ap (mark c.args.r.now.1 c.skip_blocks.new.r.1 state) c.is_intra-intra.ensures
             ∙ ap (λ (s : MbState). mark c.args.r.now.1 c.skip_blocks.new.r.1 s (is_intra header.kind)) (sym told))));
-      } }
+      };
+    }

@@ -68,12 +68,12 @@ returns-clause-walk c = λ format before number d n stands is.
     let v : ℤ = to_z w8 (of_z w8 c.if-has_vector.h.1) in
     let h_is = to_z-of_z w8 c.if-has_vector.h.0 (search rules) in
     let v_is = to_z-of_z w8 c.if-has_vector.h.1 (search rules) in
-    let behind = begun number state before stands at c.in_ok-quant.quant k h v later.wanted.mquant (c.in_ok-address.ensures.within.0) later.wanted.quant_is (ap (λ es. slot (after (mtype ∷ mba ∷ before) es)) (sym later.wanted.elements) ∙ later.wanted.due) (near.0 ∙ sym h_is) (near.1 ∙ sym v_is) in (
-      mba ∷ mtype ∷ later.0,
-      goes_first (next format) before c.args.r.now c.take_mba.new.r c.read_mquant.new.r mba took.0 (mtype ∷ later.0) took.1 took.2 (goes_first (next format) (mba ∷ before) c.take_mba.new.r c.take_mtype.new.r c.read_mquant.new.r mtype kind.0 later.0 kind.1 kind.2 later.1),
-      record {
+    let behind = begun number state before stands at c.in_ok-quant.quant k h v later.wanted.mquant (c.in_ok-address.ensures.within.0) later.wanted.quant_is (ap (λ es. slot (after (mtype ∷ mba ∷ before) es)) (sym later.wanted.elements) ∙ later.wanted.due) (near.0 ∙ sym h_is) (near.1 ∙ sym v_is) in record {
+      elements = mba ∷ mtype ∷ later.elements;
+      walk = goes_first (next format) before c.args.r.now c.take_mba.new.r c.read_mquant.new.r mba took.len (mtype ∷ later.elements) took.good took.behind (goes_first (next format) (mba ∷ before) c.take_mba.new.r c.take_mtype.new.r c.read_mquant.new.r mtype kind.len later.elements kind.good kind.behind later.walk);
+      wanted = record {
         mquant = later.wanted.mquant;
         elements = ap (λ es. mba ∷ mtype ∷ es) later.wanted.elements;
         begun = subst (λ (es : List Element). IsBegun number (record { address = at; kind = k; quant = c.in_ok-quant.quant; h = h; v = v }) (after (mtype ∷ mba ∷ before) es)) (sym later.wanted.elements) behind;
-      },
-    )
+      };
+    }

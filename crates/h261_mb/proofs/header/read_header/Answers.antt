@@ -62,7 +62,10 @@ returns-clause-walk c = λ before d n stands is.
     (goes-append next began c.read_front.new.r c.read_vector.new.r c.read_pattern.new.r vector.elements cbp.elements vector.walk cbp.walk) in
     let behind : after before es ≡ coded = after-append before front.elements (vector.elements ++ cbp.elements) ∙ after-append began vector.elements cbp.elements in
     let same = behind_cbp there kind c.in_ok-pattern.pattern cbp.elements cbp.wanted.elements in
-    let here = say_again number_of c.in_ok-front.front.address c.in_ok-front.front.quant c.in_ok-h.h c.in_ok-h.v there coded same moved.say in record { elements = es; walk = walk; wanted = record {
+    let here = say_again number_of c.in_ok-front.front.address c.in_ok-front.front.quant c.in_ok-h.h c.in_ok-h.v there coded same moved.say in record {
+      elements = es;
+      walk = walk;
+      wanted = record {
         difference = c.in_ok-front.front.address - c.args.state.now.address;
         mquant = front.wanted.mquant;
         across = vector.wanted.across;
@@ -79,4 +82,5 @@ returns-clause-walk c = λ before d n stands is.
           across_is = here.across_is ∙ sym (to_z-of_z w8 c.in_ok-h.h (search rules));
           down_is = here.down_is ∙ sym (to_z-of_z w8 c.in_ok-h.v (search rules));
         });
-      } }
+      };
+    }

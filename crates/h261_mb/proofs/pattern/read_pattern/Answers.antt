@@ -35,24 +35,32 @@ none_by false true n other no_cbp is = absurd cc
 
 -- CBP was taken
 taken : (format : Format) (before : List Element) (k : MbKind) (old new : List Bool × ℕ) (result : Result ℕ Fault) → Takes Cbp (next format before old) result old new → slot before ≡ AtCbp → kind before ≡ k → is_intra k ≡ false → has_cbp k ≡ true → IfOk result (λ n. n < 64) → Walked (next format) before (IsPattern k before) (StaysInside before) result old new
-taken format before k old new (Ok n) took here kind_is other coded six = record { elements = Cbp n ∷ []; walk = (took.len, took.good, took.behind); wanted = record {
+taken format before k old new (Ok n) took here kind_is other coded six = record {
+  elements = Cbp n ∷ [];
+  walk = (took.len, took.good, took.behind);
+  wanted = record {
     fits = fits_by (is_intra k) (has_cbp k) n other coded six;
     elements = sym (ap (λ (b : Bool). cond b (Cbp n ∷ []) []) coded);
     due = ap (λ (k : MbKind). block_slot k (ones n)) kind_is;
     to_come = refl;
-  } }
+  };
+}
 taken format before k old new (Err f) took here kind_is other coded six =
     fails_here (next format) before (StaysInside before) old old new [] f refl (tt, ap may_end here) took.bad took.place took.kept
 
 pub returns-then-is_intra-clause-walk : goal.returns-then-is_intra-clause-walk
 returns-then-is_intra-clause-walk c = λ format before due kind_is to_come.
     let intra = sym c.is_intra.ensures ∙ c.if-is_intra.true in
-    let no_cbp = intra_has_no_cbp c.args.kind intra in record { elements = []; walk = refl; wanted = record {
+    let no_cbp = intra_has_no_cbp c.args.kind intra in record {
+      elements = [];
+      walk = refl;
+      wanted = record {
         fits = all_by (is_intra c.args.kind) 63 _ intra refl;
         elements = none c.args.kind 63 no_cbp;
         due = due ∙ (slot-no-cbp c.args.kind no_cbp ∙ ap (λ (b : Bool). block_slot c.args.kind (cond b 6 0)) intra);
         to_come = to_come ∙ ap (λ (b : Bool). cond b 6 0) intra;
-      } }
+      };
+    }
 
 pub returns-then-has_cbp-clause-walk : goal.returns-then-has_cbp-clause-walk
 returns-then-has_cbp-clause-walk c = λ format before due kind_is to_come.
@@ -65,9 +73,13 @@ returns-then-has_cbp-clause-walk c = λ format before due kind_is to_come.
 pub returns-else-has_cbp-clause-walk : goal.returns-else-has_cbp-clause-walk
 returns-else-has_cbp-clause-walk c = λ format before due kind_is to_come.
     let other = sym c.is_intra.ensures ∙ c.if-is_intra.false in
-    let no_cbp = sym c.has_cbp.ensures ∙ c.if-has_cbp.false in record { elements = []; walk = refl; wanted = record {
+    let no_cbp = sym c.has_cbp.ensures ∙ c.if-has_cbp.false in record {
+      elements = [];
+      walk = refl;
+      wanted = record {
         fits = none_by (is_intra c.args.kind) (has_cbp c.args.kind) 0 other no_cbp refl;
         elements = none c.args.kind 0 no_cbp;
         due = due ∙ (slot-no-cbp c.args.kind no_cbp ∙ ap (λ (b : Bool). block_slot c.args.kind (cond b 6 0)) other);
         to_come = to_come ∙ ap (λ (b : Bool). cond b 6 0) other;
-      } }
+      };
+    }

@@ -47,7 +47,10 @@ returns-else-has_vector-clause-walk c = λ before begun.
     let has_none = sym c.has_vector.ensures ∙ c.if-has_vector.false in
     let zero : ℤ × ℤ = (pos 0, pos 0) in
     let h_is = to_z-of_z w8 front.h (search rules) in
-    let v_is = to_z-of_z w8 front.v (search rules) in record { elements = []; walk = refl; wanted = record {
+    let v_is = to_z-of_z w8 front.v (search rules) in record {
+      elements = [];
+      walk = refl;
+      wanted = record {
         across = zero;
         down = zero;
         elements = sym (stays front.kind has_none zero zero);
@@ -63,4 +66,5 @@ returns-else-has_vector-clause-walk c = λ before begun.
             down_is = begun.say.down_is ∙ sym v_is;
           };
         };
-      } }
+      };
+    }

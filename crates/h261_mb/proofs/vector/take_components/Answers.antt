@@ -45,10 +45,14 @@ returns-clause-walk c = λ before due number_is address_is across_is down_is.
     let took = subst (λ (es : List Element). Goes next before c.args.r.now es c.take_mvd.new.r) first.wanted.elements first.walk in
     let later = c.in_ok-v.ensures.walk c.args.format (across ∷ before) Down refl (down_is ∙ sym v_is) (sym c.height.ensures) top in
     let across_told = ap (λ (z : ℤ). component_from z first.wanted.values) (sym h_is) ∙ (first.wanted.component_is ∙ sym (to_z-of_z w8 c.in_ok-h.h (search rules))) in
-    let down_told = ap (λ (z : ℤ). component_from z later.wanted.values) (sym v_is) ∙ (later.wanted.component_is ∙ sym (to_z-of_z w8 c.in_ok-v.v (search rules))) in record { elements = across ∷ later.elements; walk = goes_first next before c.args.r.now c.take_mvd.new.r c.take_mvd-2.new.r across took.0 later.elements took.1 took.2 later.walk; wanted = record {
+    let down_told = ap (λ (z : ℤ). component_from z later.wanted.values) (sym v_is) ∙ (later.wanted.component_is ∙ sym (to_z-of_z w8 c.in_ok-v.v (search rules))) in record {
+      elements = across ∷ later.elements;
+      walk = goes_first next before c.args.r.now c.take_mvd.new.r c.take_mvd-2.new.r across took.0 later.elements took.1 took.2 later.walk;
+      wanted = record {
         across = first.wanted.values;
         down = later.wanted.values;
         elements = ap (λ (es : List Element). across ∷ es) later.wanted.elements;
         across_is = across_told;
         down_is = down_told;
-      } }
+      };
+    }

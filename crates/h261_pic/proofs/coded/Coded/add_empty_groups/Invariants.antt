@@ -1,6 +1,6 @@
 use Rattle.std.proofs.Common.{◌-◌, length}
 use Rattle.h261_pic.proofs.EmptyGroups.{IsEmptied}
-use Rattle.h261_pic.proofs.coded.Coded.leave_out.Given as goal
+use Rattle.h261_pic.proofs.coded.Coded.add_empty_groups.Given as goal
 
 abbrev pub invariant-loop-self : goal.invariant-loop-self
 invariant-loop-self l = IsEmptied l.initial.self l.self l.place
