@@ -71,7 +71,7 @@ pub fn scan_mb(
 mod tests {
     use super::*;
     use pel_bits::Bits;
-    use pel_model::Why;
+    use pel_model::{MbKind, Why};
 
     // Up to 64 digits, at the front of eight octets.
     fn octets(digits: &str) -> [u8; 8] {
@@ -189,6 +189,50 @@ mod tests {
             assert_eq!(rt; scan_mb(&mut r, Format::Qcif, 3, &mut state), Ok(mark));
         }
         assert_eq!(rt; state.quant, 5);
+    }
+
+    #[test]
+    fn headers_of_macroblocks(rt: HostRuntime) {
+        let header = |kind, quant, h, v, pattern| Header {
+            address: 3,
+            kind,
+            quant,
+            h,
+            v,
+            pattern,
+        };
+        for (digits, expected, len) in [
+            ("0100001", header(MbKind::Intra, 8, 0, 0, 63), 7),
+            (
+                "010000000100101",
+                header(MbKind::IntraQuant, 5, 0, 0, 63),
+                15,
+            ),
+            ("01011010", header(MbKind::Inter, 8, 0, 0, 32), 8),
+            (
+                "010000011111101011",
+                header(MbKind::InterQuant, 31, 0, 0, 1),
+                18,
+            ),
+            ("010000000001010011", header(MbKind::Mc, 8, 1, -1, 0), 18),
+            (
+                "0100111000000010",
+                header(MbKind::McFilCoded, 8, 0, 0, 39),
+                16,
+            ),
+        ] {
+            let octets = octets(digits);
+            let mut r = reader(&octets, digits);
+            let header = read_header(&mut r, Format::Qcif, 3, &beginning());
+            assert_eq!(rt; header, Ok(expected));
+            assert_eq!(rt; r.place(), len);
+        }
+        let sent = header(MbKind::McFilCoded, 8, 0, 0, 39);
+        let luminance = [sent.sends(0), sent.sends(1), sent.sends(2), sent.sends(3)];
+        assert_eq!(rt; luminance, [true, false, false, true]);
+        assert_eq!(rt; (sent.sends(4), sent.sends(5)), (true, true));
+        assert!(rt; !sent.is_intra());
+        assert_eq!(rt; sent.state_behind().address, 3);
     }
 
     #[test]

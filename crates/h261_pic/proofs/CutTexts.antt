@@ -94,10 +94,12 @@ cuts-group format p i below =
     }
 
 pub cut-texts : CutTexts
-cut-texts format p = record {
-  groups =
-      subst (λ (e : ℕ). GroupsFollow 32 0 (views 32 0 p.groups) e (length (coding format p).marks)) (sym (length-text format p))
-      (subst (λ (k : ℕ). GroupsFollow 32 0 (views 32 0 p.groups) (32 + length (flat_map group_text p.groups)) k) (sym (length-group_marks 32 p.groups))
-      (views-follow 32 0 p.groups));
-  marks = λ i below. cuts-group format p i below;
-}
+cut-texts format p =
+    let count : 0 + sent p.groups ≡ length (coding format p).marks = omega (arith, length-group_marks 32 p.groups) in
+    record {
+      groups =
+          subst (λ (e : ℕ). GroupsFollow 32 0 (views 32 0 p.groups) e (length (coding format p).marks)) (sym (length-text format p))
+          (subst (λ (k : ℕ). GroupsFollow 32 0 (views 32 0 p.groups) (32 + length (flat_map group_text p.groups)) k) count
+          (views-follow 32 0 p.groups));
+      marks = λ i below. cuts-group format p i below;
+    }

@@ -13,6 +13,10 @@ use Rattle.h261_pic.specs.Coded.{Coding, grown, placed}
 abbrev pub bits_at : List Bool → List Mark → List Bool
 bits_at bits marks = flat_map (λ (m : Mark). take m.len (drop m.at bits)) marks
 
+-- the most macroblocks of a picture: 33 in each of 12 groups
+abbrev pub most_marks : ℕ
+most_marks = 396
+
 -- how many bits of macroblocks the next group may have
 abbrev pub room_of : Coding → ℕ
 room_of coded = limit coded.format - (length coded.bits + group_header_length * (group_count coded.format - length coded.groups))

@@ -10,7 +10,7 @@ ghost use Rattle.pel_model.specs.Regions.{renumbered, empty_group as group_witho
 ghost use Rattle.pel_model.specs.Text.{picture_header, group_header, group_header_length};
 ghost use Rattle.pel_model.specs.Valid.{group_numbers, group_count, limit};
 ghost use Rattle.h261_pic.specs.Coded.{Coding, nothing, coding, grown, next_number, view_of, group_in, macroblock_bits, marks_in, placed, Belongs, IsFinished, HasPicture, IsWhole};
-ghost use Rattle.h261_pic.specs.Adding.{emptied, bits_at, room_of, IsGroupText};
+ghost use Rattle.h261_pic.specs.Adding.{emptied, bits_at, most_marks, room_of, IsGroupText};
 
 use crate::formats::{group_number, last_end, longest};
 use arrayvec::ArrayVec;
@@ -135,7 +135,8 @@ impl Coded {
 
     /// Whether this is a refresh: a QCIF picture that sends all its 99 macroblocks, each of them Intra (H.261, 3.2.1).
     pub fn is_refresh(&self) -> bool
-        ensures refresh { (picture : Picture) → self.now ≡ coding self.now.format picture → (IsTrue result ↔ IsRefresh self.now.format picture) }
+        ensures refresh { (picture : Picture) → self.now ≡ coding self.now.format picture →
+            (IsTrue result ↔ IsRefresh self.now.format picture) }
         ensures empty { self.now.bits ≡ [] → IsFalse result }
     {
         self.format == Format::Qcif
@@ -177,7 +178,8 @@ impl Coded {
         requires next { length self.old.groups < group_count self.old.format }
         ensures grown { self.new ≡ grown self.old 1 [] [] }
         ensures picture { (p : Picture) → self.old ≡ coding self.old.format p →
-            self.new ≡ coding self.old.format (with_group p (group_without_macroblocks (next_number self.old))) }
+            self.new ≡ coding self.old.format
+            (with_group p (group_without_macroblocks (next_number self.old))) }
     {
         self.add_group(1, &Bits::new(&[], 0, 0), &[]);
     }
@@ -190,11 +192,17 @@ impl Coded {
         requires next { length self.old.groups < group_count self.old.format }
         requires finished { IsFinished from.now }
         requires there { i < length from.now.groups }
-        requires belongs { Belongs from.now.format (view_of from.now i).number self.old.format (next_number self.old) }
-        requires room { length self.old.bits + (view_of from.now i).len + group_header_length * (group_count self.old.format - length self.old.groups) ≤ limit self.old.format }
-        ensures grown { self.new ≡ grown self.old (view_of from.now i).quant (macroblock_bits from.now i) (marks_in from.now i) }
-        ensures picture { (p q : Picture) → self.old ≡ coding self.old.format p → from.now ≡ coding from.now.format q →
-            self.new ≡ coding self.old.format (with_group p (renumbered (next_number self.old) (group_in q i))) }
+        requires belongs { Belongs from.now.format (view_of from.now i).number
+            self.old.format (next_number self.old) }
+        requires room { length self.old.bits + (view_of from.now i).len
+            + group_header_length * (group_count self.old.format - length self.old.groups)
+            ≤ limit self.old.format }
+        ensures grown { self.new ≡ grown self.old (view_of from.now i).quant
+            (macroblock_bits from.now i) (marks_in from.now i) }
+        ensures picture { (p q : Picture) →
+            self.old ≡ coding self.old.format p → from.now ≡ coding from.now.format q →
+            self.new ≡ coding self.old.format
+            (with_group p (renumbered (next_number self.old) (group_in q i))) }
     {
         let view = from.groups[i];
         let first = usize::from(view.first_mark);
@@ -220,7 +228,8 @@ impl Coded {
         requires inside { All (λ (m : MarkOf). m.at + m.len ≤ length source.now) marks.now }
         requires small { length source.now < 2 ^ 32 }
         requires room { length (bits_at source.now marks.now) ≤ room_of self.old }
-        requires text { IsGroupText self.old.format (next_number self.old) quant (bits_at source.now marks.now) marks.now }
+        requires text { IsGroupText self.old.format (next_number self.old) quant
+            (bits_at source.now marks.now) marks.now }
         ensures { self.new ≡ grown self.old quant (bits_at source.now marks.now) marks.now }
     {
         let number = group_number(self.format, self.groups.len());
@@ -250,10 +259,12 @@ fn append_macroblocks(
 )
     requires inside { All (λ (m : MarkOf). m.at + m.len ≤ length source.now) found.now }
     requires room { length text.old.list + length (bits_at source.now found.now) ≤ text.old.capacity }
-    requires places { length marks.old.items + length found.now ≤ 396 }
+    requires places { length marks.old.items + length found.now ≤ most_marks }
     requires small { (text.old.capacity < 2 ^ 32) × (length source.now < 2 ^ 32) }
-    ensures text { text.new ≡ record text.old { list = text.old.list ++ bits_at source.now found.now } }
-    ensures marks { marks.new.items ≡ marks.old.items ++ placed (length text.old.list) group found.now }
+    ensures text { text.new ≡
+        record text.old { list = text.old.list ++ bits_at source.now found.now } }
+    ensures marks { marks.new.items ≡
+        marks.old.items ++ placed (length text.old.list) group found.now }
 {
     let mut from = 0;
     let mut len = 0;

@@ -69,9 +69,11 @@ fn is_end(r: &Reader<'_>) -> bool
 // Takes GBSC (4.2.2.1). `why` is the reason why no word of MBA stands here, or NoCode behind a picture header, where none
 // may.
 fn take_gbsc(r: &mut Reader<'_>, why: Why) -> Result<Coming, Fault>
-    ensures behind_a_group { (format : Format) (before : List Element) → slot before ≡ AtMacroblock → is_end_of r.old.0 ≡ false →
+    ensures behind_a_group { (format : Format) (before : List Element) →
+        slot before ≡ AtMacroblock → is_end_of r.old.0 ≡ false →
         read mba_rows r.old.0 ≡ Bad why → Comes (next format before r.old) result r.old r.new }
-    ensures behind_a_header { (format : Format) (before : List Element) → slot before ≡ AtGroup → is_end_of r.old.0 ≡ false →
+    ensures behind_a_header { (format : Format) (before : List Element) →
+        slot before ≡ AtGroup → is_end_of r.old.0 ≡ false →
         why ≡ NoCode → Comes (next format before r.old) result r.old r.new }
     ensures of_these { IfOk result IsGroupOrEnd }
 {

@@ -34,11 +34,14 @@ pub fn read_group(
     last: u8,
     begun: u32,
 ) -> Result<SentGroup, Fault>
-    requires here { (bits : List Bool) × (before : List Element) × (from : List Bool × ℕ) × GroupComes format bits last begun before from r.old }
+    requires here { (bits : List Bool) × (before : List Element) × (from : List Bool × ℕ)
+        × GroupComes format bits last begun before from r.old }
     requires few { begun ≤ 13 }
-    ensures read { (bits : List Bool) (before : List Element) (from : List Bool × ℕ) → GroupComes format bits last begun before from r.old →
+    ensures read { (bits : List Bool) (before : List Element) (from : List Bool × ℕ) →
+        GroupComes format bits last begun before from r.old →
         GroupIsReadOrFails format bits before from result r.new }
-    ensures within { IfOk result (λ group. (is_group_of format group.header.number ≡ true) × (last < group.header.number)) }
+    ensures within { IfOk result (λ group.
+        (is_group_of format group.header.number ≡ true) × (last < group.header.number)) }
 {
     let end = last_end(format, begun);
     let header = group_header_within(r, format, last, end)?;

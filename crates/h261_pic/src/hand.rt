@@ -44,3 +44,22 @@ fn empty(alloc: Global) -> Result<Box<Coded>, NoMemory>
     };
     Ok(picture)
 }
+
+#[cfg(test)]
+mod tests {
+    use super::*;
+
+    #[test]
+    fn four_empty_pictures(rt: HostRuntime) -> Result<(), NoMemory> {
+        let mut hand = Hand::reserve(rt.alloc())?;
+        for picture in [&hand.one, &hand.two, &hand.three, &hand.four] {
+            assert_eq!(rt;
+                (picture.format(), picture.is_empty()),
+                (Format::Qcif, true)
+            );
+        }
+        hand.three.start(3);
+        assert_eq!(rt; (hand.three.tr(), hand.four.tr()), (3, 0));
+        Ok(())
+    }
+}

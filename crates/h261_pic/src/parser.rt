@@ -28,9 +28,13 @@ pub fn parse(bits: Bits<'_>, want: Format, into: &mut Coded) -> Result<(), Fault
     ensures accepted { IfOk result (λ _.
         (picture : Picture) × Accepts want bits.entry picture × (into.new ≡ coding want picture)) }
     ensures finished { IfOk result (λ _. IsFinished into.new) }
-    ensures only { (picture : Picture) → Accepts want bits.entry picture → IsOk result × (into.new ≡ coding want picture) }
-    ensures refused { IfErr result (λ fault. FirstFault (next_within_limit want) bits.entry fault.place fault.why × (into.new ≡ nothing want)) }
-    ensures faults { (place : ℕ) (why : Reason) → FirstFault (next_within_limit want) bits.entry place why → result ≡ Err (record { place = place; why = why }) }
+    ensures only { (picture : Picture) → Accepts want bits.entry picture →
+        IsOk result × (into.new ≡ coding want picture) }
+    ensures refused { IfErr result (λ fault.
+        FirstFault (next_within_limit want) bits.entry fault.place fault.why × (into.new ≡ nothing want)) }
+    ensures faults { (place : ℕ) (why : Reason) →
+        FirstFault (next_within_limit want) bits.entry place why →
+        result ≡ Err (record { place = place; why = why }) }
 {
     let result = read_picture(&bits, want, into);
     if result.is_err() {
@@ -43,8 +47,10 @@ pub fn parse(bits: Bits<'_>, want: Format, into: &mut Coded) -> Result<(), Fault
 fn read_picture(bits: &Bits<'_>, format: Format, into: &mut Coded) -> Result<(), Fault>
     requires { into.old.format ≡ format }
     ensures format { into.new.format ≡ format }
-    ensures accepted { IfOk result (λ _. (picture : Picture) × Accepts format bits.now picture × (into.new ≡ coding format picture)) }
-    ensures refused { IfErr result (λ fault. FirstFault (next_within_limit format) bits.now fault.place fault.why) }
+    ensures accepted { IfOk result (λ _.
+        (picture : Picture) × Accepts format bits.now picture × (into.new ≡ coding format picture)) }
+    ensures refused { IfErr result (λ fault.
+        FirstFault (next_within_limit format) bits.now fault.place fault.why) }
 {
     let mut r = Reader::new(bits.slice(0, bits.len()));
     into.start(picture_header_within(&mut r, format)?);

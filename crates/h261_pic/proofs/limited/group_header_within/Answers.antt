@@ -4,7 +4,7 @@ use Rattle.pel_model.specs.Grammar.{Element, slot, may_end, next}
 use Rattle.picture_laws.specs.Laws.{Leaves}
 use Rattle.pel_model.specs.Elements.{AreInside}
 use Rattle.h261_pic.specs.declared.input_headers.GroupHeader.{GroupHeader}
-use Rattle.h261_pic.specs.HeaderElements.{group_header_elements, IsGroupHeaderSoFar}
+use Rattle.h261_pic.specs.HeaderElements.{IsGroupHeader, IsGroupHeaderSoFar}
 use Rattle.h261_pic.proofs.WithinLimits.{first_bits, first-bits, fault-there, reached-within, long-somewhere, long-there}
 use Rattle.h261_pic.proofs.HeadersInside.{inside-group-header, inside-group-so-far, end-behind-group-header}
 use Rattle.h261_pic.proofs.limited.group_header_within.Goals as goal

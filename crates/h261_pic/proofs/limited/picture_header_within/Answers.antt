@@ -7,7 +7,7 @@ use Rattle.pel_model.specs.Walk.{Walked, after}
 use Rattle.pel_model.specs.Grammar.{Element, slot, may_end, next}
 use Rattle.picture_laws.specs.Laws.{Leaves}
 use Rattle.pel_model.specs.Elements.{AreInside}
-use Rattle.h261_pic.specs.HeaderElements.{picture_header_elements, IsPictureHeaderSoFar}
+use Rattle.h261_pic.specs.HeaderElements.{IsPictureHeader, IsPictureHeaderSoFar}
 use Rattle.h261_pic.proofs.WithinLimits.{first_bits, first-bits, fault-there, reached-within, long-somewhere, long-there}
 use Rattle.h261_pic.proofs.HeadersInside.{inside-picture-header, inside-picture-so-far, end-behind-picture-header}
 use Rattle.h261_pic.proofs.limited.picture_header_within.Goals as goal
