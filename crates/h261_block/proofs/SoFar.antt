@@ -4,8 +4,9 @@ use Rattle.std.proofs.lemmas.Bool.{eqb-true}
 use Rattle.std.proofs.lemmas.List.{map_push}
 use Rattle.pel_model.specs.declared.Fault.{Fault}
 use Rattle.pel_model.specs.Records.{Coefficient, Block}
-use Rattle.pel_model.specs.Elements.{IsBlockSoFar, coefficient_elements, block_elements, dc_elements, dc_level, sent_levels, levels}
-use Rattle.pel_model.specs.Walk.{Standing, Good, Bad, skipped, after, Goes, FailsBehind}
+use Rattle.pel_model.specs.Levels.{dc_level, sent_levels, levels}
+use Rattle.pel_model.specs.Elements.{IsBlockSoFar, coefficient_elements, block_elements, dc_elements}
+use Rattle.pel_model.specs.Walk.{Standing, Good, Bad, skipped, after, Goes}
 use Rattle.pel_model.specs.Grammar.{Element, Dc, Tcoeff, Eob, slot, filled, AtFirst, AtCoefficient}
 use Rattle.pel_model.proofs.Walks.{after-append, goes_more}
 use Rattle.vlc_codes.specs.declared.readers.CoefRow.{CoefRow}
@@ -52,10 +53,14 @@ row-filled filled (Escape run' level') run level h = let same : ◌≡◌ {A = �
 row-filled filled row.Eob run level h = absurd cc
 
 module _ (next : List Element → List Bool × ℕ → Standing Element) (before : List Element) where
+  abbrev StopsAt : Fault → List Bool × ℕ → List Bool × ℕ → Type 0
+  StopsAt f old new =
+      (es : List Element) × Goes next before old es new × IsBlockSoFar es × (next (after before es) new ≡ Bad f.why) × (f.place ≡ new.1)
+
   -- behind a block so far, an element at fault; the reader stayed there
-  pub failed : (old mid new : List Bool × ℕ) (b : Block) (f : Fault) → Goes next before old (coefficient_elements b) mid → next (after before (coefficient_elements b)) mid ≡ Bad f.why → f.place ≡ mid.1 → new ≡ mid → FailsBehind next before IsBlockSoFar f old new
+  pub failed : (old mid new : List Bool × ℕ) (b : Block) (f : Fault) → Goes next before old (coefficient_elements b) mid → next (after before (coefficient_elements b)) mid ≡ Bad f.why → f.place ≡ mid.1 → new ≡ mid → StopsAt f old new
   failed old mid new b f walk bad at stayed =
-      subst (FailsBehind next before IsBlockSoFar f old) (sym stayed) (record { elements = coefficient_elements b; walk = walk; part = (b, refl); bad = bad; place = at })
+      subst (StopsAt f old) (sym stayed) (coefficient_elements b, walk, (b, refl), bad, at)
 
   pub none_yet : (old : List Bool × ℕ) → slot before ≡ AtFirst → SoFar next before false old old 0
   none_yet old due = record {

@@ -4,7 +4,8 @@ ghost use Rattle.std.specs.Prelude.{◌≡◌, ℕ, ◌-◌, ◌<◌, ◌≤◌,
 ghost use Rattle.pel_model.specs.declared.Format.{Format};
 ghost use Rattle.pel_model.specs.declared.Why.{Why as Reason};
 ghost use Rattle.pel_model.specs.declared.Why.TheVariants.{NoCode};
-ghost use Rattle.pel_model.specs.Grammar.{Element, Mba, Mtype, Mquant, Stuffing, mba_rows, slot, AtMacroblock, AtMtype, AtMquant, address as address_before, resets_predictor as anew, next};
+ghost use Rattle.pel_model.specs.Grammar.{Element, Mba, Mtype, Mquant, Stuffing, mba_rows, slot, AtMacroblock, AtMtype, AtMquant, address as address_before, next};
+ghost use Rattle.pel_model.specs.Text.{resets_predictor};
 ghost use Rattle.pel_model.specs.Walk.{Good, Bad, read, Takes, Walked};
 ghost use Rattle.h261_mb.specs.Inside.{StaysInside, IsMacroblockSoFar};
 ghost use Rattle.h261_mb.specs.Parts.{IsFront, IsMquant};
@@ -145,7 +146,7 @@ fn take_mquant(r: &mut Reader<'_>) -> Result<u8, Fault>
 // not sent (H.261, 4.2.3.4).
 #[inline]
 fn starts_anew(difference: u8, address: u8) -> bool
-    ensures { result ≡ anew difference address }
+    ensures { result ≡ resets_predictor difference address }
 {
     difference != 1 || address == 1 || address == 12 || address == 23
 }

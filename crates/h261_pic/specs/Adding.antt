@@ -5,7 +5,8 @@ use Rattle.pel_model.specs.declared.Format.{Format}
 use Rattle.pel_model.specs.declared.Mark.{Mark}
 use Rattle.pel_model.specs.Marks.{macroblock_marks}
 use Rattle.pel_model.specs.Records.{Macroblock}
-use Rattle.pel_model.specs.Text.{group_header_length, macroblocks_text}
+use Rattle.pel_model.specs.Headers.{group_header_length}
+use Rattle.pel_model.specs.Text.{macroblocks_text}
 use Rattle.pel_model.specs.Valid.{IsValidGroup, group_count, limit}
 use Rattle.h261_pic.specs.Coded.{Coding, grown, placed}
 

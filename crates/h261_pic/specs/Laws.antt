@@ -4,7 +4,8 @@ use Rattle.h261_pic.specs.declared.coded.GroupView.{GroupView}
 use Rattle.pel_model.specs.declared.Format.{Format}
 use Rattle.pel_model.specs.declared.Mark.{Mark}
 use Rattle.pel_model.specs.Records.{Macroblock, Picture}
-use Rattle.pel_model.specs.Text.{picture_header_length, group_header_length, macroblock_text}
+use Rattle.pel_model.specs.Headers.{picture_header_length, group_header_length}
+use Rattle.pel_model.specs.Text.{macroblock_text}
 use Rattle.pel_model.specs.Valid.{IsValid}
 use Rattle.h261_pic.specs.Coded.{Coding, coding, view_of, marks_in, group_in, IsFinished}
 
