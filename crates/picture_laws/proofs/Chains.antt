@@ -10,7 +10,7 @@ use Rattle.pel_model.specs.Codes.{mba_table}
 use Rattle.pel_model.specs.Text.{word_of}
 use Rattle.pel_model.specs.Walk.{Step, Good, Stop, Bad, skipped, after, Goes, read, judged, verdict}
 use Rattle.pel_model.specs.Grammar.{Element, Slot, AtPsc, AtGroup, AtMacroblock, slot, rows, faults, first_why, may_end, is_end, or_no_start, at_slot, next}
-use Rattle.picture_laws.proofs.Rows.{among-all}
+use Rattle.vlc_codes.proofs.FoundRows.{among-all}
 use Rattle.picture_laws.proofs.Slots.{word_at, Takes, IsStep}
 use Rattle.picture_laws.proofs.Words.{IsWord, read-slot}
 use Rattle.picture_laws.proofs.Written.{write-slot, found_step}

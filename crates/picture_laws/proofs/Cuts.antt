@@ -12,7 +12,7 @@ use Rattle.pel_model.specs.Valid.{group_count}
 use Rattle.pel_model.specs.Walk.{Step, Good, Stop, Bad, Row, skipped, after, Goes, read, word_at, judged}
 use Rattle.pel_model.specs.Grammar.{Element, Slot, AtPsc, AtTr, AtPtype, AtPei, AtPspare, AtGroup, AtGn, AtGquant, AtGei, AtGspare, AtMacroblock, AtMtype, AtMquant, AtMvd, AtCbp, AtDc, AtFirst, AtCoefficient, slot, begun, rows, faults, first_why, may_end, is_end, or_no_start, at_slot, next, picture}
 use Rattle.picture_laws.specs.Laws.{Leaves, GoodOverFirst, GoodOverAll, WithinTheLimit, PastTheLimit, TooLongAt, JudgedByTheLimit}
-use Rattle.picture_laws.proofs.Rows.{Among, apart, read-is, read-row, find-row, among-mapped}
+use Rattle.vlc_codes.proofs.FoundRows.{Among, apart, read-is, read-row, find-row, among-mapped}
 use Rattle.picture_laws.proofs.Slots.{Takes, rows_free}
 use Rattle.picture_laws.proofs.Chains.{word_in, words, next-is, next-good, goes-walk, walk-goes, judged_good, slot_good}
 use Rattle.picture_laws.proofs.Limits.{picture-good, picture-long, picture-stops, picture-bad}

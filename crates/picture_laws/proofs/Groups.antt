@@ -19,7 +19,7 @@ use Rattle.pel_model.specs.Grammar.{Element, Pei, Pspare, Gbsc, Gn, Gquant, Gei,
 use Rattle.pel_model.proofs.Walks.{after-append}
 use Rattle.picture_laws.specs.SoFar.{IsBehind, last_component}
 use Rattle.picture_laws.specs.Elements.{macroblock_elements, macroblocks_elements, spare_elements, group_elements, groups_elements}
-use Rattle.picture_laws.proofs.Rows.{Among, among-all}
+use Rattle.vlc_codes.proofs.FoundRows.{Among, among-all}
 use Rattle.picture_laws.proofs.Slots.{Takes, gbsc}
 use Rattle.picture_laws.proofs.Words.{field-mod}
 use Rattle.picture_laws.proofs.Chains.{Stands}

@@ -14,7 +14,7 @@ use Rattle.pel_model.specs.Walk.{after}
 use Rattle.pel_model.specs.Grammar.{Element, Pei, Pspare, Gbsc, Gn, Gquant, Gei, Gspare, Stuffing, Mba, AtPei, AtPspare, AtGn, AtGquant, AtGei, AtGspare, AtMacroblock, slot, group, vector, is_group, may_end}
 use Rattle.picture_laws.specs.SoFar.{IsBehind}
 use Rattle.picture_laws.specs.Elements.{macroblock_elements, macroblocks_elements, spare_elements, group_elements, groups_elements}
-use Rattle.picture_laws.proofs.Rows.{Among}
+use Rattle.vlc_codes.proofs.FoundRows.{Among}
 use Rattle.picture_laws.proofs.Slots.{Takes}
 use Rattle.picture_laws.proofs.Blocks.{one_passed}
 use Rattle.picture_laws.proofs.Macroblocks.{says-macroblock, both_axes}

@@ -15,7 +15,7 @@ use Rattle.pel_model.specs.Grammar.{Element, Mba, Mtype, Mquant, Mvd, Cbp, AtMty
 use Rattle.pel_model.specs.Elements.{mquant_elements, blocks_elements}
 use Rattle.picture_laws.specs.SoFar.{IsBehind, IsLast}
 use Rattle.picture_laws.specs.Elements.{pair_in, mvd_element, vector_elements, cbp_elements, macroblock_elements}
-use Rattle.picture_laws.proofs.Rows.{Among}
+use Rattle.vlc_codes.proofs.FoundRows.{Among}
 use Rattle.picture_laws.proofs.Slots.{IsStep, IsPattern}
 use Rattle.picture_laws.proofs.Words.{number-fits, length-field}
 use Rattle.picture_laws.proofs.Chains.{Stands}

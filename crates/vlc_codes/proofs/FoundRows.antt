@@ -1,9 +1,9 @@
 -- The word of a list of rows that stands at the front of bits, for every list of which no code is a front of another.
-use Rattle.std.proofs.Common.{◌≡◌, ℕ, ◌+◌, ◌||◌, Bool, true, false, List, [], ◌∷◌, ◌++◌, length, map, take, drop, Option, Some, None, nat_lt, refl, sym, ◌∙◌, ap, inl, inr, ◌⊎◌, arith}
+use Rattle.std.proofs.Common.{◌≡◌, ℕ, ◌+◌, ◌||◌, Bool, true, false, List, [], ◌∷◌, ◌++◌, length, map, take, drop, Option, Some, None, nat_lt, zero, suc, ◌<◌, ◌≤◌, slice_index_or, refl, sym, ◌∙◌, ap, inl, inr, ◌⊎◌, arith}
 use Rattle.std.proofs.lemmas.Option.{same_Some}
 use Rattle.std.specs.List.{list_any, list_all, find}
 use Rattle.std.proofs.lemmas.Bool.{false≢true, ltb-true, ltb-false, and_parts, cases_Bool, cond-false, cond-true, not-true, or_parts}
-use Rattle.std.proofs.lemmas.List.{length-take-le, length-append, length-drop, drop-drop, drop_at, take-append-drop, take_at}
+use Rattle.std.proofs.lemmas.List.{length-take-le, length-append, length-drop, drop-drop, drop_at, take-append-drop, take_at, drop_all, append_assoc, append-nil}
 use Rattle.pel_model.specs.Bits.{number}
 use Rattle.pel_model.specs.Codes.{begins, is_prefix_free}
 use Rattle.pel_model.specs.Walk.{Good, Bad, Row, read, word_at, whole_word}
@@ -11,7 +11,8 @@ use Rattle.pel_model.specs.declared.Why.{Why}
 use Rattle.pel_model.specs.declared.Why.TheVariants.{Cut}
 use Rattle.pel_model.proofs.Walks.{good_same}
 use Rattle.vlc_codes.specs.Lookup.{codes_of_rows}
-use Rattle.vlc_codes.proofs.WordLaws.{begins_self, begins_both, whole-good}
+use Rattle.vlc_codes.specs.WholeWords.{IsWordOf, IsWord, ArePrefixFree}
+use Rattle.vlc_codes.proofs.WordLaws.{begins_length, begins_self, begins_both, whole-good}
 
 -- an element of a list
 abbrev pub Among : {A : Type 0} → A → List A → Type 0
@@ -142,3 +143,44 @@ read-row rows row tail rest free h long =
     ap (word_at rows (row.code ++ (tail ++ rest))) (find-row rows row (tail ++ rest) free h)
     ∙ (whole-good row (row.code ++ (tail ++ rest)) (omega (arith, long, length-append row.code (tail ++ rest), length-append tail rest))
     ∙ ap (λ t. Good (row.make (number t)) (length row.code + row.tail)) front)
+
+-- the word that was read lies within the bits, and what follows them changes nothing
+pub read-inside : {E : Type 0} (rows : List (Row E)) (bits : List Bool) (e : E) (n : ℕ) → read rows bits ≡ Good e n → n ≤ length bits
+read-inside rows bits e n h =
+    let found = read-is rows bits e n h in
+    omega (arith, ap (λ t. length t) found.front, length-append found.row.code (found.tail ++ drop n bits), length-append found.tail (drop n bits), found.long, found.size)
+
+pub read-more : {E : Type 0} (rows : List (Row E)) (bits more : List Bool) (e : E) (n : ℕ) → is_prefix_free (codes_of_rows rows) ≡ true → read rows bits ≡ Good e n → read rows (bits ++ more) ≡ Good e n
+read-more rows bits more e n free h =
+    let found = read-is rows bits e n h in
+    let front : bits ++ more ≡ found.row.code ++ (found.tail ++ (drop n bits ++ more)) =
+    ap (λ t. t ++ more) found.front ∙ (append_assoc found.row.code (found.tail ++ drop n bits) more ∙ ap (λ t. found.row.code ++ t) (append_assoc found.tail (drop n bits) more)) in
+    ap (λ t. read rows t) front
+    ∙ (read-row rows found.row found.tail (drop n bits ++ more) free found.among found.long
+    ∙ (ap (λ k. Good (found.row.make (number found.tail)) k) (sym found.size) ∙ ap (λ x. Good x n) (sym found.is)))
+
+-- ---- whole words
+
+among_at : {A : Type 0} (xs : List A) (k : ℕ) (x : A) → k < length xs → slice_index_or xs k x ≡ x → Among x xs
+among_at [] k x inside is = absurd (omega arith)
+among_at (y ∷ xs) zero x inside is = inl (sym is)
+among_at (y ∷ xs) (suc k) x inside is = inr (among_at xs k x (omega arith) is)
+
+-- the row of a word is the first whose code begins bits that the word begins
+word_row_found : {E : Type 0} (rows : List (Row E)) (word behind : List Bool) (row : Row E) → is_prefix_free (codes_of_rows rows) ≡ true → Among row rows → IsWordOf row word → find (λ other. begins other.code (word ++ behind)) rows ≡ Some row
+word_row_found rows word behind row free among is =
+    ap (λ t. find (λ other. begins other.code t) rows) (ap (λ t. t ++ behind) (begins-front row.code word is.front) ∙ append_assoc row.code (drop (length row.code) word) behind)
+    ∙ find-row rows row (drop (length row.code) word ++ behind) free among
+
+begins_all : (v w : List Bool) → begins v w ≡ true → length v ≡ length w → w ≡ v
+begins_all v w front long = begins-front v w front ∙ (ap (λ t. v ++ t) (drop_all (length v) w (omega (arith, long))) ∙ append-nil v)
+
+-- of a list of which no code is a front of another no whole word is one
+pub whole-free : {E : Type 0} (rows : List (Row E)) → is_prefix_free (codes_of_rows rows) ≡ true → ArePrefixFree rows
+whole-free rows free v w (i, row, inside, at, is) (j, other, inside_other, at_other, is_other) front =
+    let first : find (λ r. begins r.code w) rows ≡ Some row =
+    ap (λ t. find (λ r. begins r.code t) rows) (begins-front v w front) ∙ word_row_found rows v (drop (length v) w) row free (among_at rows i row inside at) is in
+    let second : find (λ r. begins r.code w) rows ≡ Some other =
+    ap (λ t. find (λ r. begins r.code t) rows) (sym (append-nil w)) ∙ word_row_found rows w [] other free (among_at rows j other inside_other at_other) is_other in
+    let same : row ≡ other = same_Some row other (sym first ∙ second) in
+    sym (begins_all v w front (is.long ∙ (ap (λ r. length r.code + r.tail) same ∙ sym is_other.long)))
