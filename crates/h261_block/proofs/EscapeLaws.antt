@@ -15,7 +15,7 @@ use Rattle.vlc_codes.proofs.FoundRows.{Among, among-left, among-right, read-row}
 use Rattle.vlc_codes.proofs.WordLaws.{whole-good}
 use Rattle.h261_block.specs.declared.ahead.Words.{Words}
 use Rattle.h261_block.specs.Ahead.{AreWords, AreAhead, AreFirst, AreKnown, MayStand}
-use Rattle.h261_block.proofs.AheadLaws.{later_free, read-at, one-coefficient, no-words}
+use Rattle.h261_block.proofs.AheadLaws.{later_free, read-at, one-coefficient, no-words-here}
 use Rattle.h261_block.proofs.WindowLaws.{first-bits, known-in}
 
 -- ---- escapes
@@ -78,10 +78,10 @@ first-one (true ∷ s ∷ bits) long is =
     (λ more. whole-good (coefficient_row first_one_word 0 1) ((true ∷ s ∷ bits) ++ more) (omega arith)) long refl (omega arith)
 
 may-later : (first : Bool) (bits : List Bool) → (first ≡ true → take 1 bits ≡ false ∷ []) → MayStand first bits
-may-later false bits zero_first = unit
+may-later false bits zero_first = tt
 may-later true [] zero_first = absurd (let e = zero_first refl in cc)
 may-later true (true ∷ bits) zero_first = absurd (let e = zero_first refl in cc)
-may-later true (false ∷ bits) zero_first = unit
+may-later true (false ∷ bits) zero_first = tt
 
 first_bit : (rest n : ℕ) → rest / 2 ^ 63 ≡ n → take 1 (take 56 (field rest 64)) ≡ field n 1
 first_bit rest n is =
@@ -96,11 +96,11 @@ first-word rest before none one =
       ahead = record {
         inside = long;
         grows = λ _ _. omega arith;
-        words = subst (λ (n : ℕ). AreWords bits 2 n (n + 1) false) (sym none) (first-one bits long (first_bit rest 1 one));
+        go = subst (λ (n : ℕ). AreWords bits 2 n (n + 1) false) (sym none) (first-one bits long (first_bit rest 1 one));
       };
       goes_on = refl;
       room = λ _. omega (arith, none);
-      may = subst (λ (b : Bool). MayStand b (drop 2 bits)) (sym (ne_eqb (before + 1) 0 (λ h. omega arith))) unit;
+      may = subst (λ (b : Bool). MayStand b (drop 2 bits)) (sym (ne_eqb (before + 1) 0 (λ h. omega arith))) tt;
     }
 
 pub no_first-word : (rest before : ℕ) → (before ≡ 0 → rest / 2 ^ 63 ≡ 0) → AreFirst (take 56 (field rest 64)) before (record { len = 0; places = 0; ends = false })
@@ -108,7 +108,7 @@ unfolding field
 no_first-word rest before later =
     let bits : List Bool = take 56 (field rest 64) in
     record {
-      ahead = record { inside = omega arith; grows = λ _ some. absurd (omega (arith, some)); words = no-words bits before };
+      ahead = record { inside = omega arith; grows = λ _ some. absurd (omega (arith, some)); go = no-words-here bits before };
       goes_on = refl;
       room = λ room. room;
       may = may-later (before == 0) bits (λ h. first_bit rest 0 (later (eqb-true before 0 h)));

@@ -4,7 +4,7 @@ use Rattle.std.proofs.lemmas.Bool.{cases_Bool, cond-true, cond-false}
 use Rattle.pel_bits.specs.Bits.{field}
 use Rattle.pel_model.specs.Codes.{tcoeff_table}
 use Rattle.pel_model.specs.Records.{Coefficient}
-use Rattle.pel_model.specs.Walk.{Step, Good}
+use Rattle.pel_model.specs.Walk.{Standing, Good}
 use Rattle.pel_model.specs.Grammar.{Tcoeff, Eob, later_rows}
 use Rattle.vlc_codes.proofs.CellLaws.{listed, listed_at}
 use Rattle.h261_block.specs.declared.ahead.Words.{Words}

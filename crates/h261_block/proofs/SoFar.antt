@@ -4,8 +4,9 @@ use Rattle.std.proofs.lemmas.Bool.{eqb-true}
 use Rattle.std.proofs.lemmas.List.{map_push, map-append}
 use Rattle.pel_model.specs.declared.Fault.{Fault}
 use Rattle.pel_model.specs.Records.{Coefficient, Block}
-use Rattle.pel_model.specs.Elements.{IsBlockSoFar, coefficient_elements, block_elements, dc_elements, dc_level, sent_levels, levels}
-use Rattle.pel_model.specs.Walk.{Step, Good, Bad, skipped, after, Goes, Walked}
+use Rattle.pel_model.specs.Levels.{dc_level, sent_levels, levels}
+use Rattle.pel_model.specs.Elements.{IsBlockSoFar, coefficient_elements, block_elements, dc_elements}
+use Rattle.pel_model.specs.Walk.{Standing, Good, Bad, skipped, after, Goes, AreTaken, FailsBehind, Walked}
 use Rattle.pel_model.specs.Grammar.{Element, Dc, Tcoeff, Eob, slot, filled, AtFirst, AtCoefficient}
 use Rattle.pel_model.proofs.Walks.{after-append, goes_more, goes-append}
 use Rattle.vlc_codes.specs.declared.readers.CoefRow.{CoefRow}
@@ -14,12 +15,12 @@ use Rattle.vlc_codes.specs.declared.readers.CoefRow.TheVariants as row
 use Rattle.vlc_codes.specs.Rows.{coefficient_element}
 use Rattle.h261_block.specs.Rows.{run_and_level_of, filled_after}
 use Rattle.pel_model.proofs.BlockElements.{first-filled}
-use Rattle.h261_block.specs.Ahead.{places, elements, AreWanted, AreCoefficients}
+use Rattle.h261_block.specs.Ahead.{places, elements, AreWanted, AreElements}
 use Rattle.h261_block.proofs.AheadLaws.{elements-append, elements-map, elements-slot, elements-filled}
 use Rattle.h261_block.proofs.LevelLaws.{with_one_more, length-sent-more, levels-more}
 
 -- the elements of a block without its end were read, and so many coefficients stand in it
-pub record SoFar (next : List Element → List Bool × ℕ → Step Element) (before : List Element) (intra : Bool) (old new : List Bool × ℕ) (count : ℕ) : Type 0 where
+pub record SoFar (next : List Element → List Bool × ℕ → Standing Element) (before : List Element) (intra : Bool) (old new : List Bool × ℕ) (count : ℕ) : Type 0 where
   pub block : Block
   pub kind : is_some block.dc ≡ intra
   pub walk : Goes next before old (coefficient_elements block) new
@@ -27,7 +28,7 @@ pub record SoFar (next : List Element → List Bool × ℕ → Step Element) (be
   pub full : filled (after before (coefficient_elements block)) ≡ count
 
 -- the same with the levels that were sent
-pub record LevelsSoFar (next : List Element → List Bool × ℕ → Step Element) (before : List Element) (intra : Bool) (old new : List Bool × ℕ) (count : ℕ) (out : List ℤ) : Type 0 where
+pub record LevelsSoFar (next : List Element → List Bool × ℕ → Standing Element) (before : List Element) (intra : Bool) (old new : List Bool × ℕ) (count : ℕ) (out : List ℤ) : Type 0 where
   pub so_far : SoFar next before intra old new count
   pub sent : length (sent_levels so_far.block) ≡ count
   pub out_is : out ≡ levels so_far.block
@@ -68,15 +69,14 @@ with-more-end b cs =
     ∙ (append_assoc (coefficient_elements b) (elements cs false) (Eob ∷ [])
     ∙ ap (λ (es : List Element). coefficient_elements b ++ es) (elements-append cs [] true ∙ ap (λ (cs : List Coefficient). elements cs true) (append-nil cs)))
 
-module _ (next : List Element → List Bool × ℕ → Step Element) (before : List Element) where
+module _ (next : List Element → List Bool × ℕ → Standing Element) (before : List Element) where
   abbrev StopsAt : Fault → List Bool × ℕ → List Bool × ℕ → Type 0
-  StopsAt f old new =
-      (es : List Element) × Goes next before old es new × IsBlockSoFar es × (next (after before es) new ≡ Bad f.why) × (f.place ≡ new.1)
+  StopsAt f old new = FailsBehind next before IsBlockSoFar f old new
 
   -- behind a block so far, an element at fault; the reader stayed there
   pub failed : (old mid new : List Bool × ℕ) (b : Block) (f : Fault) → Goes next before old (coefficient_elements b) mid → next (after before (coefficient_elements b)) mid ≡ Bad f.why → f.place ≡ mid.1 → new ≡ mid → StopsAt f old new
   failed old mid new b f walk bad at stayed =
-      subst (StopsAt f old) (sym stayed) (coefficient_elements b, walk, (b, refl), bad, at)
+      subst (StopsAt f old) (sym stayed) (record { elements = coefficient_elements b; walk = walk; part = (b, refl); bad = bad; place = at })
 
   pub none_yet : (old : List Bool × ℕ) → slot before ≡ AtFirst → SoFar next before false old old 0
   none_yet old due = record {
@@ -142,6 +142,7 @@ module _ (next : List Element → List Bool × ℕ → Step Element) (before : L
 
   -- some more, and an element at fault
   pub failed_behind : (intra : Bool) (old mid new : List Bool × ℕ) (count : ℕ) (so_far : SoFar next before intra old mid count) (f : Fault) (cs : List Coefficient) → Goes next (after before (coefficient_elements so_far.block)) mid (elements cs false) new → next (after (after before (coefficient_elements so_far.block)) (elements cs false)) new ≡ Bad f.why → f.place ≡ new.1 → StopsAt f old new
+  unfolding more_of
   failed_behind intra old mid new count so_far f cs walk bad at =
       let all = more_of intra old mid new count so_far cs walk in
       let had : List Element = coefficient_elements so_far.block in
@@ -153,23 +154,30 @@ module _ (next : List Element → List Bool × ℕ → Step Element) (before : L
 
   abbrev Taken : (intra : Bool) (old mid new : List Bool × ℕ) (count : ℕ) → SoFar next before intra old mid count → Result (Option ℕ) Fault → Type 0
   Taken intra old mid new count so_far result =
-      Walked next (after before (coefficient_elements so_far.block)) (λ behind es _. AreWanted count behind es) AreCoefficients result mid new
+      Walked next (after before (coefficient_elements so_far.block)) (λ behind es _. AreWanted count behind es) (AreElements false) result mid new
 
-  pub more_taken : (intra : Bool) (old mid new : List Bool × ℕ) (count : ℕ) (so_far : SoFar next before intra old mid count) (behind : ℕ) → Taken intra old mid new count so_far (Ok (Some behind)) → SoFar next before intra old new behind
-  more_taken intra old mid new count so_far behind (es, walk, (cs, is, count_is)) =
-      subst (λ (n : ℕ). SoFar next before intra old new n) (sym count_is)
-      (more_of intra old mid new count so_far cs (subst (λ (es : List Element). Goes next (after before (coefficient_elements so_far.block)) mid es new) is walk))
+  pub more_taken : (intra : Bool) (old mid new : List Bool × ℕ) (count : ℕ) (so_far : SoFar next before intra old mid count) (answer : Option ℕ) (behind : ℕ) → answer ≡ Some behind → Taken intra old mid new count so_far (Ok answer) → SoFar next before intra old new behind
+  more_taken intra old mid new count so_far answer behind is result =
+      let took = subst (λ (o : Option ℕ). Taken intra old mid new count so_far (Ok o)) is result in
+      subst (λ (n : ℕ). SoFar next before intra old new n) (sym took.wanted.count)
+      (more_of intra old mid new count so_far took.wanted.coefficients (subst (λ (es : List Element). Goes next (after before (coefficient_elements so_far.block)) mid es new) took.wanted.are took.walk))
 
-  pub whole_taken : (intra : Bool) (old mid new : List Bool × ℕ) (count : ℕ) (so_far : SoFar next before intra old mid count) → Taken intra old mid new count so_far (Ok None) → (es : List Element) × Goes next before old es new × ((b : Block) × (es ≡ block_elements b) × (is_some b.dc ≡ intra))
-  whole_taken intra old mid new count so_far (es, walk, (cs, is)) =
-      let block : Block = with_more so_far.block cs in
-      (block_elements block, whole_of intra old mid new count so_far cs (subst (λ (es : List Element). Goes next (after before (coefficient_elements so_far.block)) mid es new) is walk), (block, refl, so_far.kind))
+  pub whole_taken : (intra : Bool) (old mid new : List Bool × ℕ) (count : ℕ) (so_far : SoFar next before intra old mid count) (answer : Option ℕ) → answer ≡ None → Taken intra old mid new count so_far (Ok answer) → AreTaken next before (λ es _. (b : Block) × (es ≡ block_elements b) × (is_some b.dc ≡ intra)) old new
+  whole_taken intra old mid new count so_far answer is result =
+      let took = subst (λ (o : Option ℕ). Taken intra old mid new count so_far (Ok o)) is result in
+      let block : Block = with_more so_far.block took.wanted.coefficients in
+      record {
+        elements = block_elements block;
+        walk = whole_of intra old mid new count so_far took.wanted.coefficients (subst (λ (es : List Element). Goes next (after before (coefficient_elements so_far.block)) mid es new) took.wanted.are took.walk);
+        wanted = (block, refl, so_far.kind);
+      }
 
   pub failed_taken : (intra : Bool) (old mid new : List Bool × ℕ) (count : ℕ) (so_far : SoFar next before intra old mid count) (f : Fault) → Taken intra old mid new count so_far (Err f) → StopsAt f old new
-  failed_taken intra old mid new count so_far f (es, walk, (cs, is), bad, at) =
-      failed_behind intra old mid new count so_far f cs
-      (subst (λ (es : List Element). Goes next (after before (coefficient_elements so_far.block)) mid es new) is walk)
-      (subst (λ (es : List Element). next (after (after before (coefficient_elements so_far.block)) es) new ≡ Bad f.why) is bad) at
+  failed_taken intra old mid new count so_far f took =
+      unfolding more_of
+  failed_behind intra old mid new count so_far f took.part.coefficients
+      (subst (λ (es : List Element). Goes next (after before (coefficient_elements so_far.block)) mid es new) took.part.are took.walk)
+      (subst (λ (es : List Element). next (after (after before (coefficient_elements so_far.block)) es) new ≡ Bad f.why) took.part.are took.bad) took.place
 
   -- the block's end
   pub whole_walk : (intra : Bool) (old mid new : List Bool × ℕ) (count : ℕ) (so_far : SoFar next before intra old mid count) (n : ℕ) → next (after before (coefficient_elements so_far.block)) mid ≡ Good Eob n → new ≡ skipped n mid → Goes next before old (block_elements so_far.block) new

@@ -42,10 +42,10 @@ window-up window = shifted window 8 64 (omega arith) (omega arith) ∙ (ap (drop
 -- ---- words that stand in the first bits
 
 pub may-front : (first : Bool) (xs ys : List Bool) → 0 < length xs → MayStand first (xs ++ ys) → MayStand first xs
-may-front false xs ys some may = unit
+may-front false xs ys some may = tt
 may-front true [] ys some may = absurd (omega (arith, some))
 may-front true (true ∷ xs) ys some may = may
-may-front true (false ∷ xs) ys some may = unit
+may-front true (false ∷ xs) ys some may = tt
 
 -- what is known of the first bits is known of more
 pub known-take : (xs : List Bool) (w sure : ℕ) (words : Words) → 0 < w → w ≤ length xs → w ≤ sure → AreKnown (take w xs) words → AreKnown (take sure xs) words
@@ -86,7 +86,7 @@ ahead-none bits before rest words room is first = record {
   grows = first.ahead.grows first.goes_on;
   left = shifted rest words.len 56 (omega (arith, first.ahead.inside, length-take 56 (field rest 64), length-field rest 64)) (omega arith) ∙ ap (drop words.len) is;
   may = subst (λ (t : List Bool). MayStand (before + words.places == 0) (drop words.len t)) is first.may;
-  words = subst (λ (t : List Bool). AreWords t words.len before (before + words.places) false) is (subst (λ (b : Bool). AreWords (take 56 (field rest 64)) words.len before (before + words.places) b) first.goes_on first.ahead.words);
+  words = subst (λ (t : List Bool). AreWords t words.len before (before + words.places) false) is (subst (λ (b : Bool). AreWords (take 56 (field rest 64)) words.len before (before + words.places) b) first.goes_on first.ahead.go);
 }
 
 -- how many bits are left
@@ -115,7 +115,7 @@ ahead-more bits before len places rest words so_far known room goes_on =
       left = ap (λ (n : ℕ). take n (field (rest * 2 ^ words.len % 2 ^ 64) 64)) sum
       ∙ (shifted rest words.len (56 - len) fits (omega arith)
       ∙ (ap (drop words.len) so_far.left ∙ drop-drop words.len len bits));
-      may = subst (λ (b : Bool). MayStand b (drop (len + words.len) bits)) (sym (ne_eqb (before + (places + words.places)) 0 (λ none. omega (arith, none, some)))) unit;
+      may = subst (λ (b : Bool). MayStand b (drop (len + words.len) bits)) (sym (ne_eqb (before + (places + words.places)) 0 (λ none. omega (arith, none, some)))) tt;
       words = subst (λ (b : Bool). AreWords bits (len + words.len) before (before + (places + words.places)) b) goes_on (both-words bits before len places rest words so_far known room);
     }
 
@@ -124,17 +124,17 @@ pub ahead-on : (bits : List Bool) (before rest : ℕ) (words : Words) → length
 ahead-on bits before rest words all goes_on so_far = record {
   inside = omega (arith, so_far.inside, all);
   grows = λ _. so_far.grows;
-  words = subst (λ (b : Bool). AreWords bits words.len before (before + words.places) b) (sym goes_on) so_far.words;
+  go = subst (λ (b : Bool). AreWords bits words.len before (before + words.places) b) (sym goes_on) so_far.words;
 }
 
 -- where the window shows what is left, the words ahead go from there
-pub ahead-goes : (format : Format) (es : List Element) (r : List Bool × ℕ) (window before : ℕ) (words : Words) → 56 ≤ length r.0 → window ≡ number (take 56 r.0) → (ahead : AreAhead (field window 56) before words) → slot es ≡ cond (before == 0) AtFirst AtCoefficient → filled es ≡ before → Goes (next format) es r (elements ahead.words.coefficients words.ends) (skipped words.len r)
+pub ahead-goes : (format : Format) (es : List Element) (r : List Bool × ℕ) (window before : ℕ) (words : Words) → 56 ≤ length r.0 → window ≡ number (take 56 r.0) → (ahead : AreAhead (field window 56) before words) → slot es ≡ cond (before == 0) AtFirst AtCoefficient → filled es ≡ before → Goes (next format) es r (elements ahead.go.coefficients words.ends) (skipped words.len r)
 ahead-goes format es r window before words long is ahead due full =
     let seen : field window 56 ≡ take 56 r.0 =
     ap (λ (n : ℕ). field n 56) is ∙ (ap (field (number (take 56 r.0))) (omega (arith, length-take 56 r.0, long)) ∙ field-number (take 56 r.0)) in
     let whole : field window 56 ++ drop 56 r.0 ≡ r.0 = ap (λ (t : List Bool). t ++ drop 56 r.0) seen ∙ take-append-drop 56 r.0 in
     let behind : drop words.len (field window 56) ++ drop 56 r.0 ≡ drop words.len r.0 =
     sym (drop-append-le words.len (field window 56) (drop 56 r.0) ahead.inside) ∙ ap (drop words.len) whole in
-    let go = ahead.words.go format es (drop 56 r.0) r.1 due full in
-    subst (λ (t : List Bool). Goes (next format) es (t, r.1) (elements ahead.words.coefficients words.ends) (skipped words.len r)) whole
-    (subst (λ (t : List Bool). Goes (next format) es (field window 56 ++ drop 56 r.0, r.1) (elements ahead.words.coefficients words.ends) (t, r.1 + words.len)) behind go)
+    let go = ahead.go.go format es (drop 56 r.0) r.1 due full in
+    subst (λ (t : List Bool). Goes (next format) es (t, r.1) (elements ahead.go.coefficients words.ends) (skipped words.len r)) whole
+    (subst (λ (t : List Bool). Goes (next format) es (field window 56 ++ drop 56 r.0, r.1) (elements ahead.go.coefficients words.ends) (t, r.1 + words.len)) behind go)

@@ -1,9 +1,9 @@
 -- Inner contracts alone use this; nothing here has to be believed.
 -- Words of TCOEFF that stand one after another.
-use Rattle.std.specs.Prelude.{◌≡◌, ℕ, ◌+◌, ◌<◌, ◌≤◌, ◌==◌, Bool, true, false, cond, List, [], ◌∷◌, ◌++◌, length, drop, Option, Some, None, Unit, slice_index, slice_index_or}
+use Rattle.std.specs.Prelude.{◌≡◌, ℕ, zero, suc, ◌+◌, ◌<◌, ◌≤◌, ◌==◌, Bool, true, false, cond, List, [], ◌∷◌, ◌++◌, length, drop, Option, Some, None, slice_index, slice_index_or}
 use Rattle.pel_model.specs.declared.Format.{Format}
 use Rattle.pel_model.specs.Records.{Coefficient}
-use Rattle.pel_model.specs.Walk.{Step, Good, read, Goes}
+use Rattle.pel_model.specs.Walk.{Standing, Good, read, Goes}
 use Rattle.pel_model.specs.Grammar.{Element, Tcoeff, Eob, slot, AtFirst, AtCoefficient, filled, later_rows, next}
 use Rattle.h261_block.specs.declared.ahead.Words.{Words}
 
@@ -18,13 +18,21 @@ elements [] false = []
 elements [] true = Eob ∷ []
 elements (c ∷ cs) ends = Tcoeff c ∷ elements cs ends
 
+-- these elements are coefficients, or coefficients and the end of the block
+pub record AreElements (ends : Bool) (es : List Element) : Type 0 where
+  pub coefficients : List Coefficient
+  pub are : es ≡ elements coefficients ends
+
+-- some coefficients, behind which so many stand
+pub record AreSome (before behind : ℕ) (es : List Element) : Type 0 where
+  pub coefficients : List Coefficient
+  pub are : es ≡ elements coefficients false
+  pub count : behind ≡ before + places coefficients
+
 -- some coefficients were taken, and so many stand there then; or all that are left and the end of the block
 abbrev pub AreWanted : ℕ → Option ℕ → List Element → Type 0
-AreWanted filled (Some n) es = (cs : List Coefficient) × (es ≡ elements cs false) × (n ≡ filled + places cs)
-AreWanted filled None es = (cs : List Coefficient) × (es ≡ elements cs true)
-
-abbrev pub AreCoefficients : List Element → Type 0
-AreCoefficients es = (cs : List Coefficient) × (es ≡ elements cs false)
+AreWanted before (Some behind) es = AreSome before behind es
+AreWanted before None es = AreElements true es
 
 -- ---- words at the front of some bits
 
@@ -47,7 +55,7 @@ MayStand _ _ = Unit {0}
 pub record AreAhead (bits : List Bool) (before : ℕ) (words : Words) : Type 0 where
   pub inside : words.len ≤ length bits
   pub grows : words.ends ≡ false → 0 < words.len → 0 < words.places
-  pub words : AreWords bits words.len before (before + words.places) words.ends
+  pub go : AreWords bits words.len before (before + words.places) words.ends
 
 -- one word or none, and what stands behind it is a later word
 pub record AreFirst (bits : List Bool) (before : ℕ) (words : Words) : Type 0 where
@@ -77,7 +85,7 @@ abbrev pub put_before : Coefficient → ℕ → Front → Front
 put_before c n front = record { coefficients = c ∷ front.coefficients; ends = front.ends; len = n + front.len }
 
 -- a code or the end of the block, and the words behind it; an escape is none of them
-abbrev pub with_word : Step Element → (ℕ → Front) → Front
+abbrev pub with_word : Standing Element → (ℕ → Front) → Front
 with_word (Good (Tcoeff c) n) behind = cond c.long no_words (put_before c n (behind n))
 with_word (Good Eob n) behind = record { coefficients = []; ends = true; len = n }
 with_word _ behind = no_words

@@ -7,7 +7,7 @@ ghost use Rattle.pel_bits.specs.Bits.{field};
 ghost use Rattle.pel_model.specs.declared.Format.{Format};
 ghost use Rattle.pel_model.specs.Grammar.{Element, slot, AtFirst, AtCoefficient, filled as filled_before, next};
 ghost use Rattle.pel_model.specs.Walk.{Walked};
-ghost use Rattle.h261_block.specs.Ahead.{AreWanted, AreCoefficients, AreAhead, AreFirst, AreKnown, cell_in};
+ghost use Rattle.h261_block.specs.Ahead.{AreWanted, AreElements, AreAhead, AreFirst, AreKnown, cell_in};
 
 use crate::cells::{Cells, LONG_WORDS, WORDS};
 use crate::coefficients::{coefficient, run_and_level};
@@ -32,7 +32,7 @@ pub fn some_words(r: &mut Reader<'_>, filled: u32) -> Result<Option<u32>, Fault>
     requires { filled ≤ 64 }
     ensures taken { (format : Format) (before : List Element) →
         slot before ≡ cond (filled == 0) AtFirst AtCoefficient → filled_before before ≡ filled →
-        Walked (next format) before (λ behind es _. AreWanted filled behind es) AreCoefficients result r.old r.new }
+        Walked (next format) before (λ behind es _. AreWanted filled behind es) (AreElements false) result r.old r.new }
     ensures more { (n : ℕ) → result ≡ Ok (Some n) → (filled < n) × (n ≤ 64) }
 {
     if r.left() < 56 {
@@ -56,7 +56,7 @@ fn one_word(r: &mut Reader<'_>, filled: u32) -> Result<Option<u32>, Fault>
     requires { filled ≤ 64 }
     ensures taken { (format : Format) (before : List Element) →
         slot before ≡ cond (filled == 0) AtFirst AtCoefficient → filled_before before ≡ filled →
-        Walked (next format) before (λ behind es _. AreWanted filled behind es) AreCoefficients result r.old r.new }
+        Walked (next format) before (λ behind es _. AreWanted filled behind es) (AreElements false) result r.old r.new }
     ensures more { (n : ℕ) → result ≡ Ok (Some n) → (filled < n) × (n ≤ 64) }
 {
     let row = coefficient(r, filled)?;

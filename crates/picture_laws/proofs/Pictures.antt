@@ -241,6 +241,10 @@ accepted-read format bits p accepted =
     let begun_is = begun-picture format accepted.0 p spelling.fits in
     let fits : claimed format (after [] (elements format accepted.0 p)) (0 + length (sent_text format accepted.0 p)) ≤ limit format = omega (arith, read_.2, begun_is, accepted.1.valid.whole, accepted.1.short) in (
       elements format accepted.0 p,
-      (end, goes-picture format [] (start bits) (elements format accepted.0 p) end read_.0 fits, picture-stops format (after [] (elements format accepted.0 p)) end read_.1),
+      record {
+        end = end;
+        walk = goes-picture format [] (start bits) (elements format accepted.0 p) end read_.0 fits;
+        stop = picture-stops format (after [] (elements format accepted.0 p)) end read_.1;
+      },
       (accepted.0, spelling.fits, refl),
     )

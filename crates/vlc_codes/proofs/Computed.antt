@@ -93,14 +93,14 @@ lens_computed Cbp = refl
 lens_computed CoefFirst = refl
 lens_computed Coef = refl
 
-pub places_computed : (table : Table) → (cells_of table).places ≡ listed (λ k. (cell_of (words table) 0 (front k)).value) 0 320
+pub indices_computed : (table : Table) → (cells_of table).indices ≡ listed (λ k. (cell_of (words table) 0 (front k)).value) 0 320
 unfolding words field mba_table mtype_table mvd_table cbp_table tcoeff_table
-places_computed Mba = refl
-places_computed Mtype = refl
-places_computed Mvd = refl
-places_computed Cbp = refl
-places_computed CoefFirst = refl
-places_computed Coef = refl
+indices_computed Mba = refl
+indices_computed Mtype = refl
+indices_computed Mvd = refl
+indices_computed Cbp = refl
+indices_computed CoefFirst = refl
+indices_computed Coef = refl
 
 -- an index decides each word
 pub cells_settled : (table : Table) → listed (λ k. all_settled (words table) (front k)) 0 320 ≡ listed (λ k. true) 0 320
@@ -141,9 +141,9 @@ codes_computed Cbp = refl
 codes_computed CoefFirst = refl
 codes_computed Coef = refl
 
-pub looked : (table : Table) (top : ℕ) → top < 2 ^ 32 → cell_in (cells_of table).lens (cells_of table).places top ≡ cell_of (words table) 0 (field top 32)
+pub looked : (table : Table) (top : ℕ) → top < 2 ^ 32 → cell_in (cells_of table).lens (cells_of table).indices top ≡ cell_of (words table) 0 (field top 32)
 looked table top fits =
-    cell-in (cells_of table).lens (cells_of table).places (words table) (lens_computed table) (places_computed table) (cells_settled table) (zeros_settled table) (zeros_none table) top fits
+    cell-in (cells_of table).lens (cells_of table).indices (words table) (lens_computed table) (indices_computed table) (cells_settled table) (zeros_settled table) (zeros_none table) top fits
 
 pub words_within_32 : (table : Table) → list_all (λ w. nat_le (length w) 32) (words table) ≡ true
 unfolding words field mba_table mtype_table mvd_table cbp_table tcoeff_table
@@ -191,7 +191,7 @@ unfolding words mba_table mtype_table mvd_table cbp_table tcoeff_table
 mba_tails = refl
 
 abbrev pub mba_meanings : List MbaRow
-mba_meanings = listed (λ k. mba_row.Step (k + 1)) 0 33 ++ mba_row.Stuffing ∷ []
+mba_meanings = listed (λ k. mba_row.Difference (k + 1)) 0 33 ++ mba_row.Stuffing ∷ []
 
 pub mba_makes : map (λ row. row.make 0) mba_rows ≡ map mba_element mba_meanings
 unfolding words mba_table mtype_table mvd_table cbp_table tcoeff_table
@@ -293,9 +293,9 @@ pub level_bound : (k : ℕ) (d : ℕ × ℕ) → k < 63 → (get_or codes.PAIRS 
 level_bound k d inside =
     leb-true (get_or codes.PAIRS k d).1 15 (all_at (λ pair. nat_le pair.1 15) codes.PAIRS k d levels_small inside)
 
-pub mba_step : (k : ℕ) (d : MbaRow) → k < 33 → get_or mba_meanings k d ≡ mba_row.Step (k + 1)
+pub mba_step : (k : ℕ) (d : MbaRow) → k < 33 → get_or mba_meanings k d ≡ mba_row.Difference (k + 1)
 mba_step k d inside =
-    get_or_append_left (listed (λ k. mba_row.Step (k + 1)) 0 33) (mba_row.Stuffing ∷ []) d k inside ∙ listed_at (λ k. mba_row.Step (k + 1)) 33 k d inside
+    get_or_append_left (listed (λ k. mba_row.Difference (k + 1)) 0 33) (mba_row.Stuffing ∷ []) d k inside ∙ listed_at (λ k. mba_row.Difference (k + 1)) 33 k d inside
 
 pub mba_stuffing : (k : ℕ) (d : MbaRow) → k ≡ 33 → get_or mba_meanings k d ≡ mba_row.Stuffing
 mba_stuffing k d last = ap (λ (k : ℕ). get_or mba_meanings k d) last

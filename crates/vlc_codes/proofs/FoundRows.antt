@@ -5,14 +5,14 @@ use Rattle.std.specs.List.{list_any, list_all, find}
 use Rattle.std.proofs.lemmas.Bool.{false≢true, ltb-true, ltb-false, and_parts, cases_Bool, cond-false, cond-true, not-true, or_parts}
 use Rattle.std.proofs.lemmas.List.{length-take-le, length-append, length-drop, drop-drop, drop_at, take-append-drop, take_at, drop_all, append_assoc, append-nil}
 use Rattle.pel_model.specs.Bits.{number}
-use Rattle.pel_model.specs.Codes.{begins, is_prefix_free}
+use Rattle.pel_model.specs.Codes.{is_prefix, is_prefix_free}
 use Rattle.pel_model.specs.Walk.{Good, Bad, Row, read, word_at, whole_word}
 use Rattle.pel_model.specs.declared.Why.{Why}
 use Rattle.pel_model.specs.declared.Why.TheVariants.{Cut}
 use Rattle.pel_model.proofs.Walks.{good_same}
 use Rattle.vlc_codes.specs.Lookup.{codes_of_rows}
 use Rattle.vlc_codes.specs.WholeWords.{IsWordOf, IsWord, ArePrefixFree}
-use Rattle.vlc_codes.proofs.WordLaws.{begins_length, begins_self, begins_both, whole-good}
+use Rattle.vlc_codes.proofs.WordLaws.{is_prefix_length, is_prefix_self, is_prefix_both, whole-good}
 
 -- an element of a list
 abbrev pub Among : {A : Type 0} → A → List A → Type 0
@@ -48,13 +48,13 @@ among-all test x (y ∷ xs) all h = elim h [
 
 -- ---- fronts
 
-pub begins-front : (w bits : List Bool) → begins w bits ≡ true → bits ≡ w ++ drop (length w) bits
-begins-front [] bits h = refl
-begins-front (b ∷ w) [] h = absurd cc
-begins-front (true ∷ w) (true ∷ bits) h = ap (λ t. true ∷ t) (begins-front w bits h)
-begins-front (false ∷ w) (false ∷ bits) h = ap (λ t. false ∷ t) (begins-front w bits h)
-begins-front (true ∷ w) (false ∷ bits) h = absurd cc
-begins-front (false ∷ w) (true ∷ bits) h = absurd cc
+pub is_prefix-front : (w bits : List Bool) → is_prefix w bits ≡ true → bits ≡ w ++ drop (length w) bits
+is_prefix-front [] bits h = refl
+is_prefix-front (b ∷ w) [] h = absurd cc
+is_prefix-front (true ∷ w) (true ∷ bits) h = ap (λ t. true ∷ t) (is_prefix-front w bits h)
+is_prefix-front (false ∷ w) (false ∷ bits) h = ap (λ t. false ∷ t) (is_prefix-front w bits h)
+is_prefix-front (true ∷ w) (false ∷ bits) h = absurd cc
+is_prefix-front (false ∷ w) (true ∷ bits) h = absurd cc
 
 -- ---- what is read
 
@@ -78,7 +78,7 @@ find_among test (y ∷ xs) x h = elim (cases_Bool (test y)) [
 bad_good : {E : Type 0} {why : Why} {e : E} {n : ℕ} → Bad why ≡ Good e n → ⊥
 bad_good h = cc
 
-whole_read : {E : Type 0} (rows : List (Row E)) (row : Row E) (bits : List Bool) (e : E) (n : ℕ) → Among row rows → begins row.code bits ≡ true → whole_word row bits ≡ Good e n → IsRead rows bits e n
+whole_read : {E : Type 0} (rows : List (Row E)) (row : Row E) (bits : List Bool) (e : E) (n : ℕ) → Among row rows → is_prefix row.code bits ≡ true → whole_word row bits ≡ Good e n → IsRead rows bits e n
 whole_read rows row bits e n among front h =
     elim (cases_Bool (nat_lt (length bits) (length row.code + row.tail))) [
       | inl short ↦ absurd (bad_good (sym (cond-true (nat_lt (length bits) (length row.code + row.tail)) (Bad Cut) (Good (row.make (number (take row.tail (drop (length row.code) bits)))) (length row.code + row.tail)) short) ∙ h))
@@ -91,48 +91,48 @@ whole_read rows row bits e n among front h =
             among = among;
             tail = take row.tail (drop (length row.code) bits);
             long = length-take-le row.tail (drop (length row.code) bits) (omega (arith, ltb-false (length bits) (length row.code + row.tail) fits, length-drop (length row.code) bits));
-            front = begins-front row.code bits front ∙ ap (λ t. row.code ++ t) (sym (take-append-drop row.tail (drop (length row.code) bits)) ∙ ap (λ t. take row.tail (drop (length row.code) bits) ++ t) left);
+            front = is_prefix-front row.code bits front ∙ ap (λ t. row.code ++ t) (sym (take-append-drop row.tail (drop (length row.code) bits)) ∙ ap (λ t. take row.tail (drop (length row.code) bits) ++ t) left);
             is = sym parts.0;
             size = size;
           }
     ]
 
-read_found : {E : Type 0} (rows : List (Row E)) (bits : List Bool) (e : E) (n : ℕ) (row : Option (Row E)) → find (λ row. begins row.code bits) rows ≡ row → word_at rows bits row ≡ Good e n → IsRead rows bits e n
+read_found : {E : Type 0} (rows : List (Row E)) (bits : List Bool) (e : E) (n : ℕ) (row : Option (Row E)) → find (λ row. is_prefix row.code bits) rows ≡ row → word_at rows bits row ≡ Good e n → IsRead rows bits e n
 read_found rows bits e n None is h = absurd (bad_good h)
 read_found rows bits e n (Some row) is h =
-    let a = find_among (λ row. begins row.code bits) rows row is in
+    let a = find_among (λ row. is_prefix row.code bits) rows row is in
     whole_read rows row bits e n a.0 a.1 h
 
 pub read-is : {E : Type 0} (rows : List (Row E)) (bits : List Bool) (e : E) (n : ℕ) → read rows bits ≡ Good e n → IsRead rows bits e n
-read-is rows bits e n h = read_found rows bits e n (find (λ row. begins row.code bits) rows) refl h
+read-is rows bits e n h = read_found rows bits e n (find (λ row. is_prefix row.code bits) rows) refl h
 
 -- ---- what is written is read
 
 -- neither of two words of a prefix-free list is a front of the other
-pub apart : (w : List Bool) (ws : List (List Bool)) (v : List Bool) → list_any (λ v. begins w v || begins v w) ws ≡ false → Among v ws → (begins w v ≡ false) × (begins v w ≡ false)
+pub apart : (w : List Bool) (ws : List (List Bool)) (v : List Bool) → list_any (λ v. is_prefix w v || is_prefix v w) ws ≡ false → Among v ws → (is_prefix w v ≡ false) × (is_prefix v w ≡ false)
 apart w [] v none h = absurd h
 apart w (u ∷ ws) v none h = elim h [
-  | inl e ↦ or_parts (begins w v) (begins v w) (ap (λ v. begins w v || begins v w) e ∙ (or_parts (begins w u || begins u w) (list_any (λ v. begins w v || begins v w) ws) none).0)
-  | inr t ↦ apart w ws v (or_parts (begins w u || begins u w) (list_any (λ v. begins w v || begins v w) ws) none).1 t
+  | inl e ↦ or_parts (is_prefix w v) (is_prefix v w) (ap (λ v. is_prefix w v || is_prefix v w) e ∙ (or_parts (is_prefix w u || is_prefix u w) (list_any (λ v. is_prefix w v || is_prefix v w) ws) none).0)
+  | inr t ↦ apart w ws v (or_parts (is_prefix w u || is_prefix u w) (list_any (λ v. is_prefix w v || is_prefix v w) ws) none).1 t
 ]
 
 -- two words at the front of the same bits
-one_front : (v w rest : List Bool) → begins v (w ++ rest) ≡ true → begins v w ≡ false → begins w v ≡ false → ⊥
+one_front : (v w rest : List Bool) → is_prefix v (w ++ rest) ≡ true → is_prefix v w ≡ false → is_prefix w v ≡ false → ⊥
 one_front v w rest front a b = elim (cases_Bool (nat_lt (length v) (length w))) [
-  | inl short ↦ false≢true (sym a ∙ begins_both v w (w ++ rest) front (begins_self w rest) (omega (arith, ltb-true (length v) (length w) short)))
-  | inr long ↦ false≢true (sym b ∙ begins_both w v (w ++ rest) (begins_self w rest) front (omega (arith, ltb-false (length v) (length w) long)))
+  | inl short ↦ false≢true (sym a ∙ is_prefix_both v w (w ++ rest) front (is_prefix_self w rest) (omega (arith, ltb-true (length v) (length w) short)))
+  | inr long ↦ false≢true (sym b ∙ is_prefix_both w v (w ++ rest) (is_prefix_self w rest) front (omega (arith, ltb-false (length v) (length w) long)))
 ]
 
-pub find-row : {E : Type 0} (rows : List (Row E)) (row : Row E) (rest : List Bool) → is_prefix_free (codes_of_rows rows) ≡ true → Among row rows → find (λ other. begins other.code (row.code ++ rest)) rows ≡ Some row
+pub find-row : {E : Type 0} (rows : List (Row E)) (row : Row E) (rest : List Bool) → is_prefix_free (codes_of_rows rows) ≡ true → Among row rows → find (λ other. is_prefix other.code (row.code ++ rest)) rows ≡ Some row
 find-row [] row rest free h = absurd h
 find-row (first ∷ rows) row rest free h =
     elim h [
-      | inl e ↦ cond-true (begins first.code (row.code ++ rest)) (Some first) (find (λ other. begins other.code (row.code ++ rest)) rows) (ap (λ r. begins r.code (row.code ++ rest)) (sym e) ∙ begins_self row.code rest) ∙ ap Some (sym e)
+      | inl e ↦ cond-true (is_prefix first.code (row.code ++ rest)) (Some first) (find (λ other. is_prefix other.code (row.code ++ rest)) rows) (ap (λ r. is_prefix r.code (row.code ++ rest)) (sym e) ∙ is_prefix_self row.code rest) ∙ ap Some (sym e)
       | inr t ↦
           let both = apart first.code (codes_of_rows rows) row.code (not-true _ (and_parts _ _ free).0) (among-mapped (λ r. r.code) row rows t) in
-          elim (cases_Bool (begins first.code (row.code ++ rest))) [
+          elim (cases_Bool (is_prefix first.code (row.code ++ rest))) [
             | inl here ↦ absurd (one_front first.code row.code rest here both.0 both.1)
-            | inr other ↦ cond-false (begins first.code (row.code ++ rest)) (Some first) (find (λ other. begins other.code (row.code ++ rest)) rows) other ∙ find-row rows row rest (and_parts _ _ free).1 t
+            | inr other ↦ cond-false (is_prefix first.code (row.code ++ rest)) (Some first) (find (λ other. is_prefix other.code (row.code ++ rest)) rows) other ∙ find-row rows row rest (and_parts _ _ free).1 t
           ]
     ]
 
@@ -167,20 +167,20 @@ among_at (y ∷ xs) zero x inside is = inl (sym is)
 among_at (y ∷ xs) (suc k) x inside is = inr (among_at xs k x (omega arith) is)
 
 -- the row of a word is the first whose code begins bits that the word begins
-word_row_found : {E : Type 0} (rows : List (Row E)) (word behind : List Bool) (row : Row E) → is_prefix_free (codes_of_rows rows) ≡ true → Among row rows → IsWordOf row word → find (λ other. begins other.code (word ++ behind)) rows ≡ Some row
+word_row_found : {E : Type 0} (rows : List (Row E)) (word behind : List Bool) (row : Row E) → is_prefix_free (codes_of_rows rows) ≡ true → Among row rows → IsWordOf row word → find (λ other. is_prefix other.code (word ++ behind)) rows ≡ Some row
 word_row_found rows word behind row free among is =
-    ap (λ t. find (λ other. begins other.code t) rows) (ap (λ t. t ++ behind) (begins-front row.code word is.front) ∙ append_assoc row.code (drop (length row.code) word) behind)
+    ap (λ t. find (λ other. is_prefix other.code t) rows) (ap (λ t. t ++ behind) (is_prefix-front row.code word is.front) ∙ append_assoc row.code (drop (length row.code) word) behind)
     ∙ find-row rows row (drop (length row.code) word ++ behind) free among
 
-begins_all : (v w : List Bool) → begins v w ≡ true → length v ≡ length w → w ≡ v
-begins_all v w front long = begins-front v w front ∙ (ap (λ t. v ++ t) (drop_all (length v) w (omega (arith, long))) ∙ append-nil v)
+is_prefix_all : (v w : List Bool) → is_prefix v w ≡ true → length v ≡ length w → w ≡ v
+is_prefix_all v w front long = is_prefix-front v w front ∙ (ap (λ t. v ++ t) (drop_all (length v) w (omega (arith, long))) ∙ append-nil v)
 
 -- of a list of which no code is a front of another no whole word is one
 pub whole-free : {E : Type 0} (rows : List (Row E)) → is_prefix_free (codes_of_rows rows) ≡ true → ArePrefixFree rows
 whole-free rows free v w (i, row, inside, at, is) (j, other, inside_other, at_other, is_other) front =
-    let first : find (λ r. begins r.code w) rows ≡ Some row =
-    ap (λ t. find (λ r. begins r.code t) rows) (begins-front v w front) ∙ word_row_found rows v (drop (length v) w) row free (among_at rows i row inside at) is in
-    let second : find (λ r. begins r.code w) rows ≡ Some other =
-    ap (λ t. find (λ r. begins r.code t) rows) (sym (append-nil w)) ∙ word_row_found rows w [] other free (among_at rows j other inside_other at_other) is_other in
+    let first : find (λ r. is_prefix r.code w) rows ≡ Some row =
+    ap (λ t. find (λ r. is_prefix r.code t) rows) (is_prefix-front v w front) ∙ word_row_found rows v (drop (length v) w) row free (among_at rows i row inside at) is in
+    let second : find (λ r. is_prefix r.code w) rows ≡ Some other =
+    ap (λ t. find (λ r. is_prefix r.code t) rows) (sym (append-nil w)) ∙ word_row_found rows w [] other free (among_at rows j other inside_other at_other) is_other in
     let same : row ≡ other = same_Some row other (sym first ∙ second) in
-    sym (begins_all v w front (is.long ∙ (ap (λ r. length r.code + r.tail) same ∙ sym is_other.long)))
+    sym (is_prefix_all v w front (is.long ∙ (ap (λ r. length r.code + r.tail) same ∙ sym is_other.long)))

@@ -255,7 +255,7 @@ fn each_word_of_mba(rt: HostRuntime) {
             assert_eq!(rt; mba(&mut reader(&octets, front)), Err(Why::Cut));
         }
         let mut r = reader(&octets, 64);
-        assert_eq!(rt; mba(&mut r), Ok(MbaRow::Step(*step)));
+        assert_eq!(rt; mba(&mut r), Ok(MbaRow::Difference(*step)));
         assert_eq!(rt; r.place() as usize, word.len());
     }
     let stuffing = octets("00000001111");
@@ -345,7 +345,7 @@ fn each_code_of_tcoeff(rt: HostRuntime) {
 }
 
 #[test]
-fn words_of_tcoeff_by_their_place(rt: HostRuntime) {
+fn words_of_tcoeff_by_where_they_stand(rt: HostRuntime) {
     let one = CoefRow::Pair { run: 0, level: 1 };
     let less = CoefRow::Pair { run: 0, level: -1 };
     let long = CoefRow::Escape {

@@ -17,7 +17,7 @@ returns-in_err-dc c =
     let p = err_from_is_err_and c.from_residual.result c.from_residual.ensures.1 in
     rw (p.1, p.2) (λ format before due.
     let took = c.in_err-dc.ensures format before (due_at _ c.args.intra true due c.if-intra.true) in
-    failed (next format) before c.args.r.now c.args.r.now c.dc.new.r no_elements _ refl took.0 took.1 took.2)
+    failed (next format) before c.args.r.now c.args.r.now c.dc.new.r no_elements _ refl took.bad took.place took.kept)
 
 pub loop-behind-init : goal.loop-behind-init
 loop-behind-init c =
@@ -27,7 +27,7 @@ loop-behind-init c =
             within = omega (arith, w.filled-is);
             so_far = λ format before due.
                 let took = w.in_ok-dc.ensures format before (due_at _ c.args.intra true due w.if-intra.true) in
-                rw (w.filled-is, w.r-is, w.if-intra.true) (dc_only (next format) before c.args.r.now w.dc.new.r w.in_ok-dc.field-0 took.0 took.1 took.2);
+                rw (w.filled-is, w.r-is, w.if-intra.true) (dc_only (next format) before c.args.r.now w.dc.new.r w.in_ok-dc.field-0 took.len took.good took.behind);
           }
       | else-intra w ↦
           record {
@@ -37,26 +37,23 @@ loop-behind-init c =
           }
     ]
 
-pub returns-in_err-some_words : goal.returns-in_err-some_words
-returns-in_err-some_words c =
-    let p = err_from_is_err_and c.from_residual-in_err-some_words.result c.from_residual-in_err-some_words.ensures.1 in
+pub returns-in_err-behind : goal.returns-in_err-behind
+returns-in_err-behind c =
+    let p = err_from_is_err_and c.from_residual-in_err-behind.result c.from_residual-in_err-behind.ensures.1 in
     rw (p.1, p.2) (λ format before due.
     let so_far = c.loop-behind.invariant.so_far format before due in
-    let took = c.in_err-some_words.ensures.taken format (after before (coefficient_elements so_far.block)) so_far.due so_far.full in
-    failed_taken (next format) before c.args.intra c.args.r.now c.loop-behind.r c.some_words.new.r c.loop-behind.filled so_far _ took)
+    failed_taken (next format) before c.args.intra c.args.r.now c.loop-behind.r c.some_words.new.r c.loop-behind.filled so_far _ (c.in_err-behind.ensures.taken format (after before (coefficient_elements so_far.block)) so_far.due so_far.full))
 
 pub loop-behind-preserved : goal.loop-behind-preserved
 loop-behind-preserved c =
     record {
-      within = (c.some_words.ensures.more c.in-Some.behind refl).1;
+      within = (c.in_ok-behind.ensures.more c.in-Some.behind (cc)).1;
       so_far = λ format before due.
           let so_far = c.loop-behind.invariant.so_far format before due in
-          let took = c.in_ok-some_words.ensures.taken format (after before (coefficient_elements so_far.block)) so_far.due so_far.full in
-          more_taken (next format) before c.args.intra c.args.r.now c.loop-behind.r c.some_words.new.r c.loop-behind.filled so_far c.in-Some.behind took;
+          more_taken (next format) before c.args.intra c.args.r.now c.loop-behind.r c.some_words.new.r c.loop-behind.filled so_far _ c.in-Some.behind c.in-Some.is (c.in_ok-behind.ensures.taken format (after before (coefficient_elements so_far.block)) so_far.due so_far.full);
     }
 
 pub returns : goal.returns
 returns c = λ format before due.
     let so_far = c.loop-behind.invariant.so_far format before due in
-    let took = c.in_ok-some_words.ensures.taken format (after before (coefficient_elements so_far.block)) so_far.due so_far.full in
-    whole_taken (next format) before c.args.intra c.args.r.now c.loop-behind.r c.some_words.new.r c.loop-behind.filled so_far took
+    whole_taken (next format) before c.args.intra c.args.r.now c.loop-behind.r c.some_words.new.r c.loop-behind.filled so_far _ c.in_default.is (c.in_ok-behind.ensures.taken format (after before (coefficient_elements so_far.block)) so_far.due so_far.full)
