@@ -110,6 +110,6 @@ no_first-word rest before later =
     record {
       ahead = record { inside = omega arith; grows = λ _ some. absurd (omega (arith, some)); go = no-words-here bits before };
       goes_on = refl;
-      room = λ room. room;
-      may = may-later (before == 0) bits (λ h. first_bit rest 0 (later (eqb-true before 0 h)));
+      room = λ room. omega (arith, room);
+      may = subst (λ (n : ℕ). MayStand (n == 0) bits) (omega arith) (may-later (before == 0) bits (λ h. first_bit rest 0 (later (eqb-true before 0 h))));
     }

@@ -4,7 +4,7 @@ use Rattle.std.proofs.lemmas.Bool.{eqb-true}
 use Rattle.std.proofs.lemmas.List.{map_push, map-append}
 use Rattle.pel_model.specs.declared.Fault.{Fault}
 use Rattle.pel_model.specs.Records.{Coefficient, Block}
-use Rattle.pel_model.specs.Levels.{dc_level, sent_levels, levels}
+use Rattle.pel_model.specs.Elements.{dc_level, sent_levels, levels}
 use Rattle.pel_model.specs.Elements.{IsBlockSoFar, coefficient_elements, block_elements, dc_elements}
 use Rattle.pel_model.specs.Walk.{Standing, Good, Bad, skipped, after, Goes, AreTaken, FailsBehind, Walked}
 use Rattle.pel_model.specs.Grammar.{Element, Dc, Tcoeff, Eob, slot, filled, AtFirst, AtCoefficient}
@@ -174,8 +174,7 @@ module _ (next : List Element → List Bool × ℕ → Standing Element) (before
 
   pub failed_taken : (intra : Bool) (old mid new : List Bool × ℕ) (count : ℕ) (so_far : SoFar next before intra old mid count) (f : Fault) → Taken intra old mid new count so_far (Err f) → StopsAt f old new
   failed_taken intra old mid new count so_far f took =
-      unfolding more_of
-  failed_behind intra old mid new count so_far f took.part.coefficients
+      failed_behind intra old mid new count so_far f took.part.coefficients
       (subst (λ (es : List Element). Goes next (after before (coefficient_elements so_far.block)) mid es new) took.part.are took.walk)
       (subst (λ (es : List Element). next (after (after before (coefficient_elements so_far.block)) es) new ≡ Bad f.why) took.part.are took.bad) took.place
 

@@ -1,16 +1,18 @@
 -- The window of a reader, and the words that its first bits show.
-use Rattle.std.proofs.Common.{◌≡◌, ◌≢◌, ℕ, ◌+◌, ◌-◌, ◌*◌, ◌/◌, ◌%◌, ◌^◌, ◌<◌, ◌≤◌, ◌==◌, Bool, true, false, cond, List, [], ◌∷◌, ◌++◌, length, take, drop, Option, Some, None, IfSome, refl, sym, ◌∙◌, ap, subst, arith, append_assoc, length-append, length-drop, length-take}
+use Rattle.std.proofs.Common.{◌≡◌, ◌≢◌, ℕ, ◌+◌, ◌-◌, ◌*◌, ◌/◌, ◌%◌, ◌^◌, ◌<◌, ◌≤◌, ◌==◌, Bool, true, false, cond, List, [], ◌∷◌, ◌++◌, length, take, drop, Option, Some, None, IfSome, Result, Ok, Err, refl, sym, ◌∙◌, ap, subst, arith, append_assoc, length-append, length-drop, length-take}
 use Rattle.std.proofs.lemmas.Bool.{ne_eqb}
 use Rattle.std.proofs.lemmas.List.{drop-drop, drop-take, drop-append-le, take-take, take-append-le, take-append-drop}
 use Rattle.pel_bits.specs.Bits.{field, number}
 use Rattle.pel_bits.specs.Reading.{zeros}
 use Rattle.pel_bits.proofs.Fields.{length-field, field-mod, field-shift, take-field, drop-field, field-number}
+use Rattle.pel_model.specs.declared.Fault.{Fault}
 use Rattle.pel_model.specs.declared.Format.{Format}
-use Rattle.pel_model.specs.Walk.{skipped, Goes}
+use Rattle.pel_model.specs.Records.{Coefficient}
+use Rattle.pel_model.specs.Walk.{skipped, after, Goes, Walked}
 use Rattle.pel_model.specs.Grammar.{Element, slot, filled, AtFirst, AtCoefficient, next}
 use Rattle.h261_block.specs.declared.ahead.Words.{Words}
-use Rattle.h261_block.specs.Ahead.{elements, AreWords, AreAhead, AreFirst, AreKnown, MayStand}
-use Rattle.h261_block.proofs.AheadLaws.{more-words, words-before}
+use Rattle.h261_block.specs.Ahead.{places, elements, AreWanted, AreElements, AreWords, AreAhead, AreFirst, AreKnown, MayStand}
+use Rattle.h261_block.proofs.AheadLaws.{elements-slot, elements-filled, more-words, words-before, taken-behind}
 
 -- ---- bits of a word of 64
 
@@ -90,7 +92,7 @@ ahead-none bits before rest words room is first = record {
 }
 
 -- how many bits are left
-left_length : (rest len : ℕ) → length (take (56 - len) (field rest 64)) ≡ 56 - len
+pub left_length : (rest len : ℕ) → length (take (56 - len) (field rest 64)) ≡ 56 - len
 left_length rest len = length-take (56 - len) (field rest 64) ∙ omega (arith, length-field rest 64)
 
 -- the words of one look behind those of others
@@ -113,8 +115,8 @@ ahead-more bits before len places rest words so_far known room goes_on =
       room = omega (arith, room);
       grows = λ long. omega (arith, some);
       left = ap (λ (n : ℕ). take n (field (rest * 2 ^ words.len % 2 ^ 64) 64)) sum
-      ∙ (shifted rest words.len (56 - len) fits (omega arith)
-      ∙ (ap (drop words.len) so_far.left ∙ drop-drop words.len len bits));
+          ∙ (shifted rest words.len (56 - len) fits (omega arith)
+          ∙ (ap (drop words.len) so_far.left ∙ drop-drop words.len len bits));
       may = subst (λ (b : Bool). MayStand b (drop (len + words.len) bits)) (sym (ne_eqb (before + (places + words.places)) 0 (λ none. omega (arith, none, some)))) tt;
       words = subst (λ (b : Bool). AreWords bits (len + words.len) before (before + (places + words.places)) b) goes_on (both-words bits before len places rest words so_far known room);
     }
@@ -125,6 +127,13 @@ ahead-on bits before rest words all goes_on so_far = record {
   inside = omega (arith, so_far.inside, all);
   grows = λ _. so_far.grows;
   go = subst (λ (b : Bool). AreWords bits words.len before (before + words.places) b) (sym goes_on) so_far.words;
+}
+
+pub ahead-end : (bits : List Bool) (before len places rest : ℕ) (words : Words) → length bits ≡ 56 → AheadSoFar bits before len places rest → AreKnown (take (56 - len) (field rest 64)) words → before + places + words.places ≤ 64 → words.ends ≡ true → AreAhead bits before (record { len = len + words.len; places = places + words.places; ends = true })
+ahead-end bits before len places rest words all so_far known room ends = record {
+  inside = omega (arith, all, so_far.inside, known.inside, left_length rest len);
+  grows = λ goes_on. absurd cc;
+  go = subst (λ (b : Bool). AreWords bits (len + words.len) before (before + (places + words.places)) b) ends (both-words bits before len places rest words so_far known room);
 }
 
 -- where the window shows what is left, the words ahead go from there
@@ -138,3 +147,35 @@ ahead-goes format es r window before words long is ahead due full =
     let go = ahead.go.go format es (drop 56 r.0) r.1 due full in
     subst (λ (t : List Bool). Goes (next format) es (t, r.1) (elements ahead.go.coefficients words.ends) (skipped words.len r)) whole
     (subst (λ (t : List Bool). Goes (next format) es (field window 56 ++ drop 56 r.0, r.1) (elements ahead.go.coefficients words.ends) (t, r.1 + words.len)) behind go)
+
+-- ---- what was answered, by the words ahead
+
+module _ (format : Format) (es : List Element) (before : ℕ) (due : slot es ≡ cond (before == 0) AtFirst AtCoefficient) (full : filled es ≡ before) (r : List Bool × ℕ) (window : ℕ) (words : Words) (long : 56 ≤ length r.0) (is : window ≡ number (take 56 r.0)) (ahead : AreAhead (field window 56) before words) where
+  goes_to : (ends : Bool) (new : List Bool × ℕ) → words.ends ≡ ends → new ≡ skipped words.len r → Goes (next format) es r (elements ahead.go.coefficients ends) new
+  goes_to ends new known moved =
+      subst (λ (end : List Bool × ℕ). Goes (next format) es r (elements ahead.go.coefficients ends) end) (sym moved)
+      (subst (λ (b : Bool). Goes (next format) es r (elements ahead.go.coefficients b) (skipped words.len r)) known (ahead-goes format es r window before words long is ahead due full))
+
+  -- the block ends in the window
+  pub ahead-ends : (new : List Bool × ℕ) → words.ends ≡ true → new ≡ skipped words.len r → Walked (next format) es (λ n es _. AreWanted before n es) (AreElements false) (Ok None) r new
+  ahead-ends new known moved = record {
+    elements = elements ahead.go.coefficients true;
+    walk = goes_to true new known moved;
+    wanted = record { coefficients = ahead.go.coefficients; are = refl };
+  }
+
+  -- the block goes on behind the window
+  pub ahead-some : (new : List Bool × ℕ) → words.ends ≡ false → new ≡ skipped words.len r → Walked (next format) es (λ n es _. AreWanted before n es) (AreElements false) (Ok (Some (before + words.places))) r new
+  ahead-some new known moved = record {
+    elements = elements ahead.go.coefficients false;
+    walk = goes_to false new known moved;
+    wanted = record { coefficients = ahead.go.coefficients; are = refl; count = ahead.go.count };
+  }
+
+  -- what was answered behind the words
+  pub ahead-then : (result : Result (Option ℕ) Fault) (mid new : List Bool × ℕ) → words.ends ≡ false → mid ≡ skipped words.len r → ((es : List Element) → slot es ≡ cond (before + words.places == 0) AtFirst AtCoefficient → filled es ≡ before + words.places → Walked (next format) es (λ n es _. AreWanted (before + words.places) n es) (AreElements false) result mid new) → Walked (next format) es (λ n es _. AreWanted before n es) (AreElements false) result r new
+  ahead-then result mid new known moved took =
+      let cs : List Coefficient = ahead.go.coefficients in
+      let slot_is = elements-slot es cs before due ∙ ap (λ (n : ℕ). cond (n == 0) AtFirst AtCoefficient) (sym ahead.go.count) in
+      let filled_is = elements-filled es cs ∙ (ap (λ (n : ℕ). n + places cs) full ∙ sym ahead.go.count) in
+      taken-behind (next format) es before (before + words.places) r mid new cs result (goes_to false mid known moved) ahead.go.count (took (after es (elements cs false)) slot_is filled_is)

@@ -80,7 +80,7 @@ fn words_ahead(window: u64, before: u32) -> Words
         let Some(words) = known_words(rest, 56 - ahead.len) else {
             break;
         };
-        if before + ahead.places + words.places > 64 {
+        if words.places > 64 - before - ahead.places {
             break;
         }
         ahead.len += words.len;
@@ -96,7 +96,9 @@ fn words_ahead(window: u64, before: u32) -> Words
 
 // The first coefficient of a block without INTRADC where it is the short one, run 0 and level 1.
 #[inline]
-fn first_word(rest: u64, before: u32) -> Words {
+fn first_word(rest: u64, before: u32) -> Words
+    ensures { AreFirst (take 56 (field rest 64)) before result }
+{
     if before == 0 && rest >> 63 == 1 {
         Words {
             len: 2,

@@ -7,7 +7,7 @@ mod coefficients;
 
 ghost use Rattle.std.specs.Prelude.{◌≡◌, cond, List, is_some};
 ghost use Rattle.pel_model.specs.declared.Format.{Format};
-ghost use Rattle.pel_model.specs.Levels.{levels};
+ghost use Rattle.pel_model.specs.Elements.{levels};
 ghost use Rattle.pel_model.specs.Elements.{IsBlockSoFar, block_elements};
 ghost use Rattle.pel_model.specs.Grammar.{Element, slot, AtDc, AtFirst, next};
 ghost use Rattle.pel_model.specs.Records.{Block};
@@ -171,7 +171,13 @@ mod tests {
             ("00001000", 1, "0100011010", true, 21),
             // run 22 as a code of 14 bits, and escapes before and behind a word
             ("10", 0, "0000000011111011010", false, 21),
-            ("1000000100001000000010", 1, "0000010000011000000110", false, 47),
+            (
+                "1000000100001000000010",
+                1,
+                "0000010000011000000110",
+                false,
+                47,
+            ),
             // an escape that begins in one window and ends in the next, and all 64 coefficients
             ("10", 12, "0000010000011000000110", false, 60),
             ("10", 63, "10", false, 193),
