@@ -3,6 +3,8 @@ pub mod Bits
 pub mod Codes
 pub mod Elements
 pub mod Grammar
+pub mod Headers
+pub mod Levels
 pub mod Marks
 pub mod Plan
 pub mod Records

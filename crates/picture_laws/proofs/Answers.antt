@@ -7,7 +7,7 @@ use Rattle.pel_model.specs.Walk.{Standing, Good, Stop, Bad, skipped, start, afte
 use Rattle.pel_model.specs.Grammar.{Element, slot, next_within_limit, next}
 use Rattle.pel_model.proofs.Walks.{one_fault, not_both, one_reading}
 use Rattle.picture_laws.specs.Laws.{HasRecordOrFault, NeverBoth, OneSpelling, OneRecord, OneFault}
-use Rattle.picture_laws.specs.Elements.{elements}
+use Rattle.picture_laws.specs.PictureElements.{elements}
 use Rattle.picture_laws.proofs.Told.{told-one}
 use Rattle.picture_laws.proofs.Slots.{word_at}
 use Rattle.picture_laws.proofs.Chains.{next-is}
