@@ -72,4 +72,8 @@ returns c = λ format before due.
     let block = so_far.so_far.block in
     let took = c.in_ok-coefficient.ensures.taken format (after before (coefficient_elements block)) so_far.so_far.due so_far.so_far.full in
     let step = took.good ∙ ap (λ (e : Element). Good e took.len) (row-end c.in_ok-coefficient.field-0 (sym c.run_and_level.ensures ∙ c.in_default.is)) in
-    record { elements = block_elements block; walk = whole_walk (next format) before c.args.intra c.args.r.now c.loop-run.r c.coefficient.new.r c.loop-run.filled so_far.so_far took.len step took.behind; wanted = (block, refl, so_far.so_far.kind, so_far.out_is) }
+    record {
+      elements = block_elements block;
+      walk = whole_walk (next format) before c.args.intra c.args.r.now c.loop-run.r c.coefficient.new.r c.loop-run.filled so_far.so_far took.len step took.behind;
+      wanted = (block, refl, so_far.so_far.kind, so_far.out_is);
+    }
