@@ -5,14 +5,14 @@ use Rattle.pel_model.specs.declared.Format.{Format}
 use Rattle.pel_model.specs.Records.{Group, Picture}
 use Rattle.pel_model.specs.Text.{text, group_text}
 use Rattle.pel_model.specs.Valid.{IsValid, group_count, limit}
-use Rattle.pel_model.specs.Spelling.{GroupForm, Sent, GroupsFit, Spells, sent_text}
+use Rattle.pel_model.specs.Spelling.{GroupsFit, Spells, sent_text, strict_group, strict_form}
 use Rattle.picture_laws.proofs.Answers.{one-spelling}
-use Rattle.picture_laws.proofs.Strict.{strict_form, text_strict}
+use Rattle.picture_laws.proofs.Strict.{text_strict}
 use Rattle.h261_pic.specs.Coded.{Coding, coding, HasPicture, IsFinished, IsWhole}
 use Rattle.h261_pic.specs.Laws.{EqualCodings, FinishedCodings}
 use Rattle.h261_pic.proofs.Texts.{length-views, length-text}
 
-strict_fits : (gs : List Group) → GroupsFit (map (λ (g : Group). Sent [] 0 []) gs) gs
+strict_fits : (gs : List Group) → GroupsFit (map (λ (g : Group). strict_group) gs) gs
 strict_fits [] = tt
 strict_fits (g ∷ gs) = (tt, strict_fits gs)
 
