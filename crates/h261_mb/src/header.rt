@@ -4,7 +4,7 @@ ghost use Rattle.std.specs.Prelude.{◌≡◌, ℕ, ◌<◌, ◌≤◌, true, Li
 ghost use Rattle.pel_model.specs.declared.Why.{Why};
 ghost use Rattle.pel_model.specs.declared.Why.TheVariants.{NoCode};
 ghost use Rattle.pel_model.specs.Bits.{field};
-ghost use Rattle.pel_model.specs.Codes.{is_intra as intra_by_table};
+ghost use Rattle.pel_model.specs.Codes.{is_intra};
 ghost use Rattle.pel_model.specs.Grammar.{Element, Mba, Stuffing, mba_rows, is_group, next};
 ghost use Rattle.pel_model.specs.Walk.{Good, Bad, read, Walked};
 ghost use Rattle.h261_mb.specs.Inside.{IsMacroblockSoFar};
@@ -42,7 +42,7 @@ pub struct Header {
 impl Header {
     /// Whether the macroblock is Intra.
     pub fn is_intra(&self) -> bool
-        ensures { result ≡ intra_by_table self.now.kind }
+        ensures { result ≡ is_intra self.now.kind }
     {
         is_intra(self.kind)
     }

@@ -2,7 +2,7 @@
 
 ghost use Rattle.std.specs.Prelude.{◌≡◌, ◌<◌, ◌≤◌, cond, List, IfOk};
 ghost use Rattle.pel_model.specs.declared.Format.{Format};
-ghost use Rattle.pel_model.specs.Codes.{is_intra as intra_by_table};
+ghost use Rattle.pel_model.specs.Codes.{is_intra};
 ghost use Rattle.pel_model.specs.Grammar.{Element, Cbp, slot, AtCbp, cbp_slot, kind as kind_before, blocks as blocks_before, next};
 ghost use Rattle.pel_model.specs.Walk.{Takes, Walked};
 ghost use Rattle.h261_mb.specs.Inside.{StaysInside};
@@ -20,7 +20,7 @@ const ALL_BLOCKS: u8 = 63;
 /// Takes CBP where the kind has it, and gives the pattern: all blocks where the kind is Intra, else none without CBP.
 pub fn read_pattern(r: &mut Reader<'_>, kind: MbKind) -> Result<u8, Fault>
     ensures walk { (format : Format) (before : List Element) → slot before ≡ cbp_slot kind →
-        kind_before before ≡ kind → blocks_before before ≡ cond (intra_by_table kind) 6 0 →
+        kind_before before ≡ kind → blocks_before before ≡ cond (is_intra kind) 6 0 →
         Walked (next format) before (IsPattern kind before)
         (StaysInside before) result r.old r.new }
     ensures onward { IfOk result (λ _. r.old.1 ≤ r.new.1) }

@@ -4,7 +4,7 @@
 ghost use Rattle.std.specs.Prelude.{◌≡◌, ◌≤◌, false, List, IfOk};
 ghost use Rattle.pel_model.specs.declared.Format.{Format};
 ghost use Rattle.pel_model.specs.declared.Why.TheVariants.{NoCode};
-ghost use Rattle.pel_model.specs.Grammar.{Element, slot, AtGroup, AtMacroblock, is_end as is_end_of, mba_rows, next};
+ghost use Rattle.pel_model.specs.Grammar.{Element, slot, AtGroup, AtMacroblock, is_end, mba_rows, next};
 ghost use Rattle.pel_model.specs.Walk.{Bad, read};
 ghost use Rattle.h261_pic.specs.Comes.{Comes, IsGroupOrEnd};
 
@@ -60,7 +60,7 @@ pub fn take_group_or_end(r: &mut Reader<'_>) -> Result<Coming, Fault>
 
 // At most 7 bits are left, and all are 0.
 fn is_end(r: &Reader<'_>) -> bool
-    ensures { result ≡ is_end_of r.now.0 }
+    ensures { result ≡ is_end r.now.0 }
 {
     let left = r.left();
     left < 8 && r.peek(left) == 0
@@ -70,10 +70,10 @@ fn is_end(r: &Reader<'_>) -> bool
 // may.
 fn take_gbsc(r: &mut Reader<'_>, why: Why) -> Result<Coming, Fault>
     ensures behind_a_group { (format : Format) (before : List Element) →
-        slot before ≡ AtMacroblock → is_end_of r.old.0 ≡ false →
+        slot before ≡ AtMacroblock → is_end r.old.0 ≡ false →
         read mba_rows r.old.0 ≡ Bad why → Comes (next format before r.old) result r.old r.new }
     ensures behind_a_header { (format : Format) (before : List Element) →
-        slot before ≡ AtGroup → is_end_of r.old.0 ≡ false →
+        slot before ≡ AtGroup → is_end r.old.0 ≡ false →
         why ≡ NoCode → Comes (next format before r.old) result r.old r.new }
     ensures of_these { IfOk result IsGroupOrEnd }
 {

@@ -1,7 +1,7 @@
 //! A group of blocks as a sender may send it: header, macroblocks and stuffing, read within the picture's limit.
 
 ghost use Rattle.std.specs.Prelude.{◌≡◌, ◌<◌, ◌≤◌, ℕ, Bool, true, List, Result, IfOk};
-ghost use Rattle.pel_model.specs.Grammar.{Element, is_group as is_group_of};
+ghost use Rattle.pel_model.specs.Grammar.{Element, is_group};
 ghost use Rattle.h261_pic.specs.ReadGroup.{GroupComes, GroupIsReadOrFails};
 
 use crate::coming::Coming;
@@ -41,7 +41,7 @@ pub fn read_group(
         GroupComes format bits last begun before from r.old →
         GroupIsReadOrFails format bits before from result r.new }
     ensures within { IfOk result (λ group.
-        (is_group_of format group.header.number ≡ true) × (last < group.header.number)) }
+        (is_group format group.header.number ≡ true) × (last < group.header.number)) }
 {
     let end = last_end(format, begun);
     let header = group_header_within(r, format, last, end)?;

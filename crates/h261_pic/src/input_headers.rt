@@ -5,7 +5,7 @@ ghost use Rattle.pel_bits.specs.Reading.{skipped};
 ghost use Rattle.pel_model.specs.declared.Format.{Format as PictureFormat};
 ghost use Rattle.pel_model.specs.declared.Why.TheVariants.{Cut};
 ghost use Rattle.pel_model.specs.Bits.{number};
-ghost use Rattle.pel_model.specs.Grammar.{Element, Psc, Ptype, Gn, Gquant, Slot, slot, AtPsc, AtPtype, AtGn, AtGquant, group, is_group as is_group_of, names_format, next};
+ghost use Rattle.pel_model.specs.Grammar.{Element, Psc, Ptype, Gn, Gquant, Slot, slot, AtPsc, AtPtype, AtGn, AtGquant, group, is_group, names_format, next};
 ghost use Rattle.pel_model.specs.Walk.{Takes, Walked};
 ghost use Rattle.h261_pic.specs.HeaderElements.{Layer, FieldOf, flag_slot, IsPictureHeader, IsGroupHeader, AreSpares, AreSparesSoFar, IsPictureHeaderSoFar, IsGroupHeaderSoFar};
 
@@ -44,7 +44,7 @@ pub fn read_group_header(r: &mut Reader<'_>, format: Format, last: u8) -> Result
         Walked (next format) before IsGroupHeader
         IsGroupHeaderSoFar result r.old r.new }
     ensures number { IfOk result (λ header.
-        (is_group_of format header.number ≡ true) × (last < header.number)) }
+        (is_group format header.number ≡ true) × (last < header.number)) }
     ensures quant { IfOk result (λ header. (0 < header.quant) × (header.quant < 32)) }
 {
     let number = take_gn(r, format, last)?;
@@ -113,7 +113,7 @@ fn names(format: Format, ptype: u32) -> bool
 fn take_gn(r: &mut Reader<'_>, format: Format, last: u8) -> Result<u8, Fault>
     ensures taken { (before : List Element) → slot before ≡ AtGn → group before ≡ last →
         Takes Gn (next format before r.old) result r.old r.new }
-    ensures within { IfOk result (λ n. (is_group_of format n ≡ true) × (last < n)) }
+    ensures within { IfOk result (λ n. (is_group format n ≡ true) × (last < n)) }
 {
     let number = look(r, 4)? as u8;
     let place = r.place();
@@ -129,7 +129,7 @@ fn take_gn(r: &mut Reader<'_>, format: Format, last: u8) -> Result<u8, Fault>
 
 // The group has a number of the format, and it is above that of the group before.
 fn may_come(format: Format, number: u8, last: u8) -> bool
-    ensures { result ≡ (is_group_of format number && nat_lt last number) }
+    ensures { result ≡ (is_group format number && nat_lt last number) }
 {
     is_group(format, number) && last < number
 }

@@ -4,7 +4,7 @@
 ghost use Rattle.std.specs.Prelude.{◌≡◌, ◌-◌, ◌<◌, ◌≤◌, ℕ, true, List, [], take, IfOk};
 ghost use Rattle.pel_model.specs.declared.Format.{Format as PictureFormat};
 ghost use Rattle.pel_model.specs.Valid.{limit};
-ghost use Rattle.pel_model.specs.Grammar.{Element, Mba, mba_rows, slot, AtGn, AtGroup, AtMacroblock, group as group_before, begun as begun_before, is_group as is_group_of, counted, next_within_limit};
+ghost use Rattle.pel_model.specs.Grammar.{Element, Mba, mba_rows, slot, AtGn, AtGroup, AtMacroblock, group as group_before, begun as begun_before, is_group, counted, next_within_limit};
 ghost use Rattle.pel_model.specs.Walk.{Good, read};
 ghost use Rattle.h261_mb.specs.State.{IsReady, Stands, IsRead};
 ghost use Rattle.h261_pic.specs.HeaderElements.{IsPictureHeader, IsGroupHeader};
@@ -46,7 +46,7 @@ pub fn group_header_within(
         EndsAt format before end → r.old.1 ≤ end →
         Reached format before IsGroupHeader result r.old r.new }
     ensures number { IfOk result (λ header.
-        (is_group_of format header.number ≡ true) × (last < header.number)) }
+        (is_group format header.number ≡ true) × (last < header.number)) }
     ensures quant { IfOk result (λ header. (0 < header.quant) × (header.quant < 32)) }
 {
     let begin = r.copy();
@@ -67,7 +67,7 @@ pub fn macroblock_within(
     state: &mut MbState,
     end: u32,
 ) -> Result<Mark, Fault>
-    requires group { is_group_of format group ≡ true }
+    requires group { is_group format group ≡ true }
     requires ready { IsReady state.old }
     ensures walk { (before : List Element) (d n : ℕ) → Stands group state.old before →
         read mba_rows r.old.0 ≡ Good (Mba d) n → EndsAt format before end → r.old.1 ≤ end →

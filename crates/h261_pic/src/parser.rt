@@ -1,7 +1,7 @@
 //! A picture in any input form, or its first fault.
 
 ghost use Rattle.std.specs.Prelude.{◌≡◌, ℕ, IfOk, IfErr, IsOk};
-ghost use Rattle.pel_model.specs.declared.Why.{Why as Reason};
+ghost use Rattle.pel_model.specs.declared.Why.{Why};
 ghost use Rattle.pel_model.specs.Records.{Picture};
 ghost use Rattle.pel_model.specs.Accepts.{Accepts};
 ghost use Rattle.pel_model.specs.Grammar.{next_within_limit};
@@ -32,7 +32,7 @@ pub fn parse(bits: Bits<'_>, want: Format, into: &mut Coded) -> Result<(), Fault
         IsOk result × (into.new ≡ coding want picture) }
     ensures refused { IfErr result (λ fault.
         FirstFault (next_within_limit want) bits.entry fault.place fault.why × (into.new ≡ nothing want)) }
-    ensures faults { (place : ℕ) (why : Reason) →
+    ensures faults { (place : ℕ) (why : Why) →
         FirstFault (next_within_limit want) bits.entry place why →
         result ≡ Err (record { place = place; why = why }) }
 {
