@@ -46,7 +46,7 @@ pub fn some_words(r: &mut Reader<'_>, count: u32) -> Result<Option<u32>, Fault>
     } else if ahead.len > 36 {
         Ok(Some(count + ahead.filled))
     } else {
-        // all bits of the longest word were in the window, and it showed none
+        // 20 bits were left, as many as the longest word has, and they showed no good one
         one_word(r, count + ahead.filled)
     }
 }
@@ -75,9 +75,11 @@ fn words_ahead(window: u64, before: u32) -> Words
     ensures words { AreAhead (field window 56) before result }
     ensures room { before + result.filled ≤ 64 }
 {
+    // the bits of the window that are left stand first in `rest`
     let mut rest = window << 8;
     let mut ahead = first_word(rest, before);
     rest <<= ahead.len;
+    // as long as 12 bits are left
     while ahead.len <= 44 {
         let Some(words) = known_words(rest, 56 - ahead.len) else {
             break;
@@ -116,7 +118,7 @@ fn first_word(rest: u64, before: u32) -> Words
     }
 }
 
-// The words that stand whole in the first `sure` bits of `rest`.
+// Words that stand whole in the first `sure` bits of `rest`, by its first 12 bits.
 #[inline]
 fn known_words(rest: u64, sure: u32) -> Option<Words>
     requires { (12 ≤ sure) × (sure ≤ 56) }
@@ -130,7 +132,7 @@ fn known_words(rest: u64, sure: u32) -> Option<Words>
     }
 }
 
-// The same for codes of more than ten bits and for escapes.
+// The same where the first word is longer: a code of 11 to 13 bits and its sign, or an escape.
 #[inline]
 fn rare_word(rest: u64, sure: u32) -> Option<Words>
     requires { sure ≤ 56 }
@@ -174,6 +176,7 @@ fn escape(rest: u64) -> Option<Words>
     })
 }
 
+// The words of a table's index; length 0 is none.
 #[inline]
 fn cell_at<const N: usize>(cells: &Cells<N>, index: usize) -> Words
     requires { index < N }
