@@ -132,7 +132,7 @@ fn known_words(rest: u64, sure: u32) -> Option<Words>
     }
 }
 
-// The same where the first word is longer: a code of 11 to 13 bits and its sign, or an escape.
+// The same where the first word is longer: a code of 12 or 13 bits and its sign, or an escape.
 #[inline]
 fn rare_word(rest: u64, sure: u32) -> Option<Words>
     requires { sure ≤ 56 }
