@@ -6,11 +6,11 @@ WIDTH = 12  # bits of an index of WORDS
 LONG_WIDTH, ZEROS = 14, 6  # LONG_WORDS: 14 bits that begin with six zeros
 MOST = 4  # words in a cell
 
-# a word with its sign, its places in the block, and whether it ends the block
+# a word with its sign, how many coefficients of the block it fills, and whether it ends the block
 WORDS = [(digits + sign, run + 1, False) for digits, (run, _level) in codes.TCOEFF.items() for sign in "01"]
 WORDS += [(codes.LATER_ONE + sign, 1, False) for sign in "01"]
 WORDS += [(codes.END_OF_BLOCK, 0, True)]
-BY_DIGITS = {digits: (places, ends) for digits, places, ends in WORDS}
+BY_DIGITS = {digits: (filled, ends) for digits, filled, ends in WORDS}
 LENGTHS = sorted({len(digits) for digits in BY_DIGITS})
 
 
@@ -22,7 +22,7 @@ def first_word(digits):
 
 
 def cell(digits):
-    """Length, places and end of the whole words at the front."""
+    """The whole words at the front: their length, how many coefficients they fill, and whether the block ends."""
     used, filled, ends = 0, 0, False
     for _ in range(MOST):
         word = first_word(digits[used:])
@@ -37,7 +37,7 @@ def table(name, comment, cells):
         print(f"// {line}")
     print(f"pub static {name}: Cells<{len(cells)}> = Cells {{")
     print("lens: [" + ", ".join(str(c[0]) for c in cells) + "],")
-    print("places: [" + ", ".join(str(c[1]) for c in cells) + "],")
+    print("filled: [" + ", ".join(str(c[1]) for c in cells) + "],")
     print("ends: [" + ", ".join(str(c[2]).lower() for c in cells) + "],")
     print("};\n")
 
@@ -48,7 +48,7 @@ def main():
     print("#![tactic(auto)]\n")
     print("/// At each index the words of its bits: their length in bits, 0 where the first is not whole; how many coefficients")
     print("/// they are, the zeros among them; and whether the last of them is the end of the block.")
-    print("pub struct Cells<const N: usize> {\npub lens: [u8; N],\npub places: [u8; N],\npub ends: [bool; N],\n}\n")
+    print("pub struct Cells<const N: usize> {\npub lens: [u8; N],\npub filled: [u8; N],\npub ends: [bool; N],\n}\n")
     table("WORDS", [f"The words in {WIDTH} bits."], [cell(format(k, f"0{WIDTH}b")) for k in range(2**WIDTH)])
     table("LONG_WORDS", [f"The words in {LONG_WIDTH} bits that begin with six zeros."], [cell(format(k, f"0{LONG_WIDTH}b")) for k in range(2 ** (LONG_WIDTH - ZEROS))])
 

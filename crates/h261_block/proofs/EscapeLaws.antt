@@ -1,5 +1,5 @@
 -- An escape in a window, and the short first coefficient of a block without INTRADC.
-use Rattle.std.proofs.Common.{◌≡◌, ◌≢◌, ℕ, ◌+◌, ◌/◌, ◌%◌, ◌^◌, ◌<◌, ◌≤◌, ◌==◌, ◌&&◌, ◌||◌, Bool, true, false, cond, List, [], ◌∷◌, ◌++◌, length, take, drop, get_or, refl, sym, ◌∙◌, ap, subst, inl, inr, arith, append-nil, length-take}
+use Rattle.std.proofs.Common.{◌≡◌, ◌≢◌, ℕ, ◌+◌, ◌/◌, ◌%◌, ◌^◌, ◌<◌, ◌≤◌, ◌==◌, ◌||◌, Bool, true, false, List, [], ◌∷◌, ◌++◌, length, take, drop, get_or, refl, sym, ◌∙◌, ap, subst, inl, inr, arith, append-nil, length-take}
 use Rattle.std.proofs.lemmas.Bool.{ne_eqb, eqb-true}
 use Rattle.std.proofs.lemmas.List.{take-take}
 use Rattle.pel_bits.specs.Bits.{field}
@@ -7,14 +7,13 @@ use Rattle.pel_bits.proofs.Fields.{length-field, field-add, number-field}
 use Rattle.pel_model.specs.Bits as model
 use Rattle.pel_model.specs.Codes.{escape_word, first_one_word, end_of_block_word}
 use Rattle.pel_model.specs.Records.{Coefficient}
-use Rattle.pel_model.specs.Walk.{Good, Row, read}
-use Rattle.pel_model.specs.Grammar.{Element, Tcoeff, Eob, first_rows, later_rows, coefficient_rows, coefficient_row, escape_row, word_row, signed, from_twos_complement, is_forbidden_level}
+use Rattle.pel_model.specs.Walk.{Good, read}
+use Rattle.pel_model.specs.Grammar.{Tcoeff, Eob, later_rows, coefficient_rows, coefficient_row, escape_row, word_row, signed, from_twos_complement, is_forbidden_level}
 use Rattle.vlc_codes.proofs.CellLaws.{listed, listed_at}
 use Rattle.vlc_codes.proofs.CoefficientLaws.{same_number}
 use Rattle.vlc_codes.proofs.FoundRows.{Among, among-left, among-right, read-row}
 use Rattle.vlc_codes.proofs.WordLaws.{whole-good}
-use Rattle.h261_block.specs.declared.ahead.Words.{Words}
-use Rattle.h261_block.specs.Ahead.{AreWords, AreAhead, AreFirst, AreKnown, MayStand}
+use Rattle.h261_block.specs.Ahead.{AreWords, AreFirst, AreKnown, MayStand}
 use Rattle.h261_block.proofs.AheadLaws.{later_free, read-at, one-coefficient, no-words-here}
 use Rattle.h261_block.proofs.WindowLaws.{first-bits, known-in}
 
@@ -52,7 +51,7 @@ escape_read k is =
     ∙ (read-row later_rows escape_row (field k 14) [] later_free escape_among (length-field k 14)
     ∙ ap (λ (n : ℕ). Good (Tcoeff (escaped n)) 20) (same_number (field k 14) ∙ number-field k 14))
 
-pub escape-known : (k fields : ℕ) → k / 2 ^ 14 ≡ 1 → fields ≡ k % 2 ^ 14 → fields % 256 ≢ 0 → fields % 256 ≢ 128 → AreKnown (field k 20) (record { len = 20; places = fields / 256 + 1; ends = false })
+pub escape-known : (k fields : ℕ) → k / 2 ^ 14 ≡ 1 → fields ≡ k % 2 ^ 14 → fields % 256 ≢ 0 → fields % 256 ≢ 128 → AreKnown (field k 20) (record { len = 20; filled = fields / 256 + 1; ends = false })
 escape-known k fields is are some other = record {
   inside = omega (arith, length-field k 20);
   grows = λ _. omega arith;
@@ -62,7 +61,7 @@ escape-known k fields is are some other = record {
       (omega (arith, length-field k 20)) (allowed (fields % 256) (omega arith) some other) (omega (arith, room));
 }
 
-pub escape-in : (rest fields : ℕ) → rest / 2 ^ 58 ≡ 1 → fields ≡ rest / 2 ^ 44 % 2 ^ 14 → fields % 256 ≢ 0 → fields % 256 ≢ 128 → AreKnown (take 20 (field rest 64)) (record { len = 20; places = fields / 256 + 1; ends = false })
+pub escape-in : (rest fields : ℕ) → rest / 2 ^ 58 ≡ 1 → fields ≡ rest / 2 ^ 44 % 2 ^ 14 → fields % 256 ≢ 0 → fields % 256 ≢ 128 → AreKnown (take 20 (field rest 64)) (record { len = 20; filled = fields / 256 + 1; ends = false })
 escape-in rest fields is are some other =
     known-in rest 20 _ (omega arith) (escape-known (rest / 2 ^ 44) fields (omega (arith, is)) are some other)
 
@@ -87,7 +86,7 @@ first_bit : (rest n : ℕ) → rest / 2 ^ 63 ≡ n → take 1 (take 56 (field re
 first_bit rest n is =
     take-take 1 56 (field rest 64) (omega arith) ∙ (first-bits rest 1 (omega arith) ∙ ap (λ (n : ℕ). field n 1) is)
 
-pub first-word : (rest before : ℕ) → before ≡ 0 → rest / 2 ^ 63 ≡ 1 → AreFirst (take 56 (field rest 64)) before (record { len = 2; places = 1; ends = false })
+pub first-word : (rest before : ℕ) → before ≡ 0 → rest / 2 ^ 63 ≡ 1 → AreFirst (take 56 (field rest 64)) before (record { len = 2; filled = 1; ends = false })
 unfolding field
 first-word rest before none one =
     let bits : List Bool = take 56 (field rest 64) in
@@ -103,7 +102,7 @@ first-word rest before none one =
       may = subst (λ (b : Bool). MayStand b (drop 2 bits)) (sym (ne_eqb (before + 1) 0 (λ h. omega arith))) tt;
     }
 
-pub no_first-word : (rest before : ℕ) → (before ≡ 0 → rest / 2 ^ 63 ≡ 0) → AreFirst (take 56 (field rest 64)) before (record { len = 0; places = 0; ends = false })
+pub no_first-word : (rest before : ℕ) → (before ≡ 0 → rest / 2 ^ 63 ≡ 0) → AreFirst (take 56 (field rest 64)) before (record { len = 0; filled = 0; ends = false })
 unfolding field
 no_first-word rest before later =
     let bits : List Bool = take 56 (field rest 64) in

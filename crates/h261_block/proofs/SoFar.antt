@@ -15,7 +15,7 @@ use Rattle.vlc_codes.specs.declared.readers.CoefRow.TheVariants as row
 use Rattle.vlc_codes.specs.Rows.{coefficient_element}
 use Rattle.h261_block.specs.Rows.{run_and_level_of, filled_after}
 use Rattle.pel_model.proofs.BlockElements.{first-filled}
-use Rattle.h261_block.specs.Ahead.{places, elements, AreWanted, AreElements}
+use Rattle.h261_block.specs.Ahead.{filling, elements, AreWanted, AreElements}
 use Rattle.h261_block.proofs.AheadLaws.{elements-append, elements-map, elements-slot, elements-filled}
 use Rattle.h261_block.proofs.LevelLaws.{with_one_more, length-sent-more, levels-more}
 
@@ -120,7 +120,7 @@ module _ (next : List Element → List Bool × ℕ → Standing Element) (before
       }
 
   -- some more coefficients
-  pub more_of : (intra : Bool) (old mid new : List Bool × ℕ) (count : ℕ) (so_far : SoFar next before intra old mid count) (cs : List Coefficient) → Goes next (after before (coefficient_elements so_far.block)) mid (elements cs false) new → SoFar next before intra old new (count + places cs)
+  pub more_of : (intra : Bool) (old mid new : List Bool × ℕ) (count : ℕ) (so_far : SoFar next before intra old mid count) (cs : List Coefficient) → Goes next (after before (coefficient_elements so_far.block)) mid (elements cs false) new → SoFar next before intra old new (count + filling cs)
   more_of intra old mid new count so_far cs walk =
       let block : Block = with_more so_far.block cs in
       let had : List Element = coefficient_elements so_far.block in
@@ -131,7 +131,7 @@ module _ (next : List Element → List Bool × ℕ → Standing Element) (before
         kind = so_far.kind;
         walk = subst (λ (es : List Element). Goes next before old es new) (sym now) (goes-append next before old mid new had (elements cs false) so_far.walk walk);
         due = ap slot behind ∙ elements-slot (after before had) cs count so_far.due;
-        full = ap filled behind ∙ (elements-filled (after before had) cs ∙ ap (λ (n : ℕ). n + places cs) so_far.full);
+        full = ap filled behind ∙ (elements-filled (after before had) cs ∙ ap (λ (n : ℕ). n + filling cs) so_far.full);
       }
 
   -- all that are left, and the block's end

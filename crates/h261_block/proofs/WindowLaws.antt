@@ -1,5 +1,5 @@
 -- The window of a reader, and the words that its first bits show.
-use Rattle.std.proofs.Common.{◌≡◌, ◌≢◌, ℕ, ◌+◌, ◌-◌, ◌*◌, ◌/◌, ◌%◌, ◌^◌, ◌<◌, ◌≤◌, ◌==◌, Bool, true, false, cond, List, [], ◌∷◌, ◌++◌, length, take, drop, Option, Some, None, IfSome, Result, Ok, Err, refl, sym, ◌∙◌, ap, subst, arith, append_assoc, length-append, length-drop, length-take}
+use Rattle.std.proofs.Common.{◌≡◌, ℕ, ◌+◌, ◌-◌, ◌*◌, ◌/◌, ◌%◌, ◌^◌, ◌<◌, ◌≤◌, ◌==◌, Bool, true, false, cond, List, [], ◌∷◌, ◌++◌, length, take, drop, Option, Some, None, IfSome, Result, Ok, refl, sym, ◌∙◌, ap, subst, arith, length-append, length-take}
 use Rattle.std.proofs.lemmas.Bool.{ne_eqb}
 use Rattle.std.proofs.lemmas.List.{drop-drop, drop-take, drop-append-le, take-take, take-append-le, take-append-drop}
 use Rattle.pel_bits.specs.Bits.{field, number}
@@ -11,7 +11,7 @@ use Rattle.pel_model.specs.Records.{Coefficient}
 use Rattle.pel_model.specs.Walk.{skipped, after, Goes, Walked}
 use Rattle.pel_model.specs.Grammar.{Element, slot, filled, AtFirst, AtCoefficient, next}
 use Rattle.h261_block.specs.declared.ahead.Words.{Words}
-use Rattle.h261_block.specs.Ahead.{places, elements, AreWanted, AreElements, AreWords, AreAhead, AreFirst, AreKnown, MayStand}
+use Rattle.h261_block.specs.Ahead.{filling, elements, AreWanted, AreElements, AreWords, AreAhead, AreFirst, AreKnown, MayStand}
 use Rattle.h261_block.proofs.AheadLaws.{elements-slot, elements-filled, more-words, words-before, taken-behind}
 
 -- ---- bits of a word of 64
@@ -58,7 +58,7 @@ known-take xs w sure words some long short known =
       inside = omega (arith, known.inside, length-append (take w xs) (drop w (take sure xs)));
       grows = known.grows;
       go = λ before may room.
-          words-before (take w xs) (drop w (take sure xs)) words.len before (before + words.places) words.ends known.inside
+          words-before (take w xs) (drop w (take sure xs)) words.len before (before + words.filled) words.ends known.inside
           (known.go before (may-front (before == 0) (take w xs) (drop w (take sure xs)) (omega (arith, some, long, length-take w xs)) may) room);
     })
 
@@ -73,22 +73,22 @@ known-in rest w words fits known = subst (λ (t : List Bool). AreKnown t words) 
 
 -- ---- the words ahead, one look after another
 
-pub record AheadSoFar (bits : List Bool) (before len places rest : ℕ) : Type 0 where
+pub record AheadSoFar (bits : List Bool) (before len filling rest : ℕ) : Type 0 where
   pub inside : len ≤ 56
-  pub room : before + places ≤ 64
-  pub grows : 0 < len → 0 < places
+  pub room : before + filling ≤ 64
+  pub grows : 0 < len → 0 < filling
   pub left : take (56 - len) (field rest 64) ≡ drop len bits
-  pub may : MayStand (before + places == 0) (drop len bits)
-  pub words : AreWords bits len before (before + places) false
+  pub may : MayStand (before + filling == 0) (drop len bits)
+  pub words : AreWords bits len before (before + filling) false
 
-pub ahead-none : (bits : List Bool) (before rest : ℕ) (words : Words) → before ≤ 64 → take 56 (field rest 64) ≡ bits → AreFirst (take 56 (field rest 64)) before words → AheadSoFar bits before words.len words.places (rest * 2 ^ words.len % 2 ^ 64)
+pub ahead-none : (bits : List Bool) (before rest : ℕ) (words : Words) → before ≤ 64 → take 56 (field rest 64) ≡ bits → AreFirst (take 56 (field rest 64)) before words → AheadSoFar bits before words.len words.filled (rest * 2 ^ words.len % 2 ^ 64)
 ahead-none bits before rest words room is first = record {
   inside = omega (arith, first.ahead.inside, length-take 56 (field rest 64), length-field rest 64);
   room = first.room room;
   grows = first.ahead.grows first.goes_on;
   left = shifted rest words.len 56 (omega (arith, first.ahead.inside, length-take 56 (field rest 64), length-field rest 64)) (omega arith) ∙ ap (drop words.len) is;
-  may = subst (λ (t : List Bool). MayStand (before + words.places == 0) (drop words.len t)) is first.may;
-  words = subst (λ (t : List Bool). AreWords t words.len before (before + words.places) false) is (subst (λ (b : Bool). AreWords (take 56 (field rest 64)) words.len before (before + words.places) b) first.goes_on first.ahead.go);
+  may = subst (λ (t : List Bool). MayStand (before + words.filled == 0) (drop words.len t)) is first.may;
+  words = subst (λ (t : List Bool). AreWords t words.len before (before + words.filled) false) is (subst (λ (b : Bool). AreWords (take 56 (field rest 64)) words.len before (before + words.filled) b) first.goes_on first.ahead.go);
 }
 
 -- how many bits are left
@@ -96,18 +96,18 @@ pub left_length : (rest len : ℕ) → length (take (56 - len) (field rest 64)) 
 left_length rest len = length-take (56 - len) (field rest 64) ∙ omega (arith, length-field rest 64)
 
 -- the words of one look behind those of others
-pub both-words : (bits : List Bool) (before len places rest : ℕ) (words : Words) → AheadSoFar bits before len places rest → AreKnown (take (56 - len) (field rest 64)) words → before + places + words.places ≤ 64 → AreWords bits (len + words.len) before (before + (places + words.places)) words.ends
-both-words bits before len places rest words so_far known room =
-    let may : MayStand (before + places == 0) (take (56 - len) (field rest 64)) = subst (MayStand (before + places == 0)) (sym so_far.left) so_far.may in
-    let next = known.go (before + places) may room in
-    let here : AreWords (drop len bits) words.len (before + places) (before + places + words.places) words.ends =
-    subst (λ (t : List Bool). AreWords t words.len (before + places) (before + places + words.places) words.ends) so_far.left next in
+pub both-words : (bits : List Bool) (before len filling rest : ℕ) (words : Words) → AheadSoFar bits before len filling rest → AreKnown (take (56 - len) (field rest 64)) words → before + filling + words.filled ≤ 64 → AreWords bits (len + words.len) before (before + (filling + words.filled)) words.ends
+both-words bits before len filling rest words so_far known room =
+    let may : MayStand (before + filling == 0) (take (56 - len) (field rest 64)) = subst (MayStand (before + filling == 0)) (sym so_far.left) so_far.may in
+    let next = known.go (before + filling) may room in
+    let here : AreWords (drop len bits) words.len (before + filling) (before + filling + words.filled) words.ends =
+    subst (λ (t : List Bool). AreWords t words.len (before + filling) (before + filling + words.filled) words.ends) so_far.left next in
     subst (λ (n : ℕ). AreWords bits (len + words.len) before n words.ends) (omega arith)
-    (more-words bits len words.len before (before + places) (before + places + words.places) words.ends so_far.words here)
+    (more-words bits len words.len before (before + filling) (before + filling + words.filled) words.ends so_far.words here)
 
-pub ahead-more : (bits : List Bool) (before len places rest : ℕ) (words : Words) → AheadSoFar bits before len places rest → AreKnown (take (56 - len) (field rest 64)) words → before + places + words.places ≤ 64 → words.ends ≡ false → AheadSoFar bits before (len + words.len) (places + words.places) (rest * 2 ^ words.len % 2 ^ 64)
-ahead-more bits before len places rest words so_far known room goes_on =
-    let some : 0 < words.places = known.grows goes_on in
+pub ahead-more : (bits : List Bool) (before len filling rest : ℕ) (words : Words) → AheadSoFar bits before len filling rest → AreKnown (take (56 - len) (field rest 64)) words → before + filling + words.filled ≤ 64 → words.ends ≡ false → AheadSoFar bits before (len + words.len) (filling + words.filled) (rest * 2 ^ words.len % 2 ^ 64)
+ahead-more bits before len filling rest words so_far known room goes_on =
+    let some : 0 < words.filled = known.grows goes_on in
     let fits : words.len ≤ 56 - len = omega (arith, known.inside, left_length rest len) in
     let sum : 56 - (len + words.len) ≡ 56 - len - words.len = omega arith in
     record {
@@ -117,23 +117,23 @@ ahead-more bits before len places rest words so_far known room goes_on =
       left = ap (λ (n : ℕ). take n (field (rest * 2 ^ words.len % 2 ^ 64) 64)) sum
           ∙ (shifted rest words.len (56 - len) fits (omega arith)
           ∙ (ap (drop words.len) so_far.left ∙ drop-drop words.len len bits));
-      may = subst (λ (b : Bool). MayStand b (drop (len + words.len) bits)) (sym (ne_eqb (before + (places + words.places)) 0 (λ none. omega (arith, none, some)))) tt;
-      words = subst (λ (b : Bool). AreWords bits (len + words.len) before (before + (places + words.places)) b) goes_on (both-words bits before len places rest words so_far known room);
+      may = subst (λ (b : Bool). MayStand b (drop (len + words.len) bits)) (sym (ne_eqb (before + (filling + words.filled)) 0 (λ none. omega (arith, none, some)))) tt;
+      words = subst (λ (b : Bool). AreWords bits (len + words.len) before (before + (filling + words.filled)) b) goes_on (both-words bits before len filling rest words so_far known room);
     }
 
 -- what the words ahead are, where the block goes on and where it ends
-pub ahead-on : (bits : List Bool) (before rest : ℕ) (words : Words) → length bits ≡ 56 → words.ends ≡ false → AheadSoFar bits before words.len words.places rest → AreAhead bits before words
+pub ahead-on : (bits : List Bool) (before rest : ℕ) (words : Words) → length bits ≡ 56 → words.ends ≡ false → AheadSoFar bits before words.len words.filled rest → AreAhead bits before words
 ahead-on bits before rest words all goes_on so_far = record {
   inside = omega (arith, so_far.inside, all);
   grows = λ _. so_far.grows;
-  go = subst (λ (b : Bool). AreWords bits words.len before (before + words.places) b) (sym goes_on) so_far.words;
+  go = subst (λ (b : Bool). AreWords bits words.len before (before + words.filled) b) (sym goes_on) so_far.words;
 }
 
-pub ahead-end : (bits : List Bool) (before len places rest : ℕ) (words : Words) → length bits ≡ 56 → AheadSoFar bits before len places rest → AreKnown (take (56 - len) (field rest 64)) words → before + places + words.places ≤ 64 → words.ends ≡ true → AreAhead bits before (record { len = len + words.len; places = places + words.places; ends = true })
-ahead-end bits before len places rest words all so_far known room ends = record {
+pub ahead-end : (bits : List Bool) (before len filling rest : ℕ) (words : Words) → length bits ≡ 56 → AheadSoFar bits before len filling rest → AreKnown (take (56 - len) (field rest 64)) words → before + filling + words.filled ≤ 64 → words.ends ≡ true → AreAhead bits before (record { len = len + words.len; filled = filling + words.filled; ends = true })
+ahead-end bits before len filling rest words all so_far known room ends = record {
   inside = omega (arith, all, so_far.inside, known.inside, left_length rest len);
   grows = λ goes_on. absurd cc;
-  go = subst (λ (b : Bool). AreWords bits (len + words.len) before (before + (places + words.places)) b) ends (both-words bits before len places rest words so_far known room);
+  go = subst (λ (b : Bool). AreWords bits (len + words.len) before (before + (filling + words.filled)) b) ends (both-words bits before len filling rest words so_far known room);
 }
 
 -- where the window shows what is left, the words ahead go from there
@@ -165,7 +165,7 @@ module _ (format : Format) (es : List Element) (before : ℕ) (due : slot es ≡
   }
 
   -- the block goes on behind the window
-  pub ahead-some : (new : List Bool × ℕ) → words.ends ≡ false → new ≡ skipped words.len r → Walked (next format) es (λ n es _. AreWanted before n es) (AreElements false) (Ok (Some (before + words.places))) r new
+  pub ahead-some : (new : List Bool × ℕ) → words.ends ≡ false → new ≡ skipped words.len r → Walked (next format) es (λ n es _. AreWanted before n es) (AreElements false) (Ok (Some (before + words.filled))) r new
   ahead-some new known moved = record {
     elements = elements ahead.go.coefficients false;
     walk = goes_to false new known moved;
@@ -173,9 +173,9 @@ module _ (format : Format) (es : List Element) (before : ℕ) (due : slot es ≡
   }
 
   -- what was answered behind the words
-  pub ahead-then : (result : Result (Option ℕ) Fault) (mid new : List Bool × ℕ) → words.ends ≡ false → mid ≡ skipped words.len r → ((es : List Element) → slot es ≡ cond (before + words.places == 0) AtFirst AtCoefficient → filled es ≡ before + words.places → Walked (next format) es (λ n es _. AreWanted (before + words.places) n es) (AreElements false) result mid new) → Walked (next format) es (λ n es _. AreWanted before n es) (AreElements false) result r new
+  pub ahead-then : (result : Result (Option ℕ) Fault) (mid new : List Bool × ℕ) → words.ends ≡ false → mid ≡ skipped words.len r → ((es : List Element) → slot es ≡ cond (before + words.filled == 0) AtFirst AtCoefficient → filled es ≡ before + words.filled → Walked (next format) es (λ n es _. AreWanted (before + words.filled) n es) (AreElements false) result mid new) → Walked (next format) es (λ n es _. AreWanted before n es) (AreElements false) result r new
   ahead-then result mid new known moved took =
       let cs : List Coefficient = ahead.go.coefficients in
       let slot_is = elements-slot es cs before due ∙ ap (λ (n : ℕ). cond (n == 0) AtFirst AtCoefficient) (sym ahead.go.count) in
-      let filled_is = elements-filled es cs ∙ (ap (λ (n : ℕ). n + places cs) full ∙ sym ahead.go.count) in
-      taken-behind (next format) es before (before + words.places) r mid new cs result (goes_to false mid known moved) ahead.go.count (took (after es (elements cs false)) slot_is filled_is)
+      let filled_is = elements-filled es cs ∙ (ap (λ (n : ℕ). n + filling cs) full ∙ sym ahead.go.count) in
+      taken-behind (next format) es before (before + words.filled) r mid new cs result (goes_to false mid known moved) ahead.go.count (took (after es (elements cs false)) slot_is filled_is)

@@ -8,9 +8,9 @@ use Rattle.pel_model.specs.Grammar.{Element, Tcoeff, Eob, slot, AtFirst, AtCoeff
 use Rattle.h261_block.specs.declared.ahead.Words.{Words}
 
 -- how many coefficients these are, the zeros before them among them
-abbrev pub places : List Coefficient → ℕ
-places [] = 0
-places (c ∷ cs) = c.run + 1 + places cs
+abbrev pub filling : List Coefficient → ℕ
+filling [] = 0
+filling (c ∷ cs) = c.run + 1 + filling cs
 
 -- their elements, and the end of the block where it follows them
 abbrev pub elements : List Coefficient → Bool → List Element
@@ -27,7 +27,7 @@ pub record AreElements (ends : Bool) (es : List Element) : Type 0 where
 pub record AreSome (before behind : ℕ) (es : List Element) : Type 0 where
   pub coefficients : List Coefficient
   pub are : es ≡ elements coefficients false
-  pub count : behind ≡ before + places coefficients
+  pub count : behind ≡ before + filling coefficients
 
 -- some coefficients were taken, and so many stand there then; or all that are left and the end of the block
 abbrev pub AreWanted : ℕ → Option ℕ → List Element → Type 0
@@ -39,7 +39,7 @@ AreWanted before None es = AreElements true es
 -- whatever follows the bits: where so many coefficients stand before, these words go, and so many do then
 pub record AreWords (bits : List Bool) (len before behind : ℕ) (ends : Bool) : Type 0 where
   pub coefficients : List Coefficient
-  pub count : behind ≡ before + places coefficients
+  pub count : behind ≡ before + filling coefficients
   pub go :
       (format : Format) (es : List Element) (more : List Bool) (place : ℕ)
       → slot es ≡ cond (before == 0) AtFirst AtCoefficient → filled es ≡ before
@@ -54,21 +54,21 @@ MayStand _ _ = Unit {0}
 -- the words go behind so many coefficients
 pub record AreAhead (bits : List Bool) (before : ℕ) (words : Words) : Type 0 where
   pub inside : words.len ≤ length bits
-  pub grows : words.ends ≡ false → 0 < words.len → 0 < words.places
-  pub go : AreWords bits words.len before (before + words.places) words.ends
+  pub grows : words.ends ≡ false → 0 < words.len → 0 < words.filled
+  pub go : AreWords bits words.len before (before + words.filled) words.ends
 
 -- one word or none, and what stands behind it is a later word
 pub record AreFirst (bits : List Bool) (before : ℕ) (words : Words) : Type 0 where
   pub ahead : AreAhead bits before words
   pub goes_on : words.ends ≡ false
-  pub room : before ≤ 64 → before + words.places ≤ 64
-  pub may : MayStand (before + words.places == 0) (drop words.len bits)
+  pub room : before ≤ 64 → before + words.filled ≤ 64
+  pub may : MayStand (before + words.filled == 0) (drop words.len bits)
 
 -- the words go wherever they fit
 pub record AreKnown (bits : List Bool) (words : Words) : Type 0 where
   pub inside : words.len ≤ length bits
-  pub grows : words.ends ≡ false → 0 < words.places
-  pub go : (before : ℕ) → MayStand (before == 0) bits → before + words.places ≤ 64 → AreWords bits words.len before (before + words.places) words.ends
+  pub grows : words.ends ≡ false → 0 < words.filled
+  pub go : (before : ℕ) → MayStand (before == 0) bits → before + words.filled ≤ 64 → AreWords bits words.len before (before + words.filled) words.ends
 
 -- ---- the words that stand whole in some bits
 
@@ -96,8 +96,8 @@ words_in (suc most) bits = with_word (read later_rows bits) (λ n. words_in most
 
 -- what a table has to hold for these bits
 abbrev pub cell_of : Front → ℕ × ℕ × Bool
-cell_of front = (front.len, places front.coefficients, front.ends)
+cell_of front = (front.len, filling front.coefficients, front.ends)
 
 -- what the code's table holds at an index
-abbrev pub cell_in : (lens places : List ℕ) (ends : List Bool) → ℕ → Words
-cell_in lens places ends k = record { len = slice_index lens k; places = slice_index places k; ends = slice_index_or ends k false }
+abbrev pub cell_in : (lens fills : List ℕ) (ends : List Bool) → ℕ → Words
+cell_in lens fills ends k = record { len = slice_index lens k; filled = slice_index fills k; ends = slice_index_or ends k false }

@@ -1,16 +1,16 @@
-//! The words of TCOEFF ahead of a reader, several at a look, in a window of its next 56 bits. What the window does not
-//! show, faults above all, is read word by word.
+//! The words of TCOEFF (H.261, 4.2.4.1) ahead of a reader, several at a look, in a window of its next
+//! 56 bits. What the window does not show, faults above all, is read word by word.
 #![tactic(auto)]
 
 ghost use Rattle.std.specs.Prelude.{◌≡◌, ℕ, ◌+◌, ◌-◌, ◌*◌, ◌/◌, ◌%◌, ◌^◌, ◌<◌, ◌≤◌, ◌==◌, Bool, false, cond, List, take, drop, Some, Ok, IfSome};
 ghost use Rattle.pel_bits.specs.Bits.{field};
 ghost use Rattle.pel_model.specs.declared.Format.{Format};
-ghost use Rattle.pel_model.specs.Grammar.{Element, slot, AtFirst, AtCoefficient, filled as filled_before, next};
+ghost use Rattle.pel_model.specs.Grammar.{Element, slot, AtFirst, AtCoefficient, filled, next};
 ghost use Rattle.pel_model.specs.Walk.{Walked};
 ghost use Rattle.h261_block.specs.Ahead.{AreWanted, AreElements, AreAhead, AreFirst, AreKnown, cell_in};
 
 use crate::cells::{Cells, LONG_WORDS, WORDS};
-use crate::coefficients::{coefficient, run_and_level};
+use crate::coefficients::{run_and_level, tcoeff};
 use pel_bits::Reader;
 use pel_model::Fault;
 
@@ -20,71 +20,75 @@ pub struct Words {
     /// Their length in bits.
     pub len: u32,
     /// How many coefficients they are, the zeros before them among them.
-    pub places: u32,
+    pub filled: u32,
     /// Whether the last of them is the end of the block.
     pub ends: bool,
 }
 
-/// Takes some coefficients of a block, or all that are left and its end. `filled` stand before them, the zeros among
-/// them; the answer is how many do then, or None behind the end.
+/// Takes some coefficients of a block, or all that are left and its end. `count` stand before them,
+/// the zeros among them; the answer is how many do then, or None behind the end.
 #[inline]
-pub fn some_words(r: &mut Reader<'_>, filled: u32) -> Result<Option<u32>, Fault>
-    requires { filled ≤ 64 }
+pub fn some_words(r: &mut Reader<'_>, count: u32) -> Result<Option<u32>, Fault>
+    requires { count ≤ 64 }
     ensures taken { (format : Format) (before : List Element) →
-        slot before ≡ cond (filled == 0) AtFirst AtCoefficient → filled_before before ≡ filled →
-        Walked (next format) before (λ behind es _. AreWanted filled behind es) (AreElements false) result r.old r.new }
-    ensures more { (n : ℕ) → result ≡ Ok (Some n) → (filled < n) × (n ≤ 64) }
+        slot before ≡ cond (count == 0) AtFirst AtCoefficient → filled before ≡ count →
+        Walked (next format) before (λ behind es _. AreWanted count behind es) (AreElements false)
+        result r.old r.new }
+    ensures more { (n : ℕ) → result ≡ Ok (Some n) → (count < n) × (n ≤ 64) }
 {
     if r.left() < 56 {
-        return one_word(r, filled);
+        return one_word(r, count);
     }
-    let ahead = words_ahead(r.window(), filled);
+    let ahead = words_ahead(r.window(), count);
     r.skip(ahead.len);
     if ahead.ends {
         Ok(None)
     } else if ahead.len > 36 {
-        Ok(Some(filled + ahead.places))
+        Ok(Some(count + ahead.filled))
     } else {
-        // all bits of the longest word were in the window, and it showed none
-        one_word(r, filled + ahead.places)
+        // 20 bits were left, as many as the longest word has, and they showed no good one
+        one_word(r, count + ahead.filled)
     }
 }
 
 // Takes one coefficient or the end of the block.
 #[inline]
-fn one_word(r: &mut Reader<'_>, filled: u32) -> Result<Option<u32>, Fault>
-    requires { filled ≤ 64 }
+fn one_word(r: &mut Reader<'_>, count: u32) -> Result<Option<u32>, Fault>
+    requires { count ≤ 64 }
     ensures taken { (format : Format) (before : List Element) →
-        slot before ≡ cond (filled == 0) AtFirst AtCoefficient → filled_before before ≡ filled →
-        Walked (next format) before (λ behind es _. AreWanted filled behind es) (AreElements false) result r.old r.new }
-    ensures more { (n : ℕ) → result ≡ Ok (Some n) → (filled < n) × (n ≤ 64) }
+        slot before ≡ cond (count == 0) AtFirst AtCoefficient → filled before ≡ count →
+        Walked (next format) before (λ behind es _. AreWanted count behind es) (AreElements false)
+        result r.old r.new }
+    ensures more { (n : ℕ) → result ≡ Ok (Some n) → (count < n) × (n ≤ 64) }
 {
-    let row = coefficient(r, filled)?;
+    let row = tcoeff(r, count)?;
     match run_and_level(row) {
-        Some((run, _)) => Ok(Some(filled + u32::from(run) + 1)),
+        Some((run, _)) => Ok(Some(count + u32::from(run) + 1)),
         None => Ok(None),
     }
 }
 
-// The words that the 56 bits of a window show, as far as they fit in a block with `before` coefficients.
+// The words that the 56 bits of a window show, as far as a block with `before` coefficients has room.
 #[inline]
 fn words_ahead(window: u64, before: u32) -> Words
     requires { before ≤ 64 }
     ensures words { AreAhead (field window 56) before result }
-    ensures room { before + result.places ≤ 64 }
+    ensures room { before + result.filled ≤ 64 }
 {
+    // the bits of the window that are left stand first in `rest`
     let mut rest = window << 8;
     let mut ahead = first_word(rest, before);
     rest <<= ahead.len;
+    // as long as 12 bits are left
     while ahead.len <= 44 {
         let Some(words) = known_words(rest, 56 - ahead.len) else {
             break;
         };
-        if words.places > 64 - before - ahead.places {
+        if words.filled > 64 - before - ahead.filled {
             break;
         }
         ahead.len += words.len;
-        ahead.places += words.places;
+        ahead.filled += words.filled;
         if words.ends {
             ahead.ends = true;
             break;
@@ -102,19 +106,19 @@ fn first_word(rest: u64, before: u32) -> Words
     if before == 0 && rest >> 63 == 1 {
         Words {
             len: 2,
-            places: 1,
+            filled: 1,
             ends: false,
         }
     } else {
         Words {
             len: 0,
-            places: 0,
+            filled: 0,
             ends: false,
         }
     }
 }
 
-// The words that stand whole in the first `sure` bits of `rest`.
+// Words that stand whole in the first `sure` bits of `rest`, by its first 12 bits.
 #[inline]
 fn known_words(rest: u64, sure: u32) -> Option<Words>
     requires { (12 ≤ sure) × (sure ≤ 56) }
@@ -128,7 +132,7 @@ fn known_words(rest: u64, sure: u32) -> Option<Words>
     }
 }
 
-// The same for codes of more than ten bits and for escapes.
+// The same where the first word is longer: a code of 12 or 13 bits and its sign, or an escape.
 #[inline]
 fn rare_word(rest: u64, sure: u32) -> Option<Words>
     requires { sure ≤ 56 }
@@ -167,19 +171,20 @@ fn escape(rest: u64) -> Option<Words>
     }
     Some(Words {
         len: 20,
-        places: (fields >> 8) as u32 + 1,
+        filled: (fields >> 8) as u32 + 1,
         ends: false,
     })
 }
 
+// The words of a table's index; length 0 is none.
 #[inline]
 fn cell_at<const N: usize>(cells: &Cells<N>, index: usize) -> Words
     requires { index < N }
-    ensures { result ≡ cell_in cells.now.lens cells.now.places cells.now.ends index }
+    ensures { result ≡ cell_in cells.now.lens cells.now.filled cells.now.ends index }
 {
     Words {
         len: u32::from(cells.lens[index]),
-        places: u32::from(cells.places[index]),
+        filled: u32::from(cells.filled[index]),
         ends: cells.ends[index],
     }
 }

@@ -14,20 +14,22 @@ ghost use Rattle.pel_model.specs.Records.{Block};
 ghost use Rattle.pel_model.specs.Walk.{Walked};
 
 use ahead::some_words;
-use coefficients::{coefficient, dc, dc_level, run_and_level};
+use coefficients::{intradc, intradc_level, run_and_level, tcoeff};
 use pel_bits::Reader;
 use pel_model::Fault;
 
-/// Moves past one block, that of an Intra macroblock or another. At a fault, NoCode, Cut, BadDc, BadLevel or TooMany,
-/// the reader stands at the element at fault.
+/// Moves past one block, that of an Intra macroblock or another. At a fault, NoCode, Cut, BadDc,
+/// BadLevel or TooMany, the reader stands at the element at fault.
 pub fn scan_block(r: &mut Reader<'_>, intra: bool) -> Result<(), Fault>
-    ensures { (format : Format) (before : List Element) → slot before ≡ cond intra AtDc AtFirst →
-        Walked (next format) before (λ _ es new. (b : Block) × (es ≡ block_elements b) × (is_some b.dc ≡ intra))
+    ensures { (format : Format) (before : List Element) →
+        slot before ≡ cond intra AtDc AtFirst →
+        Walked (next format) before
+        (λ _ es new. (b : Block) × (es ≡ block_elements b) × (is_some b.dc ≡ intra))
         IsBlockSoFar result r.old r.new }
 {
     let mut filled = 0;
     if intra {
-        dc(r)?;
+        intradc(r)?;
         filled = 1;
     }
     while let Some(behind) = some_words(r, filled)? {
@@ -36,21 +38,24 @@ pub fn scan_block(r: &mut Reader<'_>, intra: bool) -> Result<(), Fault>
     Ok(())
 }
 
-/// Reads one block as `scan_block` does and gives its 64 levels in the order of transmission; the first one of an Intra
-/// block is what INTRADC stands for, 8 n or 1024. After a fault `out` holds any numbers.
+/// Reads one block as `scan_block` does and gives its 64 levels in the order of transmission; the
+/// first one of an Intra block is what INTRADC stands for, 8 n or 1024. After a fault `out` holds any
+/// numbers.
 pub fn read_levels(r: &mut Reader<'_>, intra: bool, out: &mut [i16; 64]) -> Result<(), Fault>
-    ensures { (format : Format) (before : List Element) → slot before ≡ cond intra AtDc AtFirst →
-        Walked (next format) before (λ _ es new. (b : Block) × (es ≡ block_elements b) × (is_some b.dc ≡ intra) × (out.new ≡ levels b))
+    ensures { (format : Format) (before : List Element) →
+        slot before ≡ cond intra AtDc AtFirst →
+        Walked (next format) before
+        (λ _ es new. (b : Block) × (es ≡ block_elements b) × (is_some b.dc ≡ intra) × (out.new ≡ levels b))
         IsBlockSoFar result r.old r.new }
 {
     *out = [0; 64];
     let mut filled = 0;
     if intra {
-        let n = dc(r)?;
-        out[0] = dc_level(n);
+        let n = intradc(r)?;
+        out[0] = intradc_level(n);
         filled = 1;
     }
-    while let Some((run, level)) = run_and_level(coefficient(r, filled)?) {
+    while let Some((run, level)) = run_and_level(tcoeff(r, filled)?) {
         filled += u32::from(run) + 1;
         out[filled as usize - 1] = i16::from(level);
     }
@@ -161,7 +166,7 @@ mod tests {
         }
     }
 
-    // Behind the first coefficient 110 is run 0 and level 1. Zeros stand behind the digits up to the 256th bit.
+    // Behind the first coefficient 110 is run 0 and level 1. Zeros follow up to the 256th bit.
     #[test]
     fn words_of_a_window(rt: HostRuntime) {
         for (front, times, behind, intra, len) in [

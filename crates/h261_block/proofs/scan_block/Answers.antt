@@ -1,33 +1,33 @@
-use Rattle.std.proofs.Common.{◌≡◌, ◌+◌, true, false, [], None, refl, sym, ◌∙◌, ap, arith}
+use Rattle.std.proofs.Common.{true, false, [], None, refl, arith}
 use Rattle.std.proofs.lemmas.Result.{err_from_is_err_and}
 use Rattle.pel_model.specs.Records.{Block}
-use Rattle.pel_model.specs.Elements.{coefficient_elements, block_elements}
-use Rattle.pel_model.specs.Walk.{Good, after}
-use Rattle.pel_model.specs.Grammar.{Element, next}
+use Rattle.pel_model.specs.Elements.{coefficient_elements}
+use Rattle.pel_model.specs.Walk.{after}
+use Rattle.pel_model.specs.Grammar.{next}
 use Rattle.h261_block.proofs.BlockSteps.{due_at}
 use Rattle.h261_block.proofs.SoFar.{none_yet, dc_only, failed, failed_taken, more_taken, whole_taken}
 use Rattle.h261_block.proofs.scan_block.Goals as goal
-use Rattle.h261_block.proofs.scan_block.Goals.{then-intra+in_ok-dc, else-intra}
+use Rattle.h261_block.proofs.scan_block.Goals.{then-intra+in_ok-intradc, else-intra}
 
 abbrev no_elements : Block
 no_elements = record { dc = None; coefficients = [] }
 
-pub returns-in_err-dc : goal.returns-in_err-dc
-returns-in_err-dc c =
+pub returns-in_err-intradc : goal.returns-in_err-intradc
+returns-in_err-intradc c =
     let p = err_from_is_err_and c.from_residual.result c.from_residual.ensures.1 in
     rw (p.1, p.2) (λ format before due.
-    let took = c.in_err-dc.ensures format before (due_at _ c.args.intra true due c.if-intra.true) in
-    failed (next format) before c.args.r.now c.args.r.now c.dc.new.r no_elements _ refl took.bad took.place took.kept)
+    let took = c.in_err-intradc.ensures format before (due_at _ c.args.intra true due c.if-intra.true) in
+    failed (next format) before c.args.r.now c.args.r.now c.intradc.new.r no_elements _ refl took.bad took.place took.kept)
 
 pub loop-behind-init : goal.loop-behind-init
 loop-behind-init c =
     elim c.if-intra.branch [
-      | then-intra+in_ok-dc w ↦
+      | then-intra+in_ok-intradc w ↦
           record {
             within = omega (arith, w.filled-is);
             so_far = λ format before due.
-                let took = w.in_ok-dc.ensures format before (due_at _ c.args.intra true due w.if-intra.true) in
-                rw (w.filled-is, w.r-is, w.if-intra.true) (dc_only (next format) before c.args.r.now w.dc.new.r w.in_ok-dc.field-0 took.len took.good took.behind);
+                let took = w.in_ok-intradc.ensures format before (due_at _ c.args.intra true due w.if-intra.true) in
+                rw (w.filled-is, w.r-is, w.if-intra.true) (dc_only (next format) before c.args.r.now w.intradc.new.r w.in_ok-intradc.field-0 took.len took.good took.behind);
           }
       | else-intra w ↦
           record {

@@ -15,7 +15,7 @@ loop-ahead-preserved c =
     let so_far = c.loop-ahead.invariant.so_far in
     record {
       goes_on = c.loop-ahead.invariant.goes_on;
-      so_far = ahead-more (field c.args.window 56) c.args.before c.loop-ahead.ahead.len c.loop-ahead.ahead.places c.loop-ahead.rest c.in-Some.words so_far c.in-Some.ensures (omega (arith, so_far.room)) c.if-words.false;
+      so_far = ahead-more (field c.args.window 56) c.args.before c.loop-ahead.ahead.len c.loop-ahead.ahead.filled c.loop-ahead.rest c.in-Some.words so_far c.in-Some.ensures (omega (arith, so_far.room)) c.if-words.false;
     }
 
 pub returns-after-loop-ahead-clause-words : goal.returns-after-loop-ahead-clause-words
@@ -29,7 +29,7 @@ returns-in_default-clause-words c =
 pub returns-then-words-clause-words : goal.returns-then-words-clause-words
 returns-then-words-clause-words c =
     let so_far = c.loop-ahead.invariant.so_far in
-    ahead-end (field c.args.window 56) c.args.before c.loop-ahead.ahead.len c.loop-ahead.ahead.places c.loop-ahead.rest c.in-Some.words (length-field c.args.window 56) so_far c.in-Some.ensures (omega (arith, so_far.room)) c.if-words.true
+    ahead-end (field c.args.window 56) c.args.before c.loop-ahead.ahead.len c.loop-ahead.ahead.filled c.loop-ahead.rest c.in-Some.words (length-field c.args.window 56) so_far c.in-Some.ensures (omega (arith, so_far.room)) c.if-words.true
 
 pub overflow_shl-rest-2 : goal.overflow_shl-rest-2
 overflow_shl-rest-2 c =

@@ -3,8 +3,8 @@ use Rattle.std.proofs.lemmas.Bool.{eq-eqb}
 use Rattle.pel_bits.specs.Reading.{zeros}
 use Rattle.pel_bits.proofs.RunBits.{number-fits_in}
 use Rattle.h261_block.proofs.BlockSteps.{dc-cut, dc-good, dc-bad, or_true}
-use Rattle.h261_block.proofs.coefficients.dc.Goals as goal
-use Rattle.h261_block.proofs.coefficients.dc.Goals.{then-value-eq0-via-then-value-eq0, then-value-eq0-via-else-value-eq0+then-value}
+use Rattle.h261_block.proofs.coefficients.intradc.Goals as goal
+use Rattle.h261_block.proofs.coefficients.intradc.Goals.{then-value-eq0-via-then-value-eq0, then-value-eq0-via-else-value-eq0+then-value}
 
 pub returns-then-left-lt8 : goal.returns-then-left-lt8
 returns-then-left-lt8 c = λ format before due.
