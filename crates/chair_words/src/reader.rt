@@ -1,15 +1,15 @@
 //! The command of a line.
 
-ghost use Rattle.std.specs.Prelude.{◌≡◌, ◌≢◌, ◌≤◌, ℕ, ◌∷◌, length, IfOk, IfErr, MatchOption, MatchResult};
+ghost use Rattle.std.specs.Prelude.{◌≡◌, ◌≢◌, ◌≤◌, ℕ, nat_lt, ◌∷◌, length, IfOk, IfErr, MatchOption, MatchResult};
 ghost use Rattle.pel_model.specs.Regions.{number_of};
 ghost use Rattle.pel_model.specs.declared.chair.Command.{Command as TheCommand};
 ghost use Rattle.chair_words.specs.declared.reader.LineWhy.{LineWhy as TheWhy};
-ghost use Rattle.chair_words.specs.Words.{word_of, words_from};
+ghost use Rattle.chair_words.specs.Words.{word_of, words, words_from};
 ghost use Rattle.chair_words.specs.Line.{Says, Fails, FailsAt, name_of, a_place, a_lane, from_to};
 ghost use Rattle.chair_words.specs.Reading.{Answers, TakesNumber, LacksNumber, TakesNumbers, text_of};
 
 use crate::numbers::number_of;
-use crate::words::{Word, Words};
+use crate::words::{Word, Words, word_start};
 use pel_model::{Command, Quad};
 use thiserror::Error;
 
@@ -181,6 +181,13 @@ fn answer(line: &[u8]) -> Result<Command, LineFault>
         None => Ok(command),
         Some(extra) => Err(extra.fault(LineWhy::Extra)),
     }
+}
+
+/// Whether the line has a word at all.
+pub fn has_words(line: &[u8]) -> bool
+    ensures { result ≡ nat_lt 0 (length (words line.now)) }
+{
+    word_start(line, 0) < line.len()
 }
 
 /// The command that a line of at most 255 bytes says. Words are parted by spaces, tabs and carriage returns. The first

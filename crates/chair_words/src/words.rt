@@ -29,7 +29,7 @@ fn is_blank(byte: u8) -> bool
 }
 
 /// The first byte from here on that is no blank, or the line's end.
-fn word_start(line: &[u8], from: usize) -> usize
+pub fn word_start(line: &[u8], from: usize) -> usize
     requires within { from ≤ length line.now }
     requires outside { IsTrue (is_outside line.now from) }
     ensures within { result ≤ length line.now }

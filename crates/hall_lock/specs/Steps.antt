@@ -155,3 +155,4 @@ module _ {M C R S : Type 0} (shape : M → S) (fits : S → C → Type 0) (steps
     pub places : EachOnce (length v.seen) (v.mine ++ v.past)
     pub front : v.front ≤ length v.seen
     pub full : v.full ≡ true → length v.seen ≡ v.turns
+    pub within : length v.seen ≤ v.turns

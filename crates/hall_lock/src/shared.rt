@@ -154,6 +154,7 @@ impl<M: Machine> Shared<M> {
         requires whole { seat.share ≡ 2 ^ 32 }
         ensures history { Leads M.shape M.fits M.steps self.opening seat.seen result.machine.value }
         ensures turns { (result.turns ≡ length seat.seen) × (seat.front ≤ result.turns) }
+        ensures within { result.turns ≤ self.turns }
         // every turn is one of the seat's own or of one seat that was joined into it
         ensures places { EachOnce result.turns (seat.mine ++ seat.past) }
         ensures full { seat.full ≡ true → result.turns ≡ self.turns }
