@@ -1,0 +1,4 @@
+mod EntryLemmas
+mod FileLemmas
+mod FrontLemmas
+mod HeaderLemmas
