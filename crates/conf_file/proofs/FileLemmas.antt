@@ -3,6 +3,7 @@ use Rattle.std.proofs.Common.{◌≡◌, ◌≢◌, ◌⊎◌, ⊎_elim, ℕ, �
 use Rattle.std.specs.List.{AllZip, AllByRecursion, concat}
 use Rattle.std.specs.Io.KnownBytes.{Consumes, IsAtEnd}
 use Rattle.std.proofs.Math.Seq.{take-append_seam, drop-append_seam}
+use Rattle.std.proofs.lemmas.List.{take-append-le}
 use Rattle.std.proofs.lemmas.List.Folds.{concat-append}
 use Rattle.conf_file.specs.declared.answers.EntryWhy.{EntryWhy}
 use Rattle.conf_file.specs.declared.answers.EntryWhy.TheVariants.{Header, Kind, Lane, Step, Order}
@@ -11,7 +12,7 @@ use Rattle.conf_file.specs.declared.answers.EntryEnd.TheVariants.{Bad, Cut, Faul
 use Rattle.conf_file.specs.Header.{header_of, header_size, HasLanes, IsNoHeader}
 use Rattle.conf_file.specs.Entries.{Content, Packet, Chair, Tick, End, P, C, T, E, Spells, IsWrong, IsPartial}
 use Rattle.conf_file.specs.Reading.{ReaderState, Answers, AnswersHeader, Takes, TakesBehind, TakesHeader, CallsStart, ReadsEntry}
-use Rattle.conf_file.specs.File.{Stop, Whole, WrongAt, CutAt, Begins, GoesOn, Stops, Entries, Said, Conference, WrongHeader, CutHeader, IsFile, HasRead, AfterStart, AfterNext, LawOfReading, LawOfOneReading}
+use Rattle.conf_file.specs.File.{Stop, Whole, WrongAt, CutAt, Begins, GoesOn, Stops, Entries, Said, Conference, WrongHeader, CutHeader, IsFile, HasRead, AfterStart, AfterNext, LawOfReading, LawOfOneReading, IsDecided, LawOfFronts}
 use Rattle.conf_file.proofs.FrontLemmas.{Owns, Blames, front_of, one_entry, not_wrong, one_reason, entry_in_front, fault_in_front, part_in_front}
 
 -- one more at the end of two lists
@@ -55,7 +56,7 @@ read_more file lanes list at left content took more now r taken spelled counted 
     }
 
 -- what is wrong with octets is wrong with them whatever follows
-wrong_more : (lanes : ℕ) (why : EntryWhy) (octets rest more : List ℕ) → IsWrong lanes why octets rest → IsWrong lanes why (octets ++ more) (rest ++ more)
+pub wrong_more : (lanes : ℕ) (why : EntryWhy) (octets rest more : List ℕ) → IsWrong lanes why octets rest → IsWrong lanes why (octets ++ more) (rest ++ more)
 wrong_more lanes Header octets rest more w = absurd w
 wrong_more lanes Kind octets rest more w = (w.0, ap (λ xs. xs ++ more) w.1, w.2)
 wrong_more lanes Lane octets rest more w = (w.0, ap (λ xs. xs ++ more) w.1, w.2)
@@ -302,3 +303,29 @@ one_reading file WrongHeader (CutHeader place) h k = absurd (omega (arith, h.0, 
 one_reading file (CutHeader place) (Conference m ys t) h k = absurd (omega (arith, ap length k.1, h.1))
 one_reading file (CutHeader place) WrongHeader h k = absurd (omega (arith, k.0, h.1))
 one_reading file (CutHeader p) (CutHeader q) h k = ap CutHeader (h.0 ∙ sym k.0)
+
+-- what a front decides
+stops_more : (lanes : ℕ) (s : Stop) (list : List Content) (at : ℕ) (left more : List ℕ) → IsDecided (Conference lanes list s) → Stops lanes s list at left
+    → Stops lanes s list at (left ++ more)
+stops_more lanes Whole list at left more d h = h
+stops_more lanes (WrongAt place why) list at left more d h = (h.0, h.1, (h.2.0 ++ more, wrong_more lanes why left h.2.0 more h.2.1))
+stops_more lanes (CutAt place) list at left more d h = absurd d
+
+pub fronts_decide : LawOfFronts
+fronts_decide front more (Conference lanes list s) d h =
+    let e = h.3 in
+    let cut : h.0 ++ more ≡ concat e.begins.entries ++ (e.left ++ more) =
+    ap (λ xs. xs ++ more) e.begins.cut ∙ append_assoc (concat e.begins.entries) e.left more in (
+      h.0 ++ more,
+      ap (λ xs. xs ++ more) h.1 ∙ append_assoc (header_of lanes) h.0 more,
+      h.2,
+      record {
+        at = e.at;
+        left = e.left ++ more;
+        begins = record { entries = e.begins.entries; cut = cut; spelled = e.begins.spelled; counted = e.begins.counted };
+        stops = stops_more lanes s list e.at e.left more d e.stops;
+      },
+    )
+fronts_decide front more WrongHeader d h =
+    (omega (arith, h.0, length-append front more), subst IsNoHeader (sym (take-append-le header_size front more h.0)) h.1)
+fronts_decide front more (CutHeader place) d h = absurd d

@@ -2,3 +2,5 @@ mod EntryLemmas
 mod FileLemmas
 mod FrontLemmas
 mod HeaderLemmas
+mod NextLemmas
+mod WorkedFiles

@@ -102,3 +102,39 @@ pub record LawOfReading : Type 0 where
       (file : List ℕ) (lanes : ℕ) (list : List Content) (left : List ℕ) (rest : Option (List ℕ)) (before now : ℕ) (old new : ReaderState)
       (result : Result Content EntryEnd) → HasRead file lanes list old.taken left
       → ReadsEntry lanes (Some left) rest before now old new result → AfterNext file lanes list rest new result
+
+-- what the next call answers that meets no fault of its source, where these octets are left, so many were taken, and the
+-- budget is this
+abbrev pub IsNext : ℕ → List ℕ → ℕ → ℕ → Result Content EntryEnd → Type 0
+-- an entry that the budget lets be taken whole
+IsNext lanes left taken budget (Ok content) =
+    (entry : List ℕ) × (rest : List ℕ) × (left ≡ entry ++ rest) × Spells lanes content entry × (taken + length entry ≤ budget)
+-- octets within the budget with which no entry begins
+IsNext lanes left taken budget (Err (Bad place why)) =
+    (place ≡ taken) × ((rest : List ℕ) × IsWrong lanes why (take (budget - taken) left) rest)
+-- the end of the octets before an entry and before the budget
+IsNext lanes left taken budget (Err (Cut place)) = (place ≡ taken + length left) × (taken + length left < budget) × IsPartial lanes left
+-- less than an entry within the budget, where the octets do not end before it
+IsNext lanes left taken budget (Err Limit) = (budget ≤ taken + length left) × IsPartial lanes (take (budget - taken) left)
+IsNext lanes left taken budget (Err Fault) = ⊥
+
+-- Where the source tells its octets, they and the budget fix what a call answers, unless the source fails.
+pub record LawOfAnswers : Type 0 where
+  pub told :
+      (lanes : ℕ) (left : List ℕ) (rest : Option (List ℕ)) (before now : ℕ) (old new : ReaderState) (result : Result Content EntryEnd)
+      → ReadsEntry lanes (Some left) rest before now old new result → (result ≡ Err Fault) ⊎ IsNext lanes left old.taken old.budget result
+  pub one_answer :
+      (lanes : ℕ) (left : List ℕ) (taken budget : ℕ) (x y : Result Content EntryEnd)
+      → IsNext lanes left taken budget x → IsNext lanes left taken budget y → x ≡ y
+
+-- the octets decide what the file says, whatever follows them
+abbrev pub IsDecided : Said → Type 0
+IsDecided (Conference lanes list Whole) = Unit {0}
+IsDecided (Conference lanes list (WrongAt place why)) = Unit {0}
+IsDecided (Conference lanes list (CutAt place)) = ⊥
+IsDecided WrongHeader = Unit {0}
+IsDecided (CutHeader place) = ⊥
+
+-- what the front of a file decides, the file says
+abbrev pub LawOfFronts : Type 0
+LawOfFronts = (front more : List ℕ) (said : Said) → IsDecided said → IsFile front said → IsFile (front ++ more) said

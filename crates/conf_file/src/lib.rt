@@ -10,5 +10,8 @@ mod laws;
 mod reader;
 
 pub use answers::{Entry, EntryEnd, EntryWhy};
-pub use laws::{files_are_read, one_reading};
+pub use laws::{answers_of_a_reader, files_are_read, fronts_decide, one_reading};
 pub use reader::EntryReader;
+
+#[cfg(test)]
+mod tests;

@@ -66,7 +66,14 @@ impl EntryReader {
         started
     }
 
-    /// The next entry. No octet past it is asked for.
+    /// Whether entries may be read: there was a header, and neither the end nor a fault came since.
+    pub fn is_reading(&self) -> bool
+        ensures { result ≡ is_some self.now.lanes }
+    {
+        self.lanes.is_some()
+    }
+
+    /// The next entry. No octet past it is asked for, nor behind a fault but the length of a packet of an unknown lane.
     pub fn next<S: Source>(&mut self, source: &mut S) -> Result<Entry<'_>, EntryEnd>
         requires { is_some self.old.lanes ≡ true }
         ensures* after { sem 𝓛 (Rests the_row self.entry (λ new.
