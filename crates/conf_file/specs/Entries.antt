@@ -8,6 +8,10 @@ use Rattle.chair_words.specs.Line.{Says, FailsAt}
 use Rattle.conf_file.specs.declared.answers.EntryWhy.{EntryWhy}
 use Rattle.conf_file.specs.declared.answers.EntryWhy.TheVariants.{Header, Kind, Lane, Step, Order}
 
+-- the most octets of a packet: its length has 16 bits
+abbrev pub longest_packet : ℕ
+longest_packet = 65535
+
 -- what an entry says: a packet of a lane, a command of the chair, a tick of so many steps, or the end
 pub data Content : Type 0 where
   Packet : ℕ → List ℕ → Content
@@ -36,7 +40,8 @@ IsStep step = (1 ≤ step) × (step ≤ 31)
 -- network order; C and the line behind its length, 8 bits; T and the step; E.
 abbrev pub Spells : ℕ → Content → List ℕ → Type 0
 Spells lanes (Packet lane packet) octets =
-    (octets ≡ P ∷ lane ∷ (big_bytes 2 (length packet) ++ packet)) × (lane < lanes) × (length packet < 2 ^ 16)
+    (octets ≡ P ∷ lane ∷ (big_bytes 2 (length packet) ++ packet)) × (lane < lanes)
+    × (length packet < 2 ^ 16)
 Spells lanes (Chair command) octets =
     (line : List ℕ) × (octets ≡ C ∷ length line ∷ line) × (length line < 2 ^ 8) × Says line command
 Spells lanes (Tick step) octets = (octets ≡ T ∷ step ∷ []) × IsStep step
@@ -54,14 +59,16 @@ IsWrong lanes Kind octets rest = (kind : ℕ) × (octets ≡ kind ∷ rest) × I
 IsWrong lanes Lane octets rest = (lane : ℕ) × (octets ≡ P ∷ lane ∷ rest) × (lanes ≤ lane)
 IsWrong lanes Step octets rest = (step : ℕ) × (octets ≡ T ∷ step ∷ rest) × (IsStep step → ⊥)
 IsWrong lanes (Order fault) octets rest =
-    (line : List ℕ) × (octets ≡ C ∷ length line ∷ (line ++ rest)) × (length line < 2 ^ 8) × FailsAt line fault.place fault.why
+    (line : List ℕ) × (octets ≡ C ∷ length line ∷ (line ++ rest)) × (length line < 2 ^ 8)
+    × FailsAt line fault.place fault.why
 
 -- what stands behind P is less than a packet, and its lane is none at fault
 abbrev pub IsPartOfPacket : ℕ → List ℕ → Type 0
 IsPartOfPacket lanes [] = Unit {0}
 IsPartOfPacket lanes (lane ∷ []) = lane < lanes
 IsPartOfPacket lanes (lane ∷ _ ∷ []) = lane < lanes
-IsPartOfPacket lanes (lane ∷ high ∷ low ∷ packet) = (lane < lanes) × (length packet < high * 256 + low)
+IsPartOfPacket lanes (lane ∷ high ∷ low ∷ packet) = (lane < lanes)
+    × (length packet < high * 256 + low)
 
 -- what stands behind C is less than a line
 abbrev pub IsPartOfOrder : List ℕ → Type 0
@@ -72,4 +79,5 @@ IsPartOfOrder (size ∷ line) = length line < size
 abbrev pub IsPartial : ℕ → List ℕ → Type 0
 IsPartial lanes [] = Unit {0}
 IsPartial lanes (kind ∷ octets) =
-    ((kind ≡ P) × IsPartOfPacket lanes octets) ⊎ (((kind ≡ C) × IsPartOfOrder octets) ⊎ ((kind ≡ T) × (octets ≡ [])))
+    ((kind ≡ P) × IsPartOfPacket lanes octets)
+    ⊎ (((kind ≡ C) × IsPartOfOrder octets) ⊎ ((kind ≡ T) × (octets ≡ [])))

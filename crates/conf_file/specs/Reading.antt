@@ -35,7 +35,8 @@ shown (Err end) = Err end
 abbrev pub Stopped : EntryEnd → Option (List ℕ) → ℕ → ℕ → ℕ → ℕ → Type 0
 Stopped (Bad place why) left taken budget before now = ⊥
 -- the source is at its end; the place is the number of octets taken in all
-Stopped (Cut place) left taken budget before now = (place ≡ taken) × IsAtEnd left × (taken < budget) × (now ≡ before)
+Stopped (Cut place) left taken budget before now = (place ≡ taken) × IsAtEnd left × (taken < budget)
+    × (now ≡ before)
 -- the budget was taken
 Stopped Limit left taken budget before now = (taken ≡ budget) × (now ≡ before)
 -- the source failed
@@ -50,28 +51,37 @@ behind_fault Step = 0
 behind_fault (Order fault) = 0
 
 -- what a call answers, by the octets that it took, the place of the first of them, and as above
-abbrev pub Answers : ℕ → Result Content EntryEnd → List ℕ → ℕ → Option (List ℕ) → ℕ → ℕ → ℕ → ℕ → Type 0
+abbrev pub Answers : ℕ → Result Content EntryEnd → List ℕ → ℕ → Option (List ℕ) → ℕ → ℕ → ℕ → ℕ
+    → Type 0
 -- a whole entry was taken and no octet more
-Answers lanes (Ok content) took first left taken budget before now = Spells lanes content took × (now ≡ before)
+Answers lanes (Ok content) took first left taken budget before now = Spells lanes content took
+    × (now ≡ before)
 -- no entry begins there
 Answers lanes (Err (Bad place why)) took first left taken budget before now =
-    (place ≡ first) × ((rest : List ℕ) × IsWrong lanes why took rest × (length rest ≤ behind_fault why))
+    (place ≡ first) × ((rest : List ℕ) × IsWrong lanes why took rest
+    × (length rest ≤ behind_fault why))
 -- an entry began, and could not be read to its end
-Answers lanes (Err (Cut place)) took first left taken budget before now = IsPartial lanes took × Stopped (Cut place) left taken budget before now
-Answers lanes (Err Limit) took first left taken budget before now = IsPartial lanes took × Stopped Limit left taken budget before now
-Answers lanes (Err Fault) took first left taken budget before now = IsPartial lanes took × Stopped Fault left taken budget before now
+Answers lanes (Err (Cut place)) took first left taken budget before now = IsPartial lanes took
+    × Stopped (Cut place) left taken budget before now
+Answers lanes (Err Limit) took first left taken budget before now = IsPartial lanes took
+    × Stopped Limit left taken budget before now
+Answers lanes (Err Fault) took first left taken budget before now = IsPartial lanes took
+    × Stopped Fault left taken budget before now
 
 -- octets were taken from the source, and none beyond the budget
-pub record Takes (source rest : Option (List ℕ)) (taken_before taken_now budget : ℕ) (took : List ℕ) : Type 0 where
+pub record Takes (source rest : Option (List ℕ)) (taken_before taken_now budget : ℕ) (took : List ℕ)
+    : Type 0 where
   pub bytes : Consumes source rest took
   pub taken : taken_now ≡ taken_before + length took
   pub within : taken_now ≤ budget
 
 -- octets were taken that say, behind those that were taken before them, what is answered
-pub record TakesBehind (front : List ℕ) (lanes : ℕ) (source rest : Option (List ℕ)) (before now first taken_before taken_now budget : ℕ) (result : Result Content EntryEnd) : Type 0 where
-  pub took : List ℕ
-  pub takes : Takes source rest taken_before taken_now budget took
-  pub answer : Answers lanes result (front ++ took) first rest taken_now budget before now
+pub record TakesBehind (front : List ℕ) (lanes : ℕ) (source rest : Option (List ℕ))
+    (before now first taken_before taken_now budget : ℕ) (result : Result Content EntryEnd) : Type 0
+  where
+    pub took : List ℕ
+    pub takes : Takes source rest taken_before taken_now budget took
+    pub answer : Answers lanes result (front ++ took) first rest taken_now budget before now
 
 -- after an entry that is not the end, further ones may be read
 abbrev pub lanes_after : ℕ → Result Content EntryEnd → Option ℕ
@@ -82,33 +92,43 @@ lanes_after lanes (Ok End) = None
 lanes_after lanes (Err end) = None
 
 -- a call of a reader for the next entry
-pub record ReadsEntry (lanes : ℕ) (source rest : Option (List ℕ)) (before now : ℕ) (old new : ReaderState) (result : Result Content EntryEnd) : Type 0 where
-  pub takes : TakesBehind [] lanes source rest before now old.taken old.taken new.taken old.budget result
+pub record ReadsEntry (lanes : ℕ) (source rest : Option (List ℕ)) (before now : ℕ)
+    (old new : ReaderState) (result : Result Content EntryEnd) : Type 0 where
+  pub takes : TakesBehind [] lanes source rest before now old.taken old.taken new.taken old.budget
+      result
   pub budget : new.budget ≡ old.budget
   pub lanes_left : new.lanes ≡ lanes_after lanes result
 
-abbrev pub CallsNext : (source rest : Option (List ℕ)) (before now : ℕ) (old new : ReaderState) (result : Result Content EntryEnd) → Type 0
-CallsNext source rest before now old new result = (lanes : ℕ) → old.lanes ≡ Some lanes → ReadsEntry lanes source rest before now old new result
+abbrev pub CallsNext : (source rest : Option (List ℕ)) (before now : ℕ) (old new : ReaderState)
+    (result : Result Content EntryEnd) → Type 0
+CallsNext source rest before now old new result = (lanes : ℕ) → old.lanes ≡ Some lanes
+    → ReadsEntry lanes source rest before now old new result
 
 -- what the call for the header answers, by the octets that it took, and as above
 abbrev pub AnswersHeader : Result ℕ EntryEnd → List ℕ → Option (List ℕ) → ℕ → ℕ → ℕ → ℕ → Type 0
 -- a header was taken and no octet more
-AnswersHeader (Ok lanes) took left taken budget before now = (took ≡ header_of lanes) × HasLanes lanes × (now ≡ before)
+AnswersHeader (Ok lanes) took left taken budget before now = (took ≡ header_of lanes)
+    × HasLanes lanes × (now ≡ before)
 -- as many octets as a header has were taken, and are none
 AnswersHeader (Err (Bad place why)) took left taken budget before now =
     (place ≡ 0) × (why ≡ Header) × (length took ≡ header_size) × IsNoHeader took × (now ≡ before)
 -- fewer were taken
-AnswersHeader (Err (Cut place)) took left taken budget before now = (length took < header_size) × Stopped (Cut place) left taken budget before now
-AnswersHeader (Err Limit) took left taken budget before now = (length took < header_size) × Stopped Limit left taken budget before now
-AnswersHeader (Err Fault) took left taken budget before now = (length took < header_size) × Stopped Fault left taken budget before now
+AnswersHeader (Err (Cut place)) took left taken budget before now = (length took < header_size)
+    × Stopped (Cut place) left taken budget before now
+AnswersHeader (Err Limit) took left taken budget before now = (length took < header_size)
+    × Stopped Limit left taken budget before now
+AnswersHeader (Err Fault) took left taken budget before now = (length took < header_size)
+    × Stopped Fault left taken budget before now
 
-pub record TakesHeader (source rest : Option (List ℕ)) (before now taken_before taken_now budget : ℕ) (result : Result ℕ EntryEnd) : Type 0 where
+pub record TakesHeader (source rest : Option (List ℕ))
+    (before now taken_before taken_now budget : ℕ) (result : Result ℕ EntryEnd) : Type 0 where
   pub took : List ℕ
   pub takes : Takes source rest taken_before taken_now budget took
   pub answer : AnswersHeader result took rest taken_now budget before now
 
 -- a call of a reader for the header: the lanes are those of the conference, where there is a header
-pub record CallsStart (source rest : Option (List ℕ)) (before now : ℕ) (old new : ReaderState) (result : Result ℕ EntryEnd) : Type 0 where
+pub record CallsStart (source rest : Option (List ℕ)) (before now : ℕ) (old new : ReaderState)
+    (result : Result ℕ EntryEnd) : Type 0 where
   pub header : TakesHeader source rest before now old.taken new.taken old.budget result
   pub budget : new.budget ≡ old.budget
   pub lanes : new.lanes ≡ result_ok result

@@ -19,11 +19,13 @@ end_for AtEnd taken = Err (Cut taken)
 end_for Failing taken = Err Fault
 
 -- the slice was filled, or its front was and why not all
-abbrev pub Fetches : Result Unit EntryEnd → List ℕ → (source rest : Option (List ℕ)) → (before now taken_before taken_now budget : ℕ) → Type 0
+abbrev pub Fetches : Result Unit EntryEnd → List ℕ → (source rest : Option (List ℕ))
+    → (before now taken_before taken_now budget : ℕ) → Type 0
 Fetches (Ok _) slice source rest before now taken_before taken_now budget =
     Takes source rest taken_before taken_now budget slice × (now ≡ before)
 Fetches (Err end) slice source rest before now taken_before taken_now budget =
-    (count : ℕ) × (count < length slice) × Takes source rest taken_before taken_now budget (take count slice)
+    (count : ℕ) × (count < length slice)
+    × Takes source rest taken_before taken_now budget (take count slice)
     × Stopped end rest taken_now budget before now
 
 -- the entry that was found, of which the packet stands at the front of the buffer
@@ -35,16 +37,20 @@ in_buffer buffer (Ok found.End) = Ok End
 in_buffer buffer (Err end) = Err end
 
 -- one octet was taken, or none and why
-abbrev pub TakesOctet : Result ℕ EntryEnd → (source rest : Option (List ℕ)) → (before now taken_before taken_now budget : ℕ) → Type 0
+abbrev pub TakesOctet : Result ℕ EntryEnd → (source rest : Option (List ℕ))
+    → (before now taken_before taken_now budget : ℕ) → Type 0
 TakesOctet (Ok octet) source rest before now taken_before taken_now budget =
     Takes source rest taken_before taken_now budget (octet ∷ []) × (now ≡ before)
 TakesOctet (Err end) source rest before now taken_before taken_now budget =
-    Takes source rest taken_before taken_now budget [] × Stopped end rest taken_now budget before now
+    Takes source rest taken_before taken_now budget []
+    × Stopped end rest taken_now budget before now
 
 -- the lane and the length of a packet were taken, or why not
-abbrev pub TakesHead : Result (ℕ × ℕ) EntryEnd → (lanes : ℕ) → (source rest : Option (List ℕ)) → (before now first taken_before taken_now budget : ℕ) → Type 0
+abbrev pub TakesHead : Result (ℕ × ℕ) EntryEnd → (lanes : ℕ) → (source rest : Option (List ℕ))
+    → (before now first taken_before taken_now budget : ℕ) → Type 0
 TakesHead (Ok head) lanes source rest before now first taken_before taken_now budget =
-    Takes source rest taken_before taken_now budget (head.0 ∷ big_bytes 2 head.1) × (head.0 < lanes) × (head.1 < 2 ^ 16) × (now ≡ before)
+    Takes source rest taken_before taken_now budget (head.0 ∷ big_bytes 2 head.1) × (head.0 < lanes)
+    × (head.1 < 2 ^ 16) × (now ≡ before)
 TakesHead (Err end) lanes source rest before now first taken_before taken_now budget =
     TakesBehind (P ∷ []) lanes source rest before now first taken_before taken_now budget (Err end)
 

@@ -2,7 +2,7 @@
 ghost use Rattle.std.specs.Prelude.{◌≡◌, ℕ, ◌≤◌, ◌<◌, ◌^◌, List, ◌∷◌, [], length};
 ghost use Rattle.byteorder.specs.Endian.{big_bytes};
 ghost use Rattle.io_edge.specs.Causes.{StaysCounted};
-ghost use Rattle.conf_file.specs.Entries.{P, C, T};
+ghost use Rattle.conf_file.specs.Entries.{P, C, T, longest_packet};
 ghost use Rattle.conf_file.specs.Reading.{TakesBehind};
 ghost use Rattle.conf_file.specs.Stops.{TakesHead, in_buffer, FitsIn, IsNoPacket};
 
@@ -32,12 +32,13 @@ pub fn read_entry<S: Source>(
     budget: u64,
     lanes: u8,
 ) -> Result<Found, EntryEnd>
-    requires room { length packet.old ≡ 65535 }
+    requires room { length packet.old ≡ longest_packet }
     requires within { taken.old ≤ budget }
     ensures later { S.faults source.old ≤ S.faults source.new }
     ensures counted { StaysCounted (S.faults source.old) (S.faults source.new) }
     ensures size { FitsIn packet.new result }
-    ensures entry { TakesBehind [] lanes (S.left source.old) (S.left source.new) (S.faults source.old) (S.faults source.new)
+    ensures entry { TakesBehind [] lanes (S.left source.old) (S.left source.new)
+        (S.faults source.old) (S.faults source.new)
         taken.old taken.old taken.new budget (in_buffer packet.new result) }
 {
     let place = *taken;
@@ -65,7 +66,8 @@ fn read_head<S: Source>(
     requires within { taken.old ≤ budget }
     ensures later { S.faults source.old ≤ S.faults source.new }
     ensures counted { StaysCounted (S.faults source.old) (S.faults source.new) }
-    ensures head { TakesHead result lanes (S.left source.old) (S.left source.new) (S.faults source.old) (S.faults source.new) place taken.old taken.new budget }
+    ensures head { TakesHead result lanes (S.left source.old) (S.left source.new)
+        (S.faults source.old) (S.faults source.new) place taken.old taken.new budget }
 {
     let mut head = [0; 3];
     let filled = fill(source, &mut head, budget - *taken);
@@ -98,12 +100,13 @@ fn read_packet<S: Source>(
     budget: u64,
     lanes: u8,
 ) -> Result<Found, EntryEnd>
-    requires room { length packet.old ≡ 65535 }
+    requires room { length packet.old ≡ longest_packet }
     requires within { taken.old ≤ budget }
     ensures later { S.faults source.old ≤ S.faults source.new }
     ensures counted { StaysCounted (S.faults source.old) (S.faults source.new) }
     ensures size { FitsIn packet.new result }
-    ensures entry { TakesBehind (P ∷ []) lanes (S.left source.old) (S.left source.new) (S.faults source.old) (S.faults source.new)
+    ensures entry { TakesBehind (P ∷ []) lanes (S.left source.old) (S.left source.new)
+        (S.faults source.old) (S.faults source.new)
         place taken.old taken.new budget (in_buffer packet.new result) }
 {
     let (lane, size) = read_head(source, place, taken, budget, lanes)?;
@@ -119,12 +122,13 @@ fn read_order<S: Source>(
     taken: &mut u64,
     budget: u64,
 ) -> Result<Found, EntryEnd>
-    requires room { length buffer.old ≡ 65535 }
+    requires room { length buffer.old ≡ longest_packet }
     requires within { taken.old ≤ budget }
     ensures later { S.faults source.old ≤ S.faults source.new }
     ensures counted { StaysCounted (S.faults source.old) (S.faults source.new) }
     ensures size { FitsIn buffer.new result }
-    ensures entry { (lanes : ℕ) → TakesBehind (C ∷ []) lanes (S.left source.old) (S.left source.new) (S.faults source.old) (S.faults source.new)
+    ensures entry { (lanes : ℕ) → TakesBehind (C ∷ []) lanes (S.left source.old) (S.left source.new)
+        (S.faults source.old) (S.faults source.new)
         place taken.old taken.new budget (in_buffer buffer.new result) }
 {
     let size = read_octet(source, taken, budget)? as usize;
@@ -150,7 +154,9 @@ fn read_step<S: Source>(
     ensures later { S.faults source.old ≤ S.faults source.new }
     ensures counted { StaysCounted (S.faults source.old) (S.faults source.new) }
     ensures step { IsNoPacket result }
-    ensures entry { (lanes : ℕ) (buffer : List ℕ) → TakesBehind (T ∷ []) lanes (S.left source.old) (S.left source.new) (S.faults source.old) (S.faults source.new)
+    ensures entry { (lanes : ℕ) (buffer : List ℕ)
+        → TakesBehind (T ∷ []) lanes (S.left source.old) (S.left source.new) (S.faults source.old)
+        (S.faults source.new)
         place taken.old taken.new budget (in_buffer buffer result) }
 {
     match read_octet(source, taken, budget)? {

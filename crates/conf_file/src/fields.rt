@@ -16,7 +16,8 @@ pub fn fetch<S: Source>(
     requires within { taken.old ≤ budget }
     ensures later { S.faults source.old ≤ S.faults source.new }
     ensures counted { StaysCounted (S.faults source.old) (S.faults source.new) }
-    ensures fetched { Fetches result out.new (S.left source.old) (S.left source.new) (S.faults source.old) (S.faults source.new) taken.old taken.new budget }
+    ensures fetched { Fetches result out.new (S.left source.old) (S.left source.new)
+        (S.faults source.old) (S.faults source.new) taken.old taken.new budget }
 {
     let filled = fill(source, out, budget - *taken);
     *taken += filled.count as u64;
@@ -40,7 +41,8 @@ pub fn read_octet<S: Source>(source: &mut S, taken: &mut u64, budget: u64) -> Re
     requires within { taken.old ≤ budget }
     ensures later { S.faults source.old ≤ S.faults source.new }
     ensures counted { StaysCounted (S.faults source.old) (S.faults source.new) }
-    ensures octet { TakesOctet result (S.left source.old) (S.left source.new) (S.faults source.old) (S.faults source.new) taken.old taken.new budget }
+    ensures octet { TakesOctet result (S.left source.old) (S.left source.new) (S.faults source.old)
+        (S.faults source.new) taken.old taken.new budget }
 {
     let mut octet = [0; 1];
     fetch(source, &mut octet, taken, budget)?;

@@ -22,7 +22,8 @@ pub fn read_header<S: Source>(source: &mut S, taken: &mut u64, budget: u64) -> R
     requires within { taken.old ≤ budget }
     ensures later { S.faults source.old ≤ S.faults source.new }
     ensures counted { StaysCounted (S.faults source.old) (S.faults source.new) }
-    ensures header { TakesHeader (S.left source.old) (S.left source.new) (S.faults source.old) (S.faults source.new) taken.old taken.new budget result }
+    ensures header { TakesHeader (S.left source.old) (S.left source.new) (S.faults source.old)
+        (S.faults source.new) taken.old taken.new budget result }
 {
     let mut header = [0; 10];
     fetch(source, &mut header, taken, budget)?;
@@ -36,7 +37,8 @@ pub fn read_header<S: Source>(source: &mut S, taken: &mut u64, budget: u64) -> R
 #[tactic(auto, using(crate::proofs::HeaderLemmas::header_back, crate::proofs::HeaderLemmas::header_parts))]
 fn lanes_in(header: &[u8]) -> Option<u8>
     requires { length header.now ≡ header_size }
-    ensures { MatchOption result (IsNoHeader header.now) (λ lanes. (header.now ≡ header_of lanes) × HasLanes lanes) }
+    ensures { MatchOption result (IsNoHeader header.now)
+        (λ lanes. (header.now ≡ header_of lanes) × HasLanes lanes) }
 {
     let lanes = header[9];
     let is_header = &header[..8] == MAGIC.as_bytes() && header[8] == VERSION;

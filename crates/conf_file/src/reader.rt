@@ -25,19 +25,21 @@ pub struct EntryReader {
 
 impl Model for EntryReader {
     ghost use Rattle.std.specs.Prelude.{◌≡◌, ◌≤◌, vec_len};
+    ghost use Rattle.conf_file.specs.Entries.{longest_packet};
     ghost use Rattle.conf_file.specs.Reading.{ReaderState};
 
     ghost Value = { ReaderState };
 
     ghost view = { λ a. record { taken = a.taken; budget = a.budget; lanes = a.lanes } };
 
-    ghost invariant = { λ a. (vec_len a.packet ≡ 65535) × (a.taken ≤ a.budget) };
+    ghost invariant = { λ a. (vec_len a.packet ≡ longest_packet) × (a.taken ≤ a.budget) };
 }
 
 impl EntryReader {
     /// A reader that may take `budget` octets, the header included. It takes all its memory here.
     pub fn reserve(alloc: Global, budget: u64) -> Result<EntryReader, NoMemory>
-        ensures { IfOk result (λ reader. reader ≡ record { taken = 0; budget = budget; lanes = None }) }
+        ensures { IfOk result (λ reader. reader ≡ record
+            { taken = 0; budget = budget; lanes = None }) }
     {
         Ok(EntryReader {
             packet: vec![in alloc; 0; LONGEST_PACKET]?,
@@ -57,7 +59,8 @@ impl EntryReader {
     /// Takes the header, and gives the number of lanes. It is judged once all of its octets are there.
     pub fn start<S: Source>(&mut self, source: &mut S) -> Result<u8, EntryEnd>
         requires { self.old.taken ≡ 0 }
-        ensures header { CallsStart (S.left source.old) (S.left source.new) (S.faults source.old) (S.faults source.new) self.old self.new result }
+        ensures header { CallsStart (S.left source.old) (S.left source.new) (S.faults source.old)
+            (S.faults source.new) self.old self.new result }
         ensures later { S.faults source.old ≤ S.faults source.new }
         ensures counted { StaysCounted (S.faults source.old) (S.faults source.new) }
     {
@@ -77,7 +80,8 @@ impl EntryReader {
     pub fn next<S: Source>(&mut self, source: &mut S) -> Result<Entry<'_>, EntryEnd>
         requires { is_some self.old.lanes ≡ true }
         ensures* after { sem 𝓛 (Rests the_row self.entry (λ new.
-            CallsNext (S.left source.old) (S.left source.new) (S.faults source.old) (S.faults source.new) self.old new (shown result))) }
+            CallsNext (S.left source.old) (S.left source.new) (S.faults source.old)
+            (S.faults source.new) self.old new (shown result))) }
         ensures later { S.faults source.old ≤ S.faults source.new }
         ensures counted { StaysCounted (S.faults source.old) (S.faults source.new) }
     {
