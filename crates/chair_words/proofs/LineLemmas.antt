@@ -55,12 +55,12 @@ asked_in-unknown name none =
 -- the first fault of the numbers, where these ranges are asked
 abbrev pub fault_of : List Range → List Word → ℕ → Option (ℕ × LineWhy)
 fault_of [] [] len = None
-fault_of [] (w ∷ ws) len = Some (w.place, Extra)
+fault_of [] (w ∷ ws) len = Some (w.start, Extra)
 fault_of (r ∷ rs) [] len = Some (len, Missing)
-fault_of (r ∷ rs) (w ∷ ws) len = cond (is_good r w) (fault_of rs ws len) (Some (w.place, BadNumber))
+fault_of (r ∷ rs) (w ∷ ws) len = cond (is_good r w) (fault_of rs ws len) (Some (w.start, BadNumber))
 
 abbrev fault_behind : Word → Option (List Range) → List Word → ℕ → Option (ℕ × LineWhy)
-fault_behind name None ws len = Some (name.place, Unknown)
+fault_behind name None ws len = Some (name.start, Unknown)
 fault_behind name (Some asked) ws len = fault_of asked ws len
 
 -- the first fault of the words
@@ -89,7 +89,7 @@ fault_in-fails ws len place Unknown (name, rest, whole, unknown, here) =
     ∙ ap (λ p. Some (p, Unknown)) (sym here)
 fault_in-fails ws len place BadNumber (range, wanted, word, rest, begins, bad, here) =
     fault_in-begins ws (range ∷ wanted) (word ∷ rest) len begins
-    ∙ ap (λ b. cond b (fault_of wanted rest len) (Some (word.place, BadNumber))) bad
+    ∙ ap (λ b. cond b (fault_of wanted rest len) (Some (word.start, BadNumber))) bad
     ∙ ap (λ p. Some (p, BadNumber)) (sym here)
 fault_in-fails ws len place Missing (inl none, here) =
     ap (λ v. fault_in v len) none ∙ ap (λ p. Some (p, Missing)) (sym here)

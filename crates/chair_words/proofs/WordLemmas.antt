@@ -1,4 +1,4 @@
--- The words from a place on, and those from the next place on.
+-- The words from a byte on, and those from the next byte on.
 use Rattle.std.proofs.Common.{◌≡◌, ℕ, suc, ◌+◌, ◌-◌, ◌<◌, ◌≤◌, Bool, true, false, not, ◌&&◌, ◌||◌, ◌==◌, IsTrue, List, [], ◌∷◌, length, slice_index, take, drop, refl, ap, ap₂, ◌∙◌, arith, nat_le, nat_lt}
 use Rattle.std.specs.List.{prefix_len, slice_range}
 use Rattle.std.proofs.lemmas.Bool.Decides.{nat_tests}

@@ -10,6 +10,10 @@ use Rattle.chair_words.specs.declared.reader.LineWhy.{LineWhy}
 use Rattle.chair_words.specs.declared.reader.LineWhy.TheVariants.{Unknown, Missing, BadNumber, Extra}
 use Rattle.chair_words.specs.Words.{Word, words}
 
+-- the most bytes of a line
+abbrev pub longest_line : ℕ
+longest_line = 255
+
 -- a command's name
 abbrev pub name_of : Command → List ℕ
 name_of (Place q c) = codes "place"
@@ -94,14 +98,14 @@ pub record Begins (ws : List Word) (wanted : List Range) (rest : List Word) : Ty
 abbrev pub Fails : List Word → ℕ → ℕ → LineWhy → Type 0
 Fails ws len place Unknown =
     (name : Word) × (rest : List Word)
-    × (ws ≡ name ∷ rest) × ((c : Command) → name.text ≢ name_of c) × (place ≡ name.place)
+    × (ws ≡ name ∷ rest) × ((c : Command) → name.text ≢ name_of c) × (place ≡ name.start)
 Fails ws len place BadNumber =
     (range : Range) × (wanted : List Range) × (word : Word) × (rest : List Word)
-    × Begins ws (range ∷ wanted) (word ∷ rest) × (is_good range word ≡ false) × (place ≡ word.place)
+    × Begins ws (range ∷ wanted) (word ∷ rest) × (is_good range word ≡ false) × (place ≡ word.start)
 Fails ws len place Missing =
     ((ws ≡ []) ⊎ ((range : Range) × (wanted : List Range) × Begins ws (range ∷ wanted) [])) × (place ≡ len)
 Fails ws len place Extra =
-    (word : Word) × (rest : List Word) × Begins ws [] (word ∷ rest) × (place ≡ word.place)
+    (word : Word) × (rest : List Word) × Begins ws [] (word ∷ rest) × (place ≡ word.start)
 
 -- the line says no command: its first fault, and the place of it
 abbrev pub FailsAt : List ℕ → ℕ → LineWhy → Type 0

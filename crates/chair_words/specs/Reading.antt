@@ -38,7 +38,7 @@ pub record TakesNumber (range : Range) (old new : List Word) (n : ℕ) : Type 0 
 -- there is no next word, or it is no good number
 abbrev pub LacksNumber : Range → List Word → ℕ → ℕ → LineWhy → Type 0
 LacksNumber range [] len place why = (place ≡ len) × (why ≡ Missing)
-LacksNumber range (w ∷ ws) len place why = (is_good range w ≡ false) × (place ≡ w.place) × (why ≡ BadNumber)
+LacksNumber range (w ∷ ws) len place why = (is_good range w ≡ false) × (place ≡ w.start) × (why ≡ BadNumber)
 
 -- the next words are the numbers of a command of this name
 pub record TakesNumbers (name : List ℕ) (old new : List Word) (command : Command) : Type 0 where

@@ -2,13 +2,13 @@
 use Rattle.std.specs.Prelude.{ℕ, ◌-◌, ◌==◌, Bool, not, ◌&&◌, ◌||◌, List, map, filter, length, slice_index, take_while, drop}
 use Rattle.std.specs.List.{range_with_len}
 
--- a word, and the place of its first byte in the line
+-- a word, and where its first byte stands in the line
 pub record Word : Type 0 where
-  pub place : ℕ
+  pub start : ℕ
   pub text : List ℕ
 
 abbrev pub word_of : ℕ → List ℕ → Word
-word_of place text = record { place = place; text = text }
+word_of start text = record { start = start; text = text }
 
 -- a space, a tab or a carriage return
 abbrev pub is_blank : ℕ → Bool

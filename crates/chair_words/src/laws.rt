@@ -6,7 +6,8 @@ ghost use Rattle.chair_words.specs.Line.{Says, OneAnswer, has_sayable_lane, line
 
 /// The line that is written for a command says that command, where a lane in it is at most 15.
 pub fn written_lines_are_read()
-    ensures { (command : Command) → IsTrue (has_sayable_lane command) → Says (line_of command) command }
+    ensures { (command : Command) → IsTrue (has_sayable_lane command)
+        → Says (line_of command) command }
 {}
 
 /// A line says at most one command, has at most one first fault, and never both. `read_line` finds one of the two.

@@ -11,5 +11,5 @@ mod writer;
 
 pub use laws::{one_answer, written_lines_are_read};
 pub use pel_model::{Command, Quad};
-pub use reader::{LineFault, LineWhy, read_line};
+pub use reader::{LineFault, LineWhy, has_words, read_line};
 pub use writer::write_line;

@@ -1,15 +1,15 @@
 //! The command of a line.
 
-ghost use Rattle.std.specs.Prelude.{◌≡◌, ◌≢◌, ◌≤◌, ℕ, ◌∷◌, length, IfOk, IfErr, MatchOption, MatchResult};
+ghost use Rattle.std.specs.Prelude.{◌≡◌, ◌≢◌, ◌≤◌, ℕ, nat_lt, ◌∷◌, length, IfOk, IfErr, MatchOption, MatchResult};
 ghost use Rattle.pel_model.specs.Regions.{number_of};
-ghost use Rattle.pel_model.specs.declared.chair.Command.{Command as TheCommand};
-ghost use Rattle.chair_words.specs.declared.reader.LineWhy.{LineWhy as TheWhy};
-ghost use Rattle.chair_words.specs.Words.{word_of, words_from};
-ghost use Rattle.chair_words.specs.Line.{Says, Fails, FailsAt, name_of, a_place, a_lane, from_to};
+ghost use Rattle.pel_model.specs.declared.chair.Command.{Command};
+ghost use Rattle.chair_words.specs.declared.reader.LineWhy.{LineWhy};
+ghost use Rattle.chair_words.specs.Words.{word_of, words, words_from};
+ghost use Rattle.chair_words.specs.Line.{longest_line, Says, Fails, FailsAt, name_of, a_place, a_lane, from_to};
 ghost use Rattle.chair_words.specs.Reading.{Answers, TakesNumber, LacksNumber, TakesNumbers, text_of};
 
 use crate::numbers::number_of;
-use crate::words::{Word, Words};
+use crate::words::{Word, Words, word_start};
 use pel_model::{Command, Quad};
 use thiserror::Error;
 
@@ -48,7 +48,7 @@ enum Name {
 
 /// The name that the word is, if it is one.
 fn name_in(word: &[u8]) -> Option<Name>
-    ensures { MatchOption result ((c : TheCommand) → word.now ≢ name_of c) (λ n. word.now ≡ text_of n) }
+    ensures { MatchOption result ((c : Command) → word.now ≢ name_of c) (λ n. word.now ≡ text_of n) }
 {
     if word == "place".as_bytes() {
         Some(Name::Place)
@@ -70,11 +70,11 @@ fn name_in(word: &[u8]) -> Option<Name>
 impl<'a> Word<'a> {
     /// The word at fault.
     fn fault(self, why: LineWhy) -> LineFault
-        requires { self.place ≤ 255 }
-        ensures { result ≡ record { place = self.entry.place; why = why } }
+        requires { self.start ≤ longest_line }
+        ensures { result ≡ record { place = self.entry.start; why = why } }
     {
         LineFault {
-            place: self.place as u16,
+            place: self.start as u16,
             why,
         }
     }
@@ -143,11 +143,11 @@ impl<'a> Words<'a> {
 
     /// The command of this name, with the next words as its numbers.
     fn command(&mut self, name: Word<'a>) -> Result<Command, LineFault>
-        requires { name.place ≤ 255 }
+        requires { name.start ≤ longest_line }
         ensures line { self.new.line.now ≡ self.old.line.now }
         ensures read { let old = words_from self.old.line.now self.old.at in
             let new = words_from self.new.line.now self.new.at in
-            let first = word_of name.entry.place name.entry.text.now in
+            let first = word_of name.entry.start name.entry.text.now in
             MatchResult result
             (λ c. TakesNumbers name.entry.text.now old new c)
             (λ e. Fails (first ∷ old) (length self.old.line.now) e.place e.why) }
@@ -169,7 +169,7 @@ impl<'a> Words<'a> {
 
 /// The command that the line says, or its first fault.
 fn answer(line: &[u8]) -> Result<Command, LineFault>
-    requires { length line.now ≤ 255 }
+    requires { length line.now ≤ longest_line }
     ensures { Answers line.now result }
 {
     let mut words = Words::new(line);
@@ -183,15 +183,23 @@ fn answer(line: &[u8]) -> Result<Command, LineFault>
     }
 }
 
+/// Whether the line has a word at all.
+pub fn has_words(line: &[u8]) -> bool
+    ensures { result ≡ nat_lt 0 (length (words line.now)) }
+{
+    word_start(line, 0) < line.len()
+}
+
 /// The command that a line of at most 255 bytes says. Words are parted by spaces, tabs and carriage returns. The first
 /// word is the command's name, byte for byte; then come its numbers, each of one to three digits. Else the line's first
 /// fault, with its place in bytes.
 pub fn read_line(line: &[u8]) -> Result<Command, LineFault>
-    requires { length line.now ≤ 255 }
+    requires { length line.now ≤ longest_line }
     ensures command { IfOk result (λ c. Says line.now c) }
     ensures fault { IfErr result (λ e. FailsAt line.now e.place e.why) }
-    ensures accepts { (c : TheCommand) → Says line.now c → result ≡ Ok c }
-    ensures refuses { (place : ℕ) (why : TheWhy) → FailsAt line.now place why → result ≡ Err (record { place = place; why = why }) }
+    ensures accepts { (c : Command) → Says line.now c → result ≡ Ok c }
+    ensures refuses { (place : ℕ) (why : LineWhy) → FailsAt line.now place why
+        → result ≡ Err (record { place = place; why = why }) }
 {
     answer(line)
 }

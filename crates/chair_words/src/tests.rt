@@ -1,6 +1,6 @@
 //! What lines say, by the rule and by the faults that chairs make.
 
-use crate::{Command, LineFault, LineWhy, Quad, read_line, write_line};
+use crate::{Command, LineFault, LineWhy, Quad, has_words, read_line, write_line};
 use std::process::Abort;
 
 fn said(rt: &impl Abort, line: &[u8]) -> Result<Command, LineFault> {
@@ -60,6 +60,14 @@ fn a_line_of_255_bytes(rt: HostRuntime) {
     assert_eq!(rt; said(&rt, &line), fault(254, LineWhy::Unknown));
     line[254] = b'\r';
     assert_eq!(rt; said(&rt, &line), fault(255, LineWhy::Missing));
+}
+
+#[test]
+fn lines_without_words(rt: HostRuntime) {
+    let table = [("", false), (" \t\r ", false), ("\n", true), (" \tx", true)];
+    for (line, want) in table {
+        assert_eq!(rt; has_words(line.as_bytes()), want, "{line}");
+    }
 }
 
 #[test]

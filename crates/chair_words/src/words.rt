@@ -1,13 +1,14 @@
 //! The words of a line, one after another.
 
 ghost use Rattle.std.specs.Prelude.{◌≡◌, ◌≤◌, ◌<◌, true, [], ◌∷◌, length, slice_range, IsTrue, IfSome, IfNone};
+ghost use Rattle.chair_words.specs.Line.{longest_line};
 ghost use Rattle.chair_words.specs.Words.{is_blank, begins_at, word_of, words_from};
 ghost use Rattle.chair_words.specs.Reading.{is_outside};
 
-/// A word of a line, and the place of its first byte.
+/// A word of a line, and where its first byte stands.
 #[derive(Clone, Copy)]
 pub struct Word<'a> {
-    pub place: usize,
+    pub start: usize,
     pub text: &'a [u8],
 }
 
@@ -16,7 +17,7 @@ pub struct Word<'a> {
 pub struct Words<'a> {
     pub line: &'a [u8],
     pub at: usize,
-    ghost short: { length line.now ≤ 255 },
+    ghost short: { length line.now ≤ longest_line },
     ghost within: { at ≤ length line.now },
     ghost outside: { IsTrue (is_outside line.now at) },
 }
@@ -29,7 +30,7 @@ fn is_blank(byte: u8) -> bool
 }
 
 /// The first byte from here on that is no blank, or the line's end.
-fn word_start(line: &[u8], from: usize) -> usize
+pub fn word_start(line: &[u8], from: usize) -> usize
     requires within { from ≤ length line.now }
     requires outside { IsTrue (is_outside line.now from) }
     ensures within { result ≤ length line.now }
@@ -63,7 +64,7 @@ fn word_end(line: &[u8], start: usize) -> usize
 impl<'a> Words<'a> {
     /// The words of a line, from its first on.
     pub fn new(line: &'a [u8]) -> Words<'a>
-        requires { length line.now ≤ 255 }
+        requires { length line.now ≤ longest_line }
         ensures line { result.line.now ≡ line.now }
         ensures at { result.at ≡ 0 }
     {
@@ -73,20 +74,20 @@ impl<'a> Words<'a> {
     /// The next word, or none where blanks alone are left.
     pub fn next(&mut self) -> Option<Word<'a>>
         ensures line { self.new.line.now ≡ self.old.line.now }
-        ensures place { IfSome result (λ w. w.place ≤ 255) }
+        ensures start { IfSome result (λ w. w.start ≤ longest_line) }
         ensures none { IfNone result (words_from self.old.line.now self.old.at ≡ []) }
         ensures some { IfSome result (λ w. words_from self.old.line.now self.old.at
-            ≡ word_of w.place w.text.now ∷ words_from self.new.line.now self.new.at) }
+            ≡ word_of w.start w.text.now ∷ words_from self.new.line.now self.new.at) }
     {
-        let place = word_start(self.line, self.at);
-        if place == self.line.len() {
+        let start = word_start(self.line, self.at);
+        if start == self.line.len() {
             return None;
         }
-        let end = word_end(self.line, place);
+        let end = word_end(self.line, start);
         self.at = end;
         Some(Word {
-            place,
-            text: &self.line[place..end],
+            start,
+            text: &self.line[start..end],
         })
     }
 }

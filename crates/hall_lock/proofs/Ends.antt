@@ -100,6 +100,7 @@ module _ {M C R S : Type 0} (shape : M → S) (fits : S → C → Type 0) (steps
         places = λ y. placed y ∙ ap (λ (n : ℕ). one_below n y) (sym long);
         front = omega (arith, it.behind, long);
         full = λ e. omega (arith, it.sold_out e, r.drawn, all_passed, it.limited, long);
+        within = omega (arith, long, r.drawn, r.bounded, it.limited);
       }
     where
       box_there : (log : List (Turn C R)) (homes : List (maybe.Option (Option (Box M Global)))) (n : ℕ) → Slot shape fits steps m most log homes n → n ≡ 0 → (b : Box M Global) × (homes ≡ some (Some b) ∷ []) × Leads shape fits steps m log b.value

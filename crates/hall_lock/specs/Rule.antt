@@ -37,7 +37,22 @@ module _ {M C R : Type 0} where
 
   -- the view that a joined seat leaves
   abbrev pub spent_view : View M C R
-  spent_view = record { opening = None; turns = 0; share = 0; seen = []; met = []; mine = []; past = []; front = 0; ticket = None; at_turn = false; full = false; looks = 0; spent = true }
+  spent_view = record {
+    opening = None;
+    turns = 0;
+    share = 0;
+    seen = [];
+    met = [];
+    mine = [];
+    past = [];
+    front =
+        0;
+    ticket = None;
+    at_turn = false;
+    full = false;
+    looks = 0;
+    spent = true;
+  }
 
   -- what holds of each view that is not spent, where `log` is the list of the turns passed
   pub record IsSeated (m : M) (most tickets turn : ℕ) (log : List (Turn C R)) (v : View M C R) : Type 0 where
@@ -51,25 +66,28 @@ module _ {M C R : Type 0} where
     pub holds_turn : v.at_turn ≡ true → (v.ticket ≡ Some turn) × (v.seen ≡ log)
     pub sold_out : v.full ≡ true → tickets ≡ most
 
-module _ {M C R S : Type 0} (shape : M → S) (fits : S → C → Type 0) (steps : M → C → R → M → Type 0) (m : M) (most : ℕ) where
-  -- The slot is in the keeping of the one seat that is at the turn; or none is, and it is home with a box to which the turns passed lead
-  abbrev pub Slot : List (Turn C R) → List (maybe.Option (Option (Box M Global))) → ℕ → Type 0
-  Slot log homes at = ((homes ≡ none ∷ []) × (at ≡ 1)) ⊎ ((b : Box M Global) × (homes ≡ some (Some b) ∷ []) × (at ≡ 0) × Leads shape fits steps m log b.value)
+module _ {M C R S : Type 0} (shape : M → S) (fits : S → C → Type 0) (steps : M → C → R → M → Type 0) (m : M) (most : ℕ)
+  where
+    -- The slot is in the keeping of the one seat that is at the turn; or none is, and it is home with a box to which the turns passed lead
+    abbrev pub Slot : List (Turn C R) → List (maybe.Option (Option (Box M Global))) → ℕ → Type 0
+    Slot log homes at = ((homes ≡ none ∷ []) × (at ≡ 1))
+        ⊎ ((b : Box M Global) × (homes ≡ some (Some b) ∷ []) × (at ≡ 0) × Leads shape fits steps m log b.value)
 
-  pub record IsKept (s : State (Option (Box M Global)) (View M C R)) : Type 0 where
-    pub tickets : ℕ
-    pub turn : ℕ
-    -- the turns passed, which go with the box
-    pub log : List (Turn C R)
-    pub words : s.words ≡ tickets ∷ turn ∷ []
-    pub drawn : turn ≤ tickets
-    pub bounded : tickets ≤ most
-    -- each number from `turn` up to `tickets` is the ticket of one view, and no other number is a ticket
-    pub queue : (x : ℕ) → sum_by (has_ticket x) s.views ≡ waits turn tickets x
-    pub long : length log ≡ turn
-    pub slot : Slot log s.homes (sum_by turns_at s.views)
-    -- each place below `turn` is in `mine` or `past` of one view, once
-    pub places : (x : ℕ) → sum_by (has_place x) s.views ≡ one_below turn x
-    pub shares : sum_by share_of s.views ≡ 2 ^ 32
-    pub seats : (i : ℕ) (v : View M C R) → get_elem? s.views i ≡ some v → v.spent ≡ false → IsSeated m most tickets turn log v
-    pub gone : (i : ℕ) (v : View M C R) → get_elem? s.views i ≡ some v → v.spent ≡ true → v ≡ spent_view
+    pub record IsKept (s : State (Option (Box M Global)) (View M C R)) : Type 0 where
+      pub tickets : ℕ
+      pub turn : ℕ
+      -- the turns passed, which go with the box
+      pub log : List (Turn C R)
+      pub words : s.words ≡ tickets ∷ turn ∷ []
+      pub drawn : turn ≤ tickets
+      pub bounded : tickets ≤ most
+      -- each number from `turn` up to `tickets` is the ticket of one view, and no other number is a ticket
+      pub queue : (x : ℕ) → sum_by (has_ticket x) s.views ≡ waits turn tickets x
+      pub long : length log ≡ turn
+      pub slot : Slot log s.homes (sum_by turns_at s.views)
+      -- each place below `turn` is in `mine` or `past` of one view, once
+      pub places : (x : ℕ) → sum_by (has_place x) s.views ≡ one_below turn x
+      pub shares : sum_by share_of s.views ≡ 2 ^ 32
+      pub seats : (i : ℕ) (v : View M C R) → get_elem? s.views i ≡ some v → v.spent ≡ false
+          → IsSeated m most tickets turn log v
+      pub gone : (i : ℕ) (v : View M C R) → get_elem? s.views i ≡ some v → v.spent ≡ true → v ≡ spent_view

@@ -32,16 +32,31 @@ pub record SeatState (M C R : Type 0) : Type 0 where
 
 -- the tuples as which both are stored
 abbrev pub lock_code : {M : Type 0} → Coded M → Coded (Lock M)
-lock_code {M} m = code_by (TableId × (M × ℕ)) (coded× table_id_coded (coded× m coded_ℕ)) (λ l. (l.name, (l.opening, l.turns))) (λ p. record { name = p.0; opening = p.1.0; turns = p.1.1 }) (λ _. refl)
+lock_code {M} m = code_by (TableId × (M × ℕ)) (coded× table_id_coded (coded× m coded_ℕ))
+    (λ l. (l.name, (l.opening, l.turns))) (λ p. record { name = p.0; opening = p.1.0; turns = p.1.1 }) (λ _. refl)
 
 abbrev pub turn_code : {C R : Type 0} → Coded C → Coded R → Coded (Turn C R)
-turn_code {C} {R} c r = code_by (C × R) (coded× c r) (λ t. (t.call, t.reply)) (λ p. record { call = p.0; reply = p.1 }) (λ _. refl)
+turn_code {C} {R} c r = code_by (C × R) (coded× c r) (λ t. (t.call, t.reply)) (λ p. record { call = p.0; reply = p.1 })
+    (λ _. refl)
 
 abbrev pub seat_code : {M C R : Type 0} → Coded M → Coded C → Coded R → Coded (SeatState M C R)
-seat_code {M} {C} {R} m c r = code_by (Lock (Option M) × (ℕ × (List (Turn C R) × (List ℕ × (List ℕ × (ℕ × (Bool × ℕ)))))))
-    (coded× (lock_code (coded_option m)) (coded× coded_ℕ (coded× (coded_list (turn_code c r)) (coded× (coded_list coded_ℕ) (coded× (coded_list coded_ℕ) (coded× coded_ℕ (coded× coded_bool coded_ℕ)))))))
+seat_code {M} {C} {R} m c r = code_by
+    (Lock (Option M) × (ℕ × (List (Turn C R) × (List ℕ × (List ℕ × (ℕ × (Bool × ℕ)))))))
+    (coded× (lock_code (coded_option m))
+    (coded× coded_ℕ (coded× (coded_list (turn_code c r))
+    (coded× (coded_list coded_ℕ) (coded× (coded_list coded_ℕ) (coded× coded_ℕ (coded× coded_bool coded_ℕ)))))))
     (λ s. (s.lock, (s.share, (s.seen, (s.mine, (s.past, (s.front, (s.full, s.looks))))))))
-    (λ p. record { lock = p.0; share = p.1.0; seen = p.1.1.0; mine = p.1.1.1.0; past = p.1.1.1.1.0; front = p.1.1.1.1.1.0; full = p.1.1.1.1.1.1.0; looks = p.1.1.1.1.1.1.1 }) (λ _. refl)
+    (λ p. record {
+      lock = p.0;
+      share = p.1.0;
+      seen = p.1.1.0;
+      mine = p.1.1.1.0;
+      past = p.1.1.1.1.0;
+      front =
+          p.1.1.1.1.1.0;
+      full = p.1.1.1.1.1.1.0;
+      looks = p.1.1.1.1.1.1.1;
+    }) (λ _. refl)
 
 module _ {X : Type 0} where
   -- the longer and the shorter of two histories
@@ -66,7 +81,17 @@ module _ {M C R : Type 0} where
 
   -- the seat that comes with a new lock
   abbrev pub first_seat : Lock M → SeatState M C R
-  first_seat l = record { lock = named l; share = 2 ^ 32; seen = []; mine = []; past = []; front = 0; full = false; looks = 0 }
+  first_seat l = record {
+    lock = named l;
+    share = 2 ^ 32;
+    seen = [];
+    mine = [];
+    past = [];
+    front = 0;
+    full =
+        false;
+    looks = 0;
+  }
 
   -- a part of the seat, which knows what the seat knows, and has made no turn
   abbrev pub part_of : SeatState M C R → ℕ → SeatState M C R
@@ -78,7 +103,14 @@ module _ {M C R : Type 0} where
 
   -- a seat and another that was joined into it
   abbrev pub joined : SeatState M C R → SeatState M C R → SeatState M C R
-  joined s o = record s { share = s.share + o.share; seen = longer s.seen o.seen; past = s.past ++ (o.mine ++ o.past); front = max s.front o.front; full = s.full || o.full }
+  joined s o = record s {
+    share = s.share + o.share;
+    seen = longer s.seen o.seen;
+    past =
+        s.past ++ (o.mine ++ o.past);
+    front = max s.front o.front;
+    full = s.full || o.full;
+  }
 
   -- The seat has made one turn: the call with its reply stands behind the turns that came before it, which begin with all that the seat had seen
   pub record TakesTurn (call : C) (reply : R) (old new : SeatState M C R) : Type 0 where

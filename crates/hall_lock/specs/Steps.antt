@@ -42,23 +42,51 @@ module _ {M C R : Type 0} where
 
   -- what contracts see of a view
   abbrev pub shown : TableId → View M C R → SeatState M C R
-  shown z v = record { lock = record { name = z; opening = v.opening; turns = v.turns }; share = v.share; seen = v.seen; mine = v.mine; past = v.past; front = v.front; full = v.full; looks = v.looks }
+  shown z v = record {
+    lock = record { name = z; opening = v.opening; turns = v.turns };
+    share = v.share;
+    seen =
+        v.seen;
+    mine = v.mine;
+    past = v.past;
+    front = v.front;
+    full = v.full;
+    looks = v.looks;
+  }
 
   -- the view of the first seat
   abbrev pub first_view : M → ℕ → View M C R
-  first_view m most = record { opening = Some m; turns = most; share = 2 ^ 32; seen = []; met = []; mine = []; past = []; front = 0; ticket = None; at_turn = false; full = false; looks = 0; spent = false }
+  first_view m most = record {
+    opening = Some m;
+    turns = most;
+    share = 2 ^ 32;
+    seen = [];
+    met = [];
+    mine = [];
+    past =
+        [];
+    front = 0;
+    ticket = None;
+    at_turn = false;
+    full = false;
+    looks = 0;
+    spent = false;
+  }
 
   -- a load of `tickets`
   abbrev pub saw_tickets : Stepped M → Sitting M C R → ℕ → Sitting M C R → Type 0
-  saw_tickets st me n me' = (n ≤ me.0.turns) × MatchBool (n == me.0.turns) (me' ≡ (record me.0 { full = true }, me.1)) (me' ≡ me)
+  saw_tickets st me n me' = (n ≤ me.0.turns)
+      × MatchBool (n == me.0.turns) (me' ≡ (record me.0 { full = true }, me.1)) (me' ≡ me)
 
   -- a load of `tickets` whose number is let go
   abbrev pub recalled : Stepped M → Sitting M C R → ℕ → Sitting M C R → Type 0
-  recalled st me n me' = (me' ≡ me) × IsPrefix me.0.met me.0.seen × AtMostOnce (length me.0.seen) (me.0.mine ++ me.0.past)
+  recalled st me n me' = (me' ≡ me) × IsPrefix me.0.met me.0.seen
+      × AtMostOnce (length me.0.seen) (me.0.mine ++ me.0.past)
 
   -- a compare and exchange of `tickets`
   abbrev pub drew : Stepped M → Sitting M C R → ℕ → Sitting M C R → Type 0
-  drew st me n me' = MatchBool (n == st.first) ((me' ≡ (record me.0 { ticket = Some st.first }, me.1)) × (me.0.full ≡ false)) (me' ≡ me)
+  drew st me n me' = MatchBool (n == st.first)
+      ((me' ≡ (record me.0 { ticket = Some st.first }, me.1)) × (me.0.full ≡ false)) (me' ≡ me)
 
   -- the seat has its ticket, and is not at the turn
   pub record IsWaiting (me : Sitting M C R) (ticket : ℕ) : Type 0 where
@@ -91,22 +119,46 @@ module _ {M C R : Type 0} where
 
   -- the view of a seat that has passed its turn
   abbrev pub passing : View M C R → List (Turn C R) → View M C R
-  passing v added = record v { seen = v.seen ++ added; mine = v.mine ++ length v.seen ∷ []; ticket = None; at_turn = false }
+  passing v added = record v {
+    seen = v.seen ++ added;
+    mine = v.mine ++ length v.seen ∷ [];
+    ticket = None;
+    at_turn =
+        false;
+  }
 
   -- the views that a split leaves and makes
   abbrev pub cut_left : ℕ → View M C R → View M C R
   cut_left part v = record v { share = v.share - part }
 
   abbrev pub cut_right : ℕ → View M C R → View M C R
-  cut_right part v = record v { share = part; mine = []; past = []; met = []; looks = 0; ticket = None; at_turn = false }
+  cut_right part v = record v {
+    share = part;
+    mine = [];
+    past = [];
+    met = [];
+    looks = 0;
+    ticket = None;
+    at_turn =
+        false;
+  }
 
   -- the view that a join leaves
   abbrev pub glued : View M C R → View M C R → View M C R
-  glued v w = record v { share = v.share + w.share; seen = longer v.seen w.seen; met = shorter v.seen w.seen; past = v.past ++ (w.mine ++ w.past); front = max v.front w.front; full = v.full || w.full }
+  glued v w = record v {
+    share = v.share + w.share;
+    seen = longer v.seen w.seen;
+    met = shorter v.seen w.seen;
+    past =
+        v.past ++ (w.mine ++ w.past);
+    front = max v.front w.front;
+    full = v.full || w.full;
+  }
 
   -- a store of `turn`, which adds the turn to the history
   abbrev pub passed : List (Turn C R) → Stepped M → Sitting M C R → ℕ → Sitting M C R → Type 0
-  passed added st me n me' = (me' ≡ (passing me.0 added, rest me.1)) × AtMostOnce (length me'.0.seen) (me'.0.mine ++ me'.0.past)
+  passed added st me n me' = (me' ≡ (passing me.0 added, rest me.1))
+      × AtMostOnce (length me'.0.seen) (me'.0.mine ++ me'.0.past)
 
 module _ {M C R S : Type 0} (shape : M → S) (fits : S → C → Type 0) (steps : M → C → R → M → Type 0) where
   -- the turns lead from the machine that the view names to n
@@ -124,7 +176,8 @@ module _ {M C R S : Type 0} (shape : M → S) (fits : S → C → Type 0) (steps
 
   -- a load of `turn`
   abbrev pub looked : Stepped M → Sitting M C R → ℕ → Sitting M C R → Type 0
-  looked st me n me' = (length me.0.seen ≤ n) × (me.0.front ≤ n) × (n ≤ me.0.turns) × MatchBool (is_at n me.0.ticket) (TakesBox me n me') (me' ≡ (looking me.0 n, me.1))
+  looked st me n me' = (length me.0.seen ≤ n) × (me.0.front ≤ n) × (n ≤ me.0.turns)
+      × MatchBool (is_at n me.0.ticket) (TakesBox me n me') (me' ≡ (looking me.0 n, me.1))
 
   -- the machine that the view names may be asked this call
   abbrev pub FitsFrom : Option M → C → Type 0
@@ -155,3 +208,4 @@ module _ {M C R S : Type 0} (shape : M → S) (fits : S → C → Type 0) (steps
     pub places : EachOnce (length v.seen) (v.mine ++ v.past)
     pub front : v.front ≤ length v.seen
     pub full : v.full ≡ true → length v.seen ≡ v.turns
+    pub within : length v.seen ≤ v.turns

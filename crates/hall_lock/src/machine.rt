@@ -23,5 +23,6 @@ pub trait Machine {
         ensures { steps self.old call result self.new };
 
     // No step changes the shape.
-    ghost keeps_shape: { (m : Self) (c : Self.Call) (r : Self.Reply) (n : Self) → steps m c r n → shape n ≡ shape m };
+    ghost keeps_shape: { (m : Self) (c : Self.Call) (r : Self.Reply) (n : Self) → steps m c r n
+        → shape n ≡ shape m };
 }

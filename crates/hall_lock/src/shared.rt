@@ -36,9 +36,14 @@ impl<M: Machine> Model for Shared<M> {
 
     ghost coded = { lock_code M.code };
 
-    ghost view = { λ s. record { name = s.table.shared.table_id; opening = s.table.shared.key.machine.value; turns = s.turns } };
+    ghost view = { λ s. record {
+      name = s.table.shared.table_id;
+      opening = s.table.shared.key.machine.value;
+      turns = s.turns;
+    } };
 
-    ghost invariant = { λ s. (s.table.shared.table_id.words ≡ 2) × (s.table.shared.table_id.slots ≡ 1) × (s.turns ≡ s.table.shared.key.turns) };
+    ghost invariant = { λ s. (s.table.shared.table_id.words ≡ 2)
+        × (s.table.shared.table_id.slots ≡ 1) × (s.turns ≡ s.table.shared.key.turns) };
 }
 
 /// All turns of the lock are drawn. The call comes back as it was handed in.
@@ -61,7 +66,8 @@ impl<M: Machine> Shared<M> {
     where
         M: Drop,
         requires { (1 ≤ turns) × (turns ≤ 2 ^ 62) }
-        ensures { IfOk result (λ l. (l.0.opening ≡ machine) × (l.0.turns ≡ turns) × (l.1 ≡ first_seat l.0)) }
+        ensures { IfOk result (λ l. (l.0.opening ≡ machine) × (l.0.turns ≡ turns)
+            × (l.1 ≡ first_seat l.0)) }
     {
         let about = Opening {
             machine: Snapshot::of(&machine),
@@ -92,9 +98,11 @@ impl<M: Machine> Shared<M> {
         requires fits { M.fits (M.shape self.now.opening) call }
         ensures seat { IsOf self.now seat.new }
         ensures turn { IfOk result (λ reply. TakesTurn call reply seat.old seat.new) }
-        ensures history { IfOk result (λ _. (machine : _) × Leads M.shape M.fits M.steps self.now.opening seat.new.seen machine) }
+        ensures history { IfOk result (λ _. (machine : _)
+            × Leads M.shape M.fits M.steps self.now.opening seat.new.seen machine) }
         ensures within { IfOk result (λ _. length seat.new.seen ≤ self.now.turns) }
-        ensures over { IfErr result (λ over. (over.0 ≡ call) × (seat.new ≡ record seat.old { full = true })) }
+        ensures over { IfErr result (λ over. (over.0 ≡ call)
+            × (seat.new ≡ record seat.old { full = true })) }
         ensures places { OwnsPlaces seat.new }
     {
         let Some(ticket) = draw_ticket(rt, &self.table, &mut seat.seat, self.turns) else {
@@ -108,7 +116,8 @@ impl<M: Machine> Shared<M> {
     pub fn glance(&self, seat: &mut Seat<M>) -> u64
         requires { IsOf self.now seat.old }
         ensures same { IsOf self.now seat.new }
-        ensures reaches { (length seat.old.seen ≤ result) × (seat.old.front ≤ result) × (result ≤ self.now.turns) }
+        ensures reaches { (length seat.old.seen ≤ result) × (seat.old.front ≤ result)
+            × (result ≤ self.now.turns) }
         ensures seat { seat.new ≡ record seat.old { front = result; looks = seat.old.looks + 1 } }
         ensures places { OwnsPlaces seat.new }
     {
@@ -154,6 +163,7 @@ impl<M: Machine> Shared<M> {
         requires whole { seat.share ≡ 2 ^ 32 }
         ensures history { Leads M.shape M.fits M.steps self.opening seat.seen result.machine.value }
         ensures turns { (result.turns ≡ length seat.seen) × (seat.front ≤ result.turns) }
+        ensures within { result.turns ≤ self.turns }
         // every turn is one of the seat's own or of one seat that was joined into it
         ensures places { EachOnce result.turns (seat.mine ++ seat.past) }
         ensures full { seat.full ≡ true → result.turns ≡ self.turns }

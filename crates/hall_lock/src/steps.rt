@@ -17,7 +17,9 @@ pub(crate) fn see_tickets<M: Machine>(table: &LockTable<M>, seat: &mut LockSeat<
     requires live { seat.old.me.0.spent ≡ false }
     ensures same { IsSame seat.old seat.new }
     ensures bound { result ≤ seat.old.me.0.turns }
-    ensures told { MatchBool (result == seat.old.me.0.turns) (seat.new.me ≡ (record seat.old.me.0 { full = true }, seat.old.me.1)) (seat.new.me ≡ seat.old.me) }
+    ensures told { MatchBool (result == seat.old.me.0.turns)
+        (seat.new.me ≡ (record seat.old.me.0 { full = true }, seat.old.me.1))
+        (seat.new.me ≡ seat.old.me) }
 {
     table.shared.load::<SeeTickets>(seat, TICKETS)
 }
@@ -29,7 +31,9 @@ pub(crate) fn draw<M: Machine>(table: &LockTable<M>, seat: &mut LockSeat<M>, tic
     requires left { ticket < seat.old.me.0.turns }
     requires fits { ticket + 1 < 2 ^ 64 }
     ensures same { IsSame seat.old seat.new }
-    ensures told { MatchBool result ((seat.new.me ≡ (record seat.old.me.0 { ticket = Some ticket }, seat.old.me.1)) × (seat.old.me.0.full ≡ false)) (seat.new.me ≡ seat.old.me) }
+    ensures told { MatchBool result
+        ((seat.new.me ≡ (record seat.old.me.0 { ticket = Some ticket }, seat.old.me.1))
+        × (seat.old.me.0.full ≡ false)) (seat.new.me ≡ seat.old.me) }
 {
     table
         .shared
@@ -42,8 +46,11 @@ pub(crate) fn look<M: Machine>(table: &LockTable<M>, seat: &mut LockSeat<M>) -> 
     requires table { IsTable table.now.shared.table_id seat.old.table_id }
     requires live { (seat.old.me.0.spent ≡ false) × (seat.old.me.0.at_turn ≡ false) }
     ensures same { IsSame seat.old seat.new }
-    ensures reaches { (length seat.old.me.0.seen ≤ result) × (seat.old.me.0.front ≤ result) × (result ≤ seat.old.me.0.turns) }
-    ensures told { MatchBool (is_at result seat.old.me.0.ticket) (TakesBox M.shape M.fits M.steps seat.old.me result seat.new.me) (seat.new.me ≡ (looking seat.old.me.0 result, seat.old.me.1)) }
+    ensures reaches { (length seat.old.me.0.seen ≤ result) × (seat.old.me.0.front ≤ result)
+        × (result ≤ seat.old.me.0.turns) }
+    ensures told { MatchBool (is_at result seat.old.me.0.ticket)
+        (TakesBox M.shape M.fits M.steps seat.old.me result seat.new.me)
+        (seat.new.me ≡ (looking seat.old.me.0 result, seat.old.me.1)) }
 {
     table.shared.load::<Look>(seat, TURN)
 }
@@ -64,7 +71,8 @@ pub(crate) fn take_out<M: Machine>(table: &LockTable<M>, seat: &mut LockSeat<M>)
     requires table { IsTable table.now.shared.table_id seat.old.table_id }
     requires holds { (b : _) × (seat.old.me.1 ≡ (0, Some b) ∷ []) }
     ensures same { IsSame seat.old seat.new }
-    ensures taken { (seat.old.me.1 ≡ (0, Some result) ∷ []) × (seat.new.me ≡ (seat.old.me.0, (0, None) ∷ [])) }
+    ensures taken { (seat.old.me.1 ≡ (0, Some result) ∷ [])
+        × (seat.new.me ≡ (seat.old.me.0, (0, None) ∷ [])) }
 {
     match table.shared.exchange(seat, BOX, None) {
         Some(machine) => machine,
@@ -97,7 +105,9 @@ pub(crate) fn pass_as<M: Machine, J: Adds<M::Call, M::Reply>>(
     requires picked { J.added ≡ turn_of call.now.value reply.now ∷ [] }
     requires turn { IsTurning seat.old.me ticket }
     requires fits { ticket + 1 < 2 ^ 64 }
-    requires box_led { (b : _) × (seat.old.me.1 ≡ (0, Some b) ∷ []) × LeadsFrom M.shape M.fits M.steps seat.old.me.0.opening (seat.old.me.0.seen ++ turn_of call.now.value reply.now ∷ []) b.value }
+    requires box_led { (b : _) × (seat.old.me.1 ≡ (0, Some b) ∷ [])
+        × LeadsFrom M.shape M.fits M.steps seat.old.me.0.opening
+        (seat.old.me.0.seen ++ turn_of call.now.value reply.now ∷ []) b.value }
     ensures same { IsSame seat.old seat.new }
     ensures told { seat.new.me ≡ (passing seat.old.me.0 (turn_of call.now.value reply.now ∷ []), []) }
     ensures rest { IsAtRest seat.new.me }
@@ -124,11 +134,13 @@ pub(crate) fn cut_as<M: Machine, J: Part>(
 
 /// Joins the other seat into this one.
 pub(crate) fn glue<M: Machine>(table: &LockTable<M>, seat: &mut LockSeat<M>, other: LockSeat<M>)
-    requires table { IsTable table.now.shared.table_id seat.old.table_id × IsTable table.now.shared.table_id other.table_id }
+    requires table { IsTable table.now.shared.table_id seat.old.table_id
+        × IsTable table.now.shared.table_id other.table_id }
     requires rest { IsAtRest seat.old.me × IsAtRest other.me }
     ensures same { IsSame seat.old seat.new }
     ensures told { seat.new.me ≡ (glued seat.old.me.0 other.me.0, []) }
-    ensures line { IsPrefix (shorter seat.old.me.0.seen other.me.0.seen) (longer seat.old.me.0.seen other.me.0.seen) }
+    ensures line { IsPrefix (shorter seat.old.me.0.seen other.me.0.seen)
+        (longer seat.old.me.0.seen other.me.0.seen) }
     ensures rest { IsAtRest seat.new.me }
 {
     table.shared.join_seat::<Glue>(seat, other);

@@ -24,7 +24,9 @@ pub(crate) fn draw_ticket<M: Machine, R: Wait>(
     requires rest { IsAtRest seat.old.me }
     requires turns { seat.old.me.0.turns ≡ turns }
     ensures same { IsSame seat.old seat.new }
-    ensures drawn { IfSome result (λ k. (seat.new.me ≡ (record seat.old.me.0 { ticket = Some k }, [])) × (k < turns) × (seat.old.me.0.full ≡ false)) }
+    ensures drawn { IfSome result (λ k.
+        (seat.new.me ≡ (record seat.old.me.0 { ticket = Some k }, [])) × (k < turns)
+        × (seat.old.me.0.full ≡ false)) }
     ensures full { IfNone result (seat.new.me ≡ (record seat.old.me.0 { full = true }, [])) }
 {
     for _ in rt.forever() {
@@ -96,7 +98,9 @@ fn pass<M: Machine>(
     requires table { IsTable table.now.shared.table_id seat.old.table_id }
     requires turn { IsTurning seat.old.me ticket }
     requires fits { ticket + 1 < 2 ^ 64 }
-    requires box_led { (b : _) × (seat.old.me.1 ≡ (0, Some b) ∷ []) × LeadsFrom M.shape M.fits M.steps seat.old.me.0.opening (seat.old.me.0.seen ++ turn_of call.now.value reply.now ∷ []) b.value }
+    requires box_led { (b : _) × (seat.old.me.1 ≡ (0, Some b) ∷ [])
+        × LeadsFrom M.shape M.fits M.steps seat.old.me.0.opening
+        (seat.old.me.0.seen ++ turn_of call.now.value reply.now ∷ []) b.value }
     ensures same { IsSame seat.old seat.new }
     ensures told { seat.new.me ≡ (passing seat.old.me.0 (turn_of call.now.value reply.now ∷ []), []) }
     ensures rest { IsAtRest seat.new.me }
@@ -122,7 +126,8 @@ pub(crate) fn make_turn<M: Machine>(
     ensures same { IsSame seat.old seat.new }
     ensures told { seat.new.me ≡ (passing seat.old.me.0 (turn_of call result ∷ []), []) }
     ensures rest { IsAtRest seat.new.me }
-    ensures led { (m : M) × LeadsFrom M.shape M.fits M.steps seat.old.me.0.opening (seat.old.me.0.seen ++ turn_of call result ∷ []) m }
+    ensures led { (m : M) × LeadsFrom M.shape M.fits M.steps seat.old.me.0.opening
+        (seat.old.me.0.seen ++ turn_of call result ∷ []) m }
 {
     let asked = Snapshot::of(&call);
     let machine = take_out(table, seat);

@@ -9,4 +9,5 @@ pub record EdgeState (Inner : Type 0) : Type 0 where
 -- such a pair is stored as a pair
 abbrev pub edge_code : {Inner : Type 0} → Coded Inner → Coded (EdgeState Inner)
 edge_code {Inner} inner_code =
-    code_by (Inner × ℕ) (coded× inner_code coded_ℕ) (λ e. (e.inner, e.faults)) (λ p. record { inner = p.0; faults = p.1 }) (λ _. refl)
+    code_by (Inner × ℕ) (coded× inner_code coded_ℕ) (λ e. (e.inner, e.faults))
+    (λ p. record { inner = p.0; faults = p.1 }) (λ _. refl)

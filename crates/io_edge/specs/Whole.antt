@@ -15,13 +15,14 @@ StopsFor AtEnd count size room left before now = IsAtEnd left × (count < size) 
 StopsFor Failing count size room left before now = Rose before now × (count < size) × (count < room)
 
 -- the slice has the octets taken at its front, and no others were taken
-pub record Fills (old new : Option (List ℕ)) (before now : ℕ) (slice : List ℕ) (room : ℕ) (filled : Filled) : Type 0 where
-  pub in_slice : filled.count ≤ length slice
-  pub in_room : filled.count ≤ room
-  pub bytes : Consumes old new (take filled.count slice)
-  pub later : before ≤ now
-  pub counted : StaysCounted before now
-  pub stop : StopsFor filled.stop filled.count (length slice) room new before now
+pub record Fills (old new : Option (List ℕ)) (before now : ℕ) (slice : List ℕ) (room : ℕ) (filled : Filled) : Type 0
+  where
+    pub in_slice : filled.count ≤ length slice
+    pub in_room : filled.count ≤ room
+    pub bytes : Consumes old new (take filled.count slice)
+    pub later : before ≤ now
+    pub counted : StaysCounted before now
+    pub stop : StopsFor filled.stop filled.count (length slice) room new before now
 
 -- the whole piece was appended; or, where the sink failed, a front of it and not all
 abbrev pub PutsAll : {E : Type 0} → Option (List ℕ) → Option (List ℕ) → Result Unit E → List ℕ → Type 0

@@ -27,7 +27,13 @@ impl Model for MemSource {
 
     ghost Value = { SourceState };
 
-    ghost view = { λ a. record { left = drop a.at a.bytes.items; fails = a.fails.items; piece = a.piece; calls = a.calls; faults = a.faults } };
+    ghost view = { λ a. record {
+      left = drop a.at a.bytes.items;
+      fails = a.fails.items;
+      piece = a.piece;
+      calls = a.calls;
+      faults = a.faults;
+    } };
 
     ghost invariant = { λ a. (a.at ≤ vec_len a.bytes) × (0 < a.piece) };
 }
@@ -37,7 +43,13 @@ impl MemSource {
     /// call.
     pub fn new(bytes: Vec<u8>, fails: Vec<u64>, piece: usize) -> MemSource
         requires { 0 < piece }
-        ensures { result ≡ record { left = bytes.items; fails = fails.items; piece = piece; calls = 0; faults = 0 } }
+        ensures { result ≡ record {
+          left = bytes.items;
+          fails = fails.items;
+          piece = piece;
+          calls = 0;
+          faults = 0;
+        } }
     {
         MemSource {
             bytes,
@@ -70,10 +82,13 @@ impl Source for MemSource {
         ensures bytes { ReadConsumes (Some self.old.left) (Some self.new.left) result buf.new }
         ensures cause { HasCause self.old.faults self.new.faults result }
         ensures fails { IsErr result ↔ Contains self.old.fails (call_after self.old.calls) }
-        ensures count { IfOk result (λ n. n ≡ min (min (length buf.old) self.old.piece) (length self.old.left)) }
+        ensures count { IfOk result (λ n. n ≡ min (min (length buf.old) self.old.piece)
+            (length self.old.left)) }
         ensures given { IfOk result (λ n. buf.new ≡ take n self.old.left ++ drop n buf.old) }
-        ensures after { IfOk result (λ n. self.new ≡ record self.old { calls = call_after self.old.calls; left = drop n self.old.left }) }
-        ensures err { OnErr result (self.new ≡ record self.old { calls = call_after self.old.calls; faults = fault_after self.old.faults }) }
+        ensures after { IfOk result (λ n. self.new ≡ record self.old
+            { calls = call_after self.old.calls; left = drop n self.old.left }) }
+        ensures err { OnErr result (self.new ≡ record self.old
+            { calls = call_after self.old.calls; faults = fault_after self.old.faults }) }
     {
         self.calls = self.calls.saturating_add(1);
         if self.fails.contains(&self.calls) {
@@ -104,9 +119,17 @@ impl Model for MemSink {
 
     ghost Value = { SinkState };
 
-    ghost view = { λ a. record { written = a.bytes.items; room = a.room; fails = a.fails.items; piece = a.piece; calls = a.calls; faults = a.faults } };
+    ghost view = { λ a. record {
+      written = a.bytes.items;
+      room = a.room;
+      fails = a.fails.items;
+      piece = a.piece;
+      calls = a.calls;
+      faults = a.faults;
+    } };
 
-    ghost invariant = { λ a. (vec_len a.bytes ≤ a.room) × (a.room ≤ vec_capacity a.bytes) × (0 < a.piece) };
+    ghost invariant = { λ a. (vec_len a.bytes ≤ a.room) × (a.room ≤ vec_capacity a.bytes)
+        × (0 < a.piece) };
 }
 
 impl MemSink {
@@ -119,7 +142,14 @@ impl MemSink {
         piece: usize,
     ) -> Result<MemSink, NoMemory>
         requires { 0 < piece }
-        ensures { IfOk result (λ sink. sink ≡ record { written = []; room = room; fails = fails.items; piece = piece; calls = 0; faults = 0 }) }
+        ensures { IfOk result (λ sink. sink ≡ record {
+          written = [];
+          room = room;
+          fails = fails.items;
+          piece = piece;
+          calls = 0;
+          faults = 0;
+        }) }
     {
         let bytes = Vec::with_capacity(alloc, room)?;
         Ok(MemSink {
@@ -150,12 +180,18 @@ impl Sink for MemSink {
     fn write(&mut self, piece: &[u8]) -> Result<usize, Failed>
         requires { 0 < length piece.now }
         ensures bound { IfOk result (λ n. (0 < n) × (n ≤ length piece.now)) }
-        ensures bytes { WriteAppends (Some self.old.written) (Some self.new.written) result piece.now }
+        ensures bytes { WriteAppends (Some self.old.written) (Some self.new.written) result
+            piece.now }
         ensures cause { HasCause self.old.faults self.new.faults result }
-        ensures fails { IsErr result ↔ (Contains self.old.fails (call_after self.old.calls) ⊎ (self.old.room ≤ length self.old.written)) }
-        ensures count { IfOk result (λ n. n ≡ min (min (length piece.now) self.old.piece) (self.old.room - length self.old.written)) }
-        ensures after { IfOk result (λ n. self.new ≡ record self.old { calls = call_after self.old.calls; written = self.old.written ++ take n piece.now }) }
-        ensures err { OnErr result (self.new ≡ record self.old { calls = call_after self.old.calls; faults = fault_after self.old.faults }) }
+        ensures fails { IsErr result ↔
+            (Contains self.old.fails (call_after self.old.calls)
+            ⊎ (self.old.room ≤ length self.old.written)) }
+        ensures count { IfOk result (λ n. n ≡ min (min (length piece.now) self.old.piece)
+            (self.old.room - length self.old.written)) }
+        ensures after { IfOk result (λ n. self.new ≡ record self.old
+            { calls = call_after self.old.calls; written = self.old.written ++ take n piece.now }) }
+        ensures err { OnErr result (self.new ≡ record self.old
+            { calls = call_after self.old.calls; faults = fault_after self.old.faults }) }
     {
         self.calls = self.calls.saturating_add(1);
         let free = self.room - self.bytes.len();

@@ -27,7 +27,8 @@ pub struct Filled {
 /// Reads into the front of `out` until it is full, `room` octets are taken, the source is at its end, or it fails.
 /// The source is never asked for an octet more than `out` and `room` allow.
 pub fn fill<S: Source>(source: &mut S, out: &mut [u8], room: u64) -> Filled
-    ensures { Fills (S.left source.old) (S.left source.new) (S.faults source.old) (S.faults source.new) out.new room result }
+    ensures { Fills (S.left source.old) (S.left source.new) (S.faults source.old)
+        (S.faults source.new) out.new room result }
 {
     let mut count = 0;
     while count < out.len() {

@@ -2,3 +2,4 @@ mod FrameLemmas
 mod PacketLemmas
 mod ReadingLemmas
 mod SpellingLemmas
+mod StreamLemmas

@@ -9,6 +9,10 @@ use Rattle.rtp_wire.specs.declared.frames.FrameEnd.{FrameEnd}
 use Rattle.rtp_wire.specs.declared.frames.FrameEnd.TheVariants.{End, Cut, Fault, Limit}
 use denote.Ref.{Bor}
 
+-- the most octets of a packet
+abbrev pub longest_packet : ℕ
+longest_packet = 65535
+
 -- a packet as it stands on the stream
 abbrev pub frame : List ℕ → List ℕ
 frame packet = big_bytes 2 (length packet) ++ packet
@@ -53,7 +57,8 @@ next_frame left taken budget =
 abbrev pub Framed : List ℕ → ℕ → ℕ → List (List ℕ) → FrameEnd → Type 0
 Framed left taken budget [] end = next_frame left taken budget ≡ Err end
 Framed left taken budget (packet ∷ packets) end =
-    (next_frame left taken budget ≡ Ok packet) × Framed (drop (length packet + 2) left) (taken + length packet + 2) budget packets end
+    (next_frame left taken budget ≡ Ok packet)
+    × Framed (drop (length packet + 2) left) (taken + length packet + 2) budget packets end
 
 -- a stream of whole frames, and behind them less than one
 abbrev pub stream_of : List (List ℕ) → List ℕ → List ℕ
@@ -63,9 +68,11 @@ stream_of packets rest = flat_map frame packets ++ rest
 -- or inside one at the number of its octets. The budget has to be greater than the octets.
 abbrev pub LawOfStreams : Type 0
 LawOfStreams =
-    (packets : List (List ℕ)) (rest : List ℕ) (taken budget : ℕ) → AllByRecursion HasFrame packets → IsPartial rest
+    (packets : List (List ℕ)) (rest : List ℕ) (taken budget : ℕ) → AllByRecursion HasFrame packets
+    → IsPartial rest
     → taken + length (stream_of packets rest) < budget
-    → Framed (stream_of packets rest) taken budget packets (end_before rest (taken + length (stream_of packets rest)))
+    → Framed (stream_of packets rest) taken budget packets
+    (end_before rest (taken + length (stream_of packets rest)))
 
 -- a framer, as its callers see it: the octets taken in all, the most that it may take, and how it ended, once it did
 pub record FramerState : Type 0 where
@@ -81,9 +88,11 @@ end_of (Err end) = Some end
 -- the source's faults before and after
 abbrev pub TakesFrame : Result (List ℕ) FrameEnd → List ℕ → Option (List ℕ) → ℕ → ℕ → ℕ → ℕ → Type 0
 -- a whole frame was taken and no octet more
-TakesFrame (Ok packet) took left taken budget before now = (took ≡ frame packet) × HasFrame packet × (now ≡ before)
+TakesFrame (Ok packet) took left taken budget before now = (took ≡ frame packet) × HasFrame packet
+    × (now ≡ before)
 -- the source ended between two frames
-TakesFrame (Err End) took left taken budget before now = (took ≡ []) × IsAtEnd left × (taken < budget) × (now ≡ before)
+TakesFrame (Err End) took left taken budget before now = (took ≡ []) × IsAtEnd left × (taken < budget)
+    × (now ≡ before)
 -- the source ended inside a frame; the place is the number of octets taken in all
 TakesFrame (Err (Cut place)) took left taken budget before now =
     (place ≡ taken) × (0 < length took) × IsPartial took × IsAtEnd left × (taken < budget) × (now ≡ before)
@@ -93,7 +102,8 @@ TakesFrame (Err Limit) took left taken budget before now = (taken ≡ budget) ×
 TakesFrame (Err Fault) took left taken budget before now = Rose before now × IsPartial took × (taken < budget)
 
 -- a call that may ask: it took octets from the source, which say what it answers
-pub record TakesOne (source rest : Option (List ℕ)) (before now taken_before taken_now budget : ℕ) (result : Result (List ℕ) FrameEnd) : Type 0 where
+pub record TakesOne (source rest : Option (List ℕ)) (before now taken_before taken_now budget : ℕ)
+    (result : Result (List ℕ) FrameEnd) : Type 0 where
   pub took : List ℕ
   pub bytes : Consumes source rest took
   pub taken : taken_now ≡ taken_before + length took
@@ -101,24 +111,30 @@ pub record TakesOne (source rest : Option (List ℕ)) (before now taken_before t
   pub answer : TakesFrame result took rest taken_now budget before now
 
 -- a call of a framer that has not ended
-pub record ReadsFrame (source rest : Option (List ℕ)) (before now : ℕ) (old new : FramerState) (result : Result (List ℕ) FrameEnd) : Type 0 where
+pub record ReadsFrame (source rest : Option (List ℕ)) (before now : ℕ) (old new : FramerState)
+    (result : Result (List ℕ) FrameEnd) : Type 0 where
   pub frame_taken : TakesOne source rest before now old.taken new.taken old.budget result
   pub budget : new.budget ≡ old.budget
   pub ended : new.ended ≡ end_of result
 
 -- a call of a framer that has ended: it answers the same end again, and changes nothing
-pub record StaysEnded (source rest : Option (List ℕ)) (before now : ℕ) (old new : FramerState) (end : FrameEnd) (result : Result (List ℕ) FrameEnd) : Type 0 where
+pub record StaysEnded (source rest : Option (List ℕ)) (before now : ℕ) (old new : FramerState)
+    (end : FrameEnd) (result : Result (List ℕ) FrameEnd) : Type 0 where
   pub answer : result ≡ Err end
   pub framer : new ≡ old
   pub bytes : Keeps source rest
   pub faults : now ≡ before
 
-abbrev pub ReadsOrStays : Option FrameEnd → (source rest : Option (List ℕ)) (before now : ℕ) (old new : FramerState) (result : Result (List ℕ) FrameEnd) → Type 0
+abbrev pub ReadsOrStays : Option FrameEnd
+    → (source rest : Option (List ℕ)) (before now : ℕ) (old new : FramerState)
+    (result : Result (List ℕ) FrameEnd) → Type 0
 ReadsOrStays None source rest before now old new result = ReadsFrame source rest before now old new result
-ReadsOrStays (Some end) source rest before now old new result = StaysEnded source rest before now old new end result
+ReadsOrStays (Some end) source rest before now old new result =
+    StaysEnded source rest before now old new end result
 
 -- what a call of a framer does
-abbrev pub CallsNext : (source rest : Option (List ℕ)) (before now : ℕ) (old new : FramerState) (result : Result (List ℕ) FrameEnd) → Type 0
+abbrev pub CallsNext : (source rest : Option (List ℕ)) (before now : ℕ) (old new : FramerState)
+    (result : Result (List ℕ) FrameEnd) → Type 0
 CallsNext source rest before now old new result = ReadsOrStays old.ended source rest before now old new result
 
 -- the packet behind the borrow that the call gives
@@ -135,5 +151,47 @@ in_buffer buffer (Err end) = Err end
 -- fails.
 abbrev pub LawOfAnswers : Type 0
 LawOfAnswers =
-    (left : List ℕ) (rest : Option (List ℕ)) (before now : ℕ) (old new : FramerState) (result : Result (List ℕ) FrameEnd) → old.ended ≡ None
-    → CallsNext (Some left) rest before now old new result → (result ≡ Err Fault) ⊎ (result ≡ next_frame left old.taken old.budget)
+    (left : List ℕ) (rest : Option (List ℕ)) (before now : ℕ) (old new : FramerState)
+    (result : Result (List ℕ) FrameEnd) → old.ended ≡ None
+    → CallsNext (Some left) rest before now old new result → (result ≡ Err Fault)
+    ⊎ (result ≡ next_frame left old.taken old.budget)
+
+-- the octets are these frames, and behind them less than one
+pub record IsStream (octets : List ℕ) (packets : List (List ℕ)) (rest : List ℕ) : Type 0 where
+  pub cut : octets ≡ stream_of packets rest
+  pub frames : AllByRecursion HasFrame packets
+  pub part : IsPartial rest
+
+-- octets are so in one way at most
+abbrev pub LawOfOneStream : Type 0
+LawOfOneStream =
+    (octets : List ℕ) (packets others : List (List ℕ)) (rest end : List ℕ)
+    → IsStream octets packets rest → IsStream octets others end → (packets ≡ others) × (rest ≡ end)
+
+-- a framer has given these packets of a stream; so many octets are taken, and these are left
+pub record HasFramed (stream : List ℕ) (packets : List (List ℕ)) (taken : ℕ) (left : List ℕ) : Type 0 where
+  pub cut : stream ≡ stream_of packets left
+  pub frames : AllByRecursion HasFrame packets
+  pub counted : taken ≡ length (flat_map frame packets)
+
+-- the stream where a call behind these packets answered this
+abbrev pub AfterFrame : List ℕ → List (List ℕ) → Option (List ℕ) → FramerState → Result (List ℕ) FrameEnd
+    → Type 0
+AfterFrame stream packets rest new (Ok packet) =
+    (left : List ℕ) × (rest ≡ Some left) × HasFramed stream (packets ++ packet ∷ []) new.taken left
+AfterFrame stream packets rest new (Err End) = IsStream stream packets []
+AfterFrame stream packets rest new (Err (Cut place)) =
+    (part : List ℕ) × IsStream stream packets part × (0 < length part) × (place ≡ length stream)
+-- the octets that were taken, as a stream of their own
+AfterFrame stream packets rest new (Err Limit) =
+    (new.taken ≡ new.budget) × ((part : List ℕ) × IsStream (take new.taken stream) packets part)
+AfterFrame stream packets rest new (Err Fault) = (part : List ℕ)
+    × IsStream (take new.taken stream) packets part
+
+-- Where the source tells its octets, a framer gives the packets of the stream that they are, frame by frame.
+abbrev pub LawOfCalls : Type 0
+LawOfCalls =
+    (stream : List ℕ) (packets : List (List ℕ)) (left : List ℕ) (rest : Option (List ℕ)) (before now : ℕ)
+    (old new : FramerState)
+    (result : Result (List ℕ) FrameEnd) → HasFramed stream packets old.taken left → old.ended ≡ None
+    → CallsNext (Some left) rest before now old new result → AfterFrame stream packets rest new result

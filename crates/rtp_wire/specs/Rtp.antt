@@ -64,7 +64,8 @@ is_not_empty (_ ∷ _) = true
 
 -- V 2 bits, P 1, X 1, CC 4
 abbrev pub first_octet : Parts → ℕ
-first_octet p = 2 * 64 + flag (is_not_empty p.padding) 32 + flag (is_there p.extension) 16 + length p.sources / 4
+first_octet p = 2 * 64 + flag (is_not_empty p.padding) 32 + flag (is_there p.extension) 16 + length p.sources
+    / 4
 
 -- M 1 bit, PT 7
 abbrev pub second_octet : Fields → ℕ
@@ -77,7 +78,8 @@ extension_octets (Some e) = big_bytes 2 e.profile ++ (big_bytes 2 (length e.word
 -- the octets of a packet, in the order in which they are sent
 abbrev pub octets_of : Parts → List ℕ
 octets_of p =
-    first_octet p ∷ second_octet p.fields ∷ (big_bytes 2 p.fields.seq ++ (big_bytes 4 p.fields.stamp ++ (big_bytes 4 p.fields.ssrc
+    first_octet p ∷ second_octet p.fields ∷
+    (big_bytes 2 p.fields.seq ++ (big_bytes 4 p.fields.stamp ++ (big_bytes 4 p.fields.ssrc
     ++ (p.sources ++ (extension_octets p.extension ++ (p.fields.payload ++ p.padding))))))
 
 -- a packet with no CSRC list, no extension and no padding
@@ -108,7 +110,8 @@ headers_end octets = if has_extension octets then extension_end octets else sour
 
 -- the extension or its length does not stand there whole
 abbrev pub extension_is_cut : List ℕ → Bool
-extension_is_cut octets = has_extension octets && (nat_lt (length octets) (sources_end octets + 4) || nat_lt (length octets) (extension_end octets))
+extension_is_cut octets = has_extension octets &&
+    (nat_lt (length octets) (sources_end octets + 4) || nat_lt (length octets) (extension_end octets))
 
 -- what stands behind the headers
 abbrev pub body : List ℕ → List ℕ
@@ -120,7 +123,8 @@ last_octet octets = slice_index octets (length octets - 1)
 
 -- the padding has no octets, or more than stand behind the headers
 abbrev pub is_bad_padding : Bool → List ℕ → Bool
-is_bad_padding is_padded behind = is_padded && ((last_octet behind == 0) || nat_lt (length behind) (last_octet behind))
+is_bad_padding is_padded behind =
+    is_padded && ((last_octet behind == 0) || nat_lt (length behind) (last_octet behind))
 
 -- what stands behind the headers without the padding
 abbrev pub unpadded : Bool → List ℕ → List ℕ
@@ -157,7 +161,15 @@ packet_of octets = read_unless (refusal octets) (fields_of octets)
 
 -- what contracts see of a packet that was read
 abbrev pub seen : Packet → Fields
-seen p = record { marker = p.marker; kind = p.kind; seq = p.seq; stamp = p.stamp; ssrc = p.ssrc; payload = p.payload.now }
+seen p = record {
+  marker = p.marker;
+  kind = p.kind;
+  seq = p.seq;
+  stamp = p.stamp;
+  ssrc = p.ssrc;
+  payload =
+      p.payload.now;
+}
 
 abbrev pub AreOctets : List ℕ → Type 0
 AreOctets octets = (i : ℕ) → slice_index octets i < 256
@@ -168,9 +180,11 @@ IsPacketOf octets fields = (p : Parts) × IsPacket p × (p.fields ≡ fields) ×
 
 -- octets are read as these fields exactly where they are those of a packet with them
 abbrev pub LawOfPackets : Type 0
-LawOfPackets = (octets : List ℕ) (fields : Fields) → AreOctets octets → (packet_of octets ≡ Ok fields) ↔ IsPacketOf octets fields
+LawOfPackets = (octets : List ℕ) (fields : Fields) → AreOctets octets
+    → (packet_of octets ≡ Ok fields) ↔ IsPacketOf octets fields
 
 -- a plain header with a payload behind it is read as its fields and that payload
 abbrev pub LawOfPlainPackets : Type 0
 LawOfPlainPackets =
-    (fields : Fields) → AreFields fields → packet_of (octets_of (plain (record fields { payload = [] })) ++ fields.payload) ≡ Ok fields
+    (fields : Fields) → AreFields fields
+    → packet_of (octets_of (plain (record fields { payload = [] })) ++ fields.payload) ≡ Ok fields

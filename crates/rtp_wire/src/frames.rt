@@ -4,7 +4,7 @@ ghost use Rattle.std.specs.Borrow.{sem};
 ghost use Rattle.std.specs.Io.BufRead.{Rests};
 ghost use Rattle.byteorder.specs.Endian.{big_bytes};
 ghost use Rattle.io_edge.specs.Causes.{StaysCounted};
-ghost use Rattle.rtp_wire.specs.Frames.{TakesOne, CallsNext, shown, in_buffer};
+ghost use Rattle.rtp_wire.specs.Frames.{longest_packet, TakesOne, CallsNext, shown, in_buffer};
 ghost use Rattle.rtp_wire.specs.Stops.{end_for};
 ghost use Rattle.rtp_wire.specs.contracts.frames.Framer.{the_row};
 
@@ -46,19 +46,20 @@ pub struct Framer {
 
 impl Model for Framer {
     ghost use Rattle.std.specs.Prelude.{◌≡◌, ◌≤◌, vec_len};
-    ghost use Rattle.rtp_wire.specs.Frames.{FramerState};
+    ghost use Rattle.rtp_wire.specs.Frames.{FramerState, longest_packet};
 
     ghost Value = { FramerState };
 
     ghost view = { λ a. record { taken = a.taken; budget = a.budget; ended = a.ended } };
 
-    ghost invariant = { λ a. (vec_len a.packet ≡ 65535) × (a.taken ≤ a.budget) };
+    ghost invariant = { λ a. (vec_len a.packet ≡ longest_packet) × (a.taken ≤ a.budget) };
 }
 
 impl Framer {
     /// A framer that may take `budget` octets, frame lengths included. It takes all its memory here.
     pub fn reserve(alloc: Global, budget: u64) -> Result<Framer, NoMemory>
-        ensures { IfOk result (λ framer. framer ≡ record { taken = 0; budget = budget; ended = None }) }
+        ensures { IfOk result (λ framer. framer ≡ record
+            { taken = 0; budget = budget; ended = None }) }
     {
         Ok(Framer {
             packet: vec![in alloc; 0; LONGEST]?,
@@ -79,7 +80,8 @@ impl Framer {
     /// end and asks for nothing.
     pub fn next<S: Source>(&mut self, source: &mut S) -> Result<&[u8], FrameEnd>
         ensures* after { sem 𝓛 (Rests the_row self.entry (λ new.
-            CallsNext (S.left source.old) (S.left source.new) (S.faults source.old) (S.faults source.new) self.old new (shown result))) }
+            CallsNext (S.left source.old) (S.left source.new) (S.faults source.old)
+            (S.faults source.new) self.old new (shown result))) }
         ensures later { S.faults source.old ≤ S.faults source.new }
         ensures counted { StaysCounted (S.faults source.old) (S.faults source.new) }
     {
@@ -104,12 +106,13 @@ fn read_frame<S: Source>(
     taken: &mut u64,
     budget: u64,
 ) -> Result<usize, FrameEnd>
-    requires room { length packet.old ≡ 65535 }
+    requires room { length packet.old ≡ longest_packet }
     requires within { taken.old ≤ budget }
     ensures later { S.faults source.old ≤ S.faults source.new }
     ensures counted { StaysCounted (S.faults source.old) (S.faults source.new) }
     ensures size { IfOk result (λ size. size ≤ length packet.new) }
-    ensures frame { TakesOne (S.left source.old) (S.left source.new) (S.faults source.old) (S.faults source.new) taken.old taken.new budget (in_buffer packet.new result) }
+    ensures frame { TakesOne (S.left source.old) (S.left source.new) (S.faults source.old)
+        (S.faults source.new) taken.old taken.new budget (in_buffer packet.new result) }
 {
     let mut length = [0; 2];
     let head = fill(source, &mut length, budget - *taken);

@@ -1,6 +1,6 @@
 //! The RTP packet: its fixed header, what may follow it, and its payload (RFC 3550, 5.1 and 5.3.1).
 ghost use Rattle.std.specs.Prelude.{◌≡◌, ◌+◌, ◌*◌, ◌<◌, ◌≤◌, ◌++◌, [], Ok, Err, drop, length, true, false, MatchResult, MatchOption, IfOk, IsOkAnd};
-ghost use Rattle.rtp_wire.specs.Rtp.{octets_of, plain, seen, packet_of, fields_of, sources_end as end_of_sources, has_padding, extension_is_cut, body, is_bad_padding, unpadded};
+ghost use Rattle.rtp_wire.specs.Rtp.{octets_of, plain, seen, packet_of, fields_of, sources_end, has_padding, extension_is_cut, body, is_bad_padding, unpadded};
 
 use byteorder::{BigEndian, ByteOrder};
 use thiserror::Error;
@@ -40,7 +40,8 @@ pub enum PacketFault {
 #[tactic(auto, unfolding(crate::specs::Rtp::packet_of, crate::specs::Rtp::refusal, crate::specs::Rtp::fields_of))]
 pub fn read_packet(bytes: &[u8]) -> Result<Packet<'_>, PacketFault>
     // Which refusal, or which fields.
-    ensures exact { MatchResult result (λ p. packet_of bytes.now ≡ Ok (seen p)) (λ e. packet_of bytes.now ≡ Err e) }
+    ensures exact { MatchResult result (λ p. packet_of bytes.now ≡ Ok (seen p))
+        (λ e. packet_of bytes.now ≡ Err e) }
 {
     if bytes.len() < FIXED {
         return Err(PacketFault::Short);
@@ -79,7 +80,7 @@ fn with_payload<'a>(bytes: &[u8], payload: &'a [u8]) -> Packet<'a>
 /// Where the list of contributing sources ends.
 fn sources_end(bytes: &[u8]) -> usize
     requires { 0 < length bytes.now }
-    ensures { result ≡ end_of_sources bytes.now }
+    ensures { result ≡ sources_end bytes.now }
 {
     FIXED + 4 * (bytes[0] & 0x0f) as usize
 }
@@ -87,7 +88,7 @@ fn sources_end(bytes: &[u8]) -> usize
 /// What stands behind the headers, if the extension is whole.
 fn after_headers(bytes: &[u8]) -> Option<&[u8]>
     requires first { 0 < length bytes.now }
-    requires sources { end_of_sources bytes.now ≤ length bytes.now }
+    requires sources { sources_end bytes.now ≤ length bytes.now }
     ensures { MatchOption result (extension_is_cut bytes.now ≡ true)
         (λ rest. (extension_is_cut bytes.now ≡ false) × (rest.now ≡ body bytes.now)) }
 {
@@ -116,7 +117,8 @@ fn is_padded(bytes: &[u8]) -> bool
 /// What stands behind the headers without the padding, if there is padding and it is as long as it says.
 fn without_padding(body: &[u8], is_padded: bool) -> Option<&[u8]>
     ensures { MatchOption result (is_bad_padding is_padded body.now ≡ true)
-        (λ rest. (is_bad_padding is_padded body.now ≡ false) × (rest.now ≡ unpadded is_padded body.now)) }
+        (λ rest. (is_bad_padding is_padded body.now ≡ false)
+        × (rest.now ≡ unpadded is_padded body.now)) }
 {
     if !is_padded {
         return Some(body);
@@ -134,7 +136,15 @@ const H261: u16 = 31;
 /// Writes the fixed header (RFC 3550, 5.1) of a packet of H.261, payload type 31, with no sources, no extension and no
 /// padding.
 pub fn write_header(marker: bool, seq: u16, stamp: u32, ssrc: u32, out: &mut [u8; 12])
-    ensures { out.new ≡ octets_of (plain (record { marker = marker; kind = 31; seq = seq; stamp = stamp; ssrc = ssrc; payload = [] })) }
+    ensures { out.new ≡ octets_of (plain
+        (record {
+          marker = marker;
+          kind = 31;
+          seq = seq;
+          stamp = stamp;
+          ssrc = ssrc;
+          payload = [];
+        })) }
 {
     write_fields(marker, seq, stamp, ssrc, out);
 }
@@ -142,7 +152,15 @@ pub fn write_header(marker: bool, seq: u16, stamp: u32, ssrc: u32, out: &mut [u8
 /// Writes the fixed header over the front of `out`.
 fn write_fields(marker: bool, seq: u16, stamp: u32, ssrc: u32, out: &mut [u8])
     requires { length out.old ≡ 12 }
-    ensures { out.new ≡ octets_of (plain (record { marker = marker; kind = 31; seq = seq; stamp = stamp; ssrc = ssrc; payload = [] })) }
+    ensures { out.new ≡ octets_of (plain
+        (record {
+          marker = marker;
+          kind = 31;
+          seq = seq;
+          stamp = stamp;
+          ssrc = ssrc;
+          payload = [];
+        })) }
 {
     // version 2, and nothing else in the first octet
     let kind = 0x8000 | if marker { 0x80 | H261 } else { H261 };

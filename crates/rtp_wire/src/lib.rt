@@ -8,7 +8,8 @@ mod laws;
 pub use frames::{FrameEnd, Framer};
 pub use header::{Packet, PacketFault, read_packet, write_header};
 pub use laws::{
-    answers_of_a_framer, frames_of_a_stream, octets_of_packets, written_headers_are_read,
+    answers_of_a_framer, frames_of_a_stream, octets_of_packets, one_stream, streams_are_framed,
+    written_headers_are_read,
 };
 
 #[cfg(test)]

@@ -9,7 +9,8 @@ use Rattle.pel_model.specs.Plan.{stage, at, answer, changed, is_done}
 -- no lane stands in two places
 abbrev pub OnePlace : Type 0
 OnePlace =
-    (lanes : ℕ) (commands : List Command) (p q : Quad) (c : ℕ) → at lanes commands p ≡ Some c → at lanes commands q ≡ Some c → p ≡ q
+    (lanes : ℕ) (commands : List Command) (p q : Quad) (c : ℕ) → at lanes commands p ≡ Some c
+    → at lanes commands q ≡ Some c → p ≡ q
 
 -- a lane that stands in a place is one of the conference
 abbrev pub StandingLanes : Type 0

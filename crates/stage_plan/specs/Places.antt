@@ -33,7 +33,8 @@ ranked ranks = count_by (λ r. nat_lt 0 r) ranks
 pub record IsRanking (ranks : List ℕ) : Type 0 where
   pub lanes : length ranks ≡ 16
   pub bound : (c : ℕ) → c < 16 → slice_index ranks c ≤ ranked ranks
-  pub differ : (c d : ℕ) → c < 16 → d < 16 → slice_index ranks c ≡ slice_index ranks d → (slice_index ranks c ≡ 0) ⊎ (c ≡ d)
+  pub differ : (c d : ℕ) → c < 16 → d < 16 → slice_index ranks c ≡ slice_index ranks d → (slice_index ranks c ≡ 0)
+      ⊎ (c ≡ d)
 
 -- what holds of every plan
 pub record IsPlan (plan : PlanView) : Type 0 where

@@ -3,8 +3,8 @@
 ghost use Rattle.std.specs.Prelude.{◌≡◌, ◌<◌, ◌≤◌, ℕ, false, [], ◌∷◌, List, map, not, ◌&&◌, ◌||◌, is_none, IfSome};
 ghost use Rattle.std.specs.Option.{option_or};
 ghost use Rattle.std.specs.List.{list_all};
-ghost use Rattle.pel_model.specs.declared.Quad.{Quad as TheQuad};
-ghost use Rattle.pel_model.specs.declared.chair.Command.{Command as TheCommand};
+ghost use Rattle.pel_model.specs.declared.Quad.{Quad};
+ghost use Rattle.pel_model.specs.declared.chair.Command.{Command};
 ghost use Rattle.pel_model.specs.Plan.{places, is_same, is_lane, without, answer, is_same_lane};
 ghost use Rattle.stage_plan.specs.PerPlace.{in_place, in_all};
 
@@ -33,9 +33,22 @@ impl Model for Plan {
 
     ghost Value = { PlanView };
 
-    ghost view = { λ a. record { lanes = a.lanes; seats = a.seats; pins = a.pins; ranks = a.ranks; changes = a.changes } };
+    ghost view = { λ a. record {
+      lanes = a.lanes;
+      seats = a.seats;
+      pins = a.pins;
+      ranks = a.ranks;
+      changes = a.changes;
+    } };
 
-    ghost invariant = { λ a. IsPlan (record { lanes = a.lanes; seats = a.seats; pins = a.pins; ranks = a.ranks; changes = a.changes }) };
+    ghost invariant = { λ a. IsPlan
+        (record {
+          lanes = a.lanes;
+          seats = a.seats;
+          pins = a.pins;
+          ranks = a.ranks;
+          changes = a.changes;
+        }) };
 }
 
 /// Whether the places are one place.
@@ -61,7 +74,7 @@ fn without(seat: Option<u8>, lane: u8) -> Option<u8>
 
 /// All seats, without this lane.
 fn all_without(seats: PerPlace<Option<u8>>, lane: u8) -> PerPlace<Option<u8>>
-    ensures { (q : TheQuad) → in_place result q ≡ without lane (in_place seats q) }
+    ensures { (q : Quad) → in_place result q ≡ without lane (in_place seats q) }
 {
     PerPlace {
         one: without(seats.one, lane),
@@ -80,7 +93,8 @@ fn is_changed(before: Option<u8>, after: Option<u8>) -> bool
 
 /// The places whose lanes differ.
 fn changes(before: PerPlace<Option<u8>>, after: PerPlace<Option<u8>>) -> PerPlace<bool>
-    ensures { (q : TheQuad) → in_place result q ≡ not (is_same_lane (in_place after q) (in_place before q)) }
+    ensures { (q : Quad) → in_place result q ≡ not
+        (is_same_lane (in_place after q) (in_place before q)) }
 {
     PerPlace {
         one: is_changed(before.one, after.one),
@@ -116,7 +130,8 @@ impl Plan {
     /// The lane that stands in a place.
     pub fn at(&self, place: Quad) -> Option<u8>
         ensures lane { result ≡ lane_in self.now place }
-        ensures stands { (H : List TheCommand) → StandsFor self.now H → result ≡ at self.now.lanes H place }
+        ensures stands { (H : List Command) → StandsFor self.now H
+            → result ≡ at self.now.lanes H place }
     {
         self.seats.of(place)
     }
@@ -125,7 +140,8 @@ impl Plan {
     /// and in a new plan.
     pub fn changed(&self) -> [bool; 4]
         ensures changes { result ≡ map (in_place self.now.changes) places }
-        ensures stands { (H : List TheCommand) → StandsFor self.now H → result ≡ map (changed self.now.lanes H) places }
+        ensures stands { (H : List Command) → StandsFor self.now H
+            → result ≡ map (changed self.now.lanes H) places }
     {
         [
             self.changes.one,
@@ -190,7 +206,8 @@ impl Plan {
 
     /// The place that a speaker takes who stands in none.
     fn place_for_speaker(&self) -> Option<Quad>
-        ensures { result ≡ option_or (vacant_place (stage_of self.now [])) (quietest_by (is_pinned self.now) (is_ranked_below self.now)) }
+        ensures { result ≡ option_or (vacant_place (stage_of self.now []))
+            (quietest_by (is_pinned self.now) (is_ranked_below self.now)) }
     {
         self.vacant_place().or(self.quietest_place())
     }
@@ -224,7 +241,8 @@ impl Plan {
 
     /// Whether an exchange of the two places would leave all as it is.
     fn is_idle_swap(&self, first: Quad, second: Quad) -> bool
-        ensures { result ≡ (is_same first second || (is_none (lane_in self.now first) && is_none (lane_in self.now second))) }
+        ensures { result ≡ (is_same first second ||
+            (is_none (lane_in self.now first) && is_none (lane_in self.now second))) }
     {
         is_same(first, second)
             || (self.seats.of(first).is_none() && self.seats.of(second).is_none())
@@ -246,7 +264,8 @@ impl Plan {
 
     /// Whether the speaker stands in no place and all four are pinned.
     fn is_shut_out(&self, lane: u8) -> bool
-        ensures { result ≡ (not (is_standing (stage_of self.now []) lane) && list_all (is_pinned self.now) places) }
+        ensures { result ≡ (not (is_standing (stage_of self.now []) lane) && list_all
+            (is_pinned self.now) places) }
     {
         !self.is_standing(lane) && self.is_all_pinned()
     }
@@ -254,9 +273,10 @@ impl Plan {
     /// The seats, with one for this speaker: its own, or the one that is found for it.
     fn seats_with(&self, lane: u8) -> PerPlace<Option<u8>>
         requires { lane < self.now.lanes }
-        ensures seats { (speakers : List ℕ) → IsInOrder self.now speakers → (q : TheQuad) → in_place result q
+        ensures seats { (speakers : List ℕ) → IsInOrder self.now speakers → (q : Quad)
+            → in_place result q
             ≡ (carried_out (stage_of self.now speakers) (Speaker lane)).lane_in q }
-        ensures seated { (q : TheQuad) → IfSome (in_place result q) (λ c. c < self.now.lanes) }
+        ensures seated { (q : Quad) → IfSome (in_place result q) (λ c. c < self.now.lanes) }
     {
         let mut seats = self.seats;
         if self.is_standing(lane) {
@@ -322,9 +342,12 @@ impl Plan {
     /// are pinned.
     pub fn apply(&mut self, command: Command) -> Reply
         ensures lanes { self.new.lanes ≡ self.old.lanes }
-        ensures reply { (H : List TheCommand) → StandsFor self.old H → result ≡ answer self.old.lanes H command }
-        ensures stands { (H : List TheCommand) → StandsFor self.old H → StandsFor self.new (command ∷ H) }
-        ensures refused { is_done result ≡ false → IsUnmoved self.old self.new × (self.new.changes ≡ in_all false) }
+        ensures reply { (H : List Command) → StandsFor self.old H
+            → result ≡ answer self.old.lanes H command }
+        ensures stands { (H : List Command) → StandsFor self.old H
+            → StandsFor self.new (command ∷ H) }
+        ensures refused { is_done result ≡ false → IsUnmoved self.old self.new
+            × (self.new.changes ≡ in_all false) }
     {
         let before = self.seats;
         let reply = self.obey(command);

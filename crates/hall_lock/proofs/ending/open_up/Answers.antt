@@ -22,5 +22,6 @@ returns g c =
       history = subst (λ (b : Box g.row.M.Denot Global). LeadsFrom g.M.Machine.shape g.M.Machine.fits g.M.Machine.steps v.opening v.seen b.value) box end.leads;
       turns = (count, subst (λ (k : ℕ). v.front ≤ k) (sym count) end.front);
       places = subst (λ (k : ℕ). EachOnce k (v.mine ++ v.past)) (sym count) end.places;
+      within = subst (λ (k : ℕ). k ≤ v.turns) (sym count) end.within;
       full = λ e. count ∙ end.full e;
     }

@@ -9,49 +9,49 @@ use Rattle.chair_words.proofs.words.Words.command.Goals as goal
 
 pub returns-in_err-place-in-Place-clause-read : goal.returns-in_err-place-in-Place-clause-read
 returns-in_err-place-in-Place-clause-read c =
-    first_wanting _ _ (word_of c.args.name.place c.args.name.text.now) _ _ _ (Place One 0) a_place (a_lane ∷ [])
+    first_wanting _ _ (word_of c.args.name.start c.args.name.text.now) _ _ _ (Place One 0) a_place (a_lane ∷ [])
     c.from_residual.ensures.1 (c.in-Some.ensures ∙ ap text_of c.in-Place.is) refl
     c.in_err-place-in-Place.ensures.read
 
 pub returns-in_err-place-in-Clear-clause-read : goal.returns-in_err-place-in-Clear-clause-read
 returns-in_err-place-in-Clear-clause-read c =
-    first_wanting _ _ (word_of c.args.name.place c.args.name.text.now) _ _ _ (Clear One) a_place []
+    first_wanting _ _ (word_of c.args.name.start c.args.name.text.now) _ _ _ (Clear One) a_place []
     c.from_residual-in_err-place-in-Clear.ensures.1 (c.in-Some.ensures ∙ ap text_of c.in-Clear.is) refl
     c.in_err-place-in-Clear.ensures.read
 
 pub returns-in_err-place-in-Swap-clause-read : goal.returns-in_err-place-in-Swap-clause-read
 returns-in_err-place-in-Swap-clause-read c =
-    first_wanting _ _ (word_of c.args.name.place c.args.name.text.now) _ _ _ (Swap One One) a_place (a_place ∷ [])
+    first_wanting _ _ (word_of c.args.name.start c.args.name.text.now) _ _ _ (Swap One One) a_place (a_place ∷ [])
     c.from_residual-in_err-place-in-Swap.ensures.1 (c.in-Some.ensures ∙ ap text_of c.in-Swap.is) refl
     c.in_err-place-in-Swap.ensures.read
 
 pub returns-in_err-lane-in-Speaker-clause-read : goal.returns-in_err-lane-in-Speaker-clause-read
 returns-in_err-lane-in-Speaker-clause-read c =
-    first_wanting _ _ (word_of c.args.name.place c.args.name.text.now) _ _ _ (Speaker 0) a_lane []
+    first_wanting _ _ (word_of c.args.name.start c.args.name.text.now) _ _ _ (Speaker 0) a_lane []
     c.from_residual-in_err-lane-in-Speaker.ensures.1 (c.in-Some.ensures ∙ ap text_of c.in-Speaker.is) refl
     c.in_err-lane-in-Speaker.ensures.read
 
 pub returns-in_err-place-in-Pin-clause-read : goal.returns-in_err-place-in-Pin-clause-read
 returns-in_err-place-in-Pin-clause-read c =
-    first_wanting _ _ (word_of c.args.name.place c.args.name.text.now) _ _ _ (Pin One) a_place []
+    first_wanting _ _ (word_of c.args.name.start c.args.name.text.now) _ _ _ (Pin One) a_place []
     c.from_residual-in_err-place-in-Pin.ensures.1 (c.in-Some.ensures ∙ ap text_of c.in-Pin.is) refl
     c.in_err-place-in-Pin.ensures.read
 
 pub returns-in_err-place-in-Unpin-clause-read : goal.returns-in_err-place-in-Unpin-clause-read
 returns-in_err-place-in-Unpin-clause-read c =
-    first_wanting _ _ (word_of c.args.name.place c.args.name.text.now) _ _ _ (Unpin One) a_place []
+    first_wanting _ _ (word_of c.args.name.start c.args.name.text.now) _ _ _ (Unpin One) a_place []
     c.from_residual-in_err-place-in-Unpin.ensures.1 (c.in-Some.ensures ∙ ap text_of c.in-Unpin.is) refl
     c.in_err-place-in-Unpin.ensures.read
 
 pub returns-in_err-lane-in-Place-clause-read : goal.returns-in_err-lane-in-Place-clause-read
 returns-in_err-lane-in-Place-clause-read c =
-    second_wanting _ _ (word_of c.args.name.place c.args.name.text.now) _ _ _ _ _ (Place One 0) a_place a_lane [] _
+    second_wanting _ _ (word_of c.args.name.start c.args.name.text.now) _ _ _ _ _ (Place One 0) a_place a_lane [] _
     c.from_residual-in_err-lane-in-Place.ensures.1 (c.in-Some.ensures ∙ ap text_of c.in-Place.is) refl
     c.in_ok-place-in-Place.ensures.read (ap length c.place.ensures.line) c.in_err-lane-in-Place.ensures.read
 
 pub returns-in_err-place-in-Swap-2-clause-read : goal.returns-in_err-place-in-Swap-2-clause-read
 returns-in_err-place-in-Swap-2-clause-read c =
-    second_wanting _ _ (word_of c.args.name.place c.args.name.text.now) _ _ _ _ _ (Swap One One) a_place a_place [] _
+    second_wanting _ _ (word_of c.args.name.start c.args.name.text.now) _ _ _ _ _ (Swap One One) a_place a_place [] _
     c.from_residual-in_err-place-in-Swap-2.ensures.1 (c.in-Some.ensures ∙ ap text_of c.in-Swap.is) refl
     c.in_ok-place-in-Swap.ensures.read (ap length c.place-in-Swap.ensures.line) c.in_err-place-in-Swap-2.ensures.read
 

@@ -1,0 +1,6 @@
+mod EntryLemmas
+mod FileLemmas
+mod FrontLemmas
+mod HeaderLemmas
+mod NextLemmas
+mod WorkedFiles
