@@ -15,8 +15,11 @@ pub const HEAD_OCTETS: usize = 25;
 /// The number of octets of the entries behind the packet.
 pub const END_OCTETS: usize = 3;
 
-// The RTP header and the payload header.
-const HEADER_OCTETS: usize = 16;
+/// The octets of the RTP header and the payload header.
+pub const HEADER_OCTETS: usize = 16;
+
+/// The octets of the longest packet whose length fits two octets.
+pub const LONGEST_PACKET: usize = 65_535;
 
 // What stands before the digit of the place, and behind it up to the packet's length.
 const FRONT: &[u8] = b"H261CONF\x01\x01C\x09place ";
@@ -71,7 +74,9 @@ pub fn read_rest(rest: &[u8]) -> Option<Rest<'_>>
 
 // The place of a digit from 1 to 4.
 fn place_of(digit: u8) -> Option<Quad>
-    ensures { MatchOption result ((place : Place) → (digit ≡ 48 + number_of place) → ⊥) (λ place. digit ≡ 48 + number_of place) }
+    ensures { MatchOption result
+        ((place : Place) → (digit ≡ 48 + number_of place) → ⊥)
+        (λ place. digit ≡ 48 + number_of place) }
 {
     match digit {
         b'1' => Some(Quad::One),
