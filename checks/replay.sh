@@ -18,14 +18,14 @@ for example in grey_top_left striped_top_right; do
 done
 
 # a path without rt, whatever stands beside the tools on this machine
-for tool in "$shell" cat cp date dirname find mkdir mv rm sh touch wc; do
+for tool in "$shell" cat cp date dirname find mkdir mv rm sh sleep touch wc; do
     ln -sf "$(command -v "$tool")" "$room/tools/$tool"
 done
 cat > "$room/with_rt/rt" << END
 #!/bin/sh
 [ "\$*" = "run -- --version" ] || exit 9
 i=0; while [ \$i -lt 200 ]; do echo "line \$i of the build"; i=\$((i + 1)); done
-[ ! -e "$room/slow" ] || { touch -d '10 seconds' "$room/slow_source"; mv "$room/slow_source" "$clone/crates/bridge_cli/src/main.rt"; }
+[ ! -e "$room/slow" ] || { sleep 0.1; touch "$clone/crates/bridge_cli/src/main.rt"; sleep 0.1; }
 [ ! -e "$room/broken" ] || { echo "the proof failed"; exit 1; }
 mkdir -p out && cp "$built" out/bridge_cli
 END
@@ -185,9 +185,10 @@ is "the FIFO stays" test -p "$here/fifo"
 is "its reader got the packets" cmp "$here/got" "$room/striped_top_right.rtp"
 rm -f "$here"/*
 
-# devices by links, so that a script that replaces its output does not replace them
+# devices by links of our own: a script that replaced its output, run as root, would replace those of the machine
 ln -s /dev/null "$here/null"
 ln -s /dev/full "$here/full"
+ln -s /dev/stdout "$here/stdout"
 replay "$striped" null
 ended "a device as output" 0
 is "the link to it stays" test -L "$here/null"
@@ -200,7 +201,7 @@ if mknod "$room/device" c 1 3 2> "$room/err"; then
     ended "a device by its own name" 0
     is "the device stays" test -c "$room/device"
 fi
-replay_in '"$@" | cat' "$striped" /dev/stdout
+replay_in '"$@" | cat' "$striped" stdout
 ended "standard output as output" 0
 wrote "$room/striped_top_right.rtp"
 rm -f "$here"/*
