@@ -73,6 +73,6 @@ try python3 "$top/checks/lanes.py" recorded
 ended "record_lane.py's frames" 0
 python3 "$top/checks/lanes.py" frames > frames.rtp
 wrote frames.rtp
-said "2 packets recorded, 2 of RTCP left out"
+said "recorded: 2; left out: 2"
 
 tell "checks/examples.sh"

@@ -53,7 +53,7 @@ def main(name, sink):
         sink.write(framed([bytes(11)]))
     elif name == "recorded":
         counts = record_lane.record([RTP[0], RTCP[0], RTP[1], RTCP[1]], sink)
-        print("%d packets recorded, %d of RTCP left out" % counts, file=sys.stderr)
+        print("recorded: %d; left out: %d" % counts, file=sys.stderr)
     elif name == "frames":
         sink.write(framed(RTP))
 

@@ -34,9 +34,9 @@ def main(place, number="1"):
     packets = picture_of(sys.stdin.buffer, int(number))
     sys.stdout.buffer.write(conference(place, one_packet(packets), 1))
     length = len(bits_of(packets))
-    print(f"conference_of_lane.py: {length} bits in {len(packets)} packets of the lane", file=sys.stderr)
+    print(f"conference_of_lane.py: the picture has {length} bits; packets in the lane: {len(packets)}", file=sys.stderr)
     if length > MOST_BITS:
-        print(f"conference_of_lane.py: more than {MOST_BITS}, which today's program refuses", file=sys.stderr)
+        print(f"conference_of_lane.py: today's program takes {MOST_BITS} without spare bytes and stuffing", file=sys.stderr)
 
 
 if __name__ == "__main__":

@@ -43,4 +43,4 @@ if __name__ == "__main__":
     if not 1 <= len(words) <= 2 or not all(it.isdecimal() for it in words):
         sys.exit(__doc__)
     counts = record(received(int(words[0]), float(words[1]) if words[1:] else None), sys.stdout.buffer)
-    print("record_lane.py: %d packets recorded, %d of RTCP left out" % counts, file=sys.stderr)
+    print("record_lane.py: RTP packets recorded: %d; RTCP packets left out: %d" % counts, file=sys.stderr)
