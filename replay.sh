@@ -45,7 +45,7 @@ build() {
         fail 1 "the program is not built, and rt is not on the path: it is in bin/ of the Rattle toolchain (README.md)"
     mkdir -p "$(dirname "$log")"
     : > "$log" || fail 1 "cannot write $log"
-    say "proving and building the program, the first time for some minutes; its log is $log"
+    say "proving and building the program, which takes 10 to 20 minutes the first time; its log is $log"
     began=$(date +%s)
     touch "$log.began"
     (cd "$top/crates/bridge_cli" && rt run -- --version) < /dev/null > "$log" 2>&1 ||

@@ -63,7 +63,7 @@ is_all_told "no program and no rt: nothing is left" ""
 touch "$room/broken"
 replay
 ended "a build that fails" 1
-said "proving and building the program, the first time for some minutes"
+said "proving and building the program, which takes 10 to 20 minutes the first time"
 said "could not be built; why is in $out/replay.log"
 is "its lines are not shown" test "$(wc -l < "$room/err")" -eq 2
 is "its lines are in the log" grep -q "the proof failed" "$out/replay.log"
@@ -73,7 +73,7 @@ rm "$room/broken"
 replay
 ended "a build, and the default example" 0
 wrote_nothing
-said "proving and building the program, the first time for some minutes"
+said "proving and building the program, which takes 10 to 20 minutes the first time"
 said "built after "
 said "reading $striped"
 said "wrote 1014 octets of framed RTP packets to composed.rtp"
