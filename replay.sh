@@ -34,6 +34,10 @@ fail() {
     exit "$1"
 }
 
+usage() {
+    fail 2 "Usage: replay.sh [CONFERENCE [OUTPUT]]"
+}
+
 is_built() {
     [ -x "$program" ] &&
         [ -z "$(find "$top/crates" "$top/crates.txt" -name out -prune -o \
@@ -86,30 +90,30 @@ ended() {
     fail "$1" "status $1, $(meaning "$1")$2"
 }
 
-case ${1-} in
-    --help)
-        [ $# -eq 1 ] || fail 2 "Usage: replay.sh [CONFERENCE [OUTPUT]]"
-        help || exit 4
-        exit 0
-        ;;
-esac
+if [ $# -eq 1 ] && [ "$1" = --help ]; then
+    help || exit 4
+    exit 0
+fi
+[ $# -le 2 ] || usage
 for word; do
     case $word in
-        -*) set -- too many words ;;
+        -*) usage ;;
     esac
 done
-[ $# -le 2 ] || fail 2 "Usage: replay.sh [CONFERENCE [OUTPUT]]"
 conference=${1-$top/examples/striped_top_right.conf}
 output=${2-composed.rtp}
 
-[ -r "$conference" ] && [ ! -d "$conference" ] || fail 3 "cannot read $conference"
-[ ! -d "$output" ] || fail 4 "cannot write $output: it is a directory"
-if [ -e "$output" ]; then
-    [ -w "$output" ] || fail 4 "cannot write $output"
-else
-    [ -n "$output" ] && [ -d "$(dirname -- "$output")" ] || fail 4 "cannot write $output: there is no such folder"
+if [ ! -r "$conference" ] || [ -d "$conference" ]; then
+    fail 3 "cannot read $conference"
 fi
-[ ! "$output" -ef "$conference" ] || fail 4 "cannot write $output: it is the conference file"
+[ ! -d "$output" ] || fail 4 "cannot write $output: it is a directory"
+if [ -z "$output" ] || [ ! -d "$(dirname -- "$output")" ]; then
+    fail 4 "cannot write $output: there is no such folder"
+elif [ -e "$output" ]; then
+    [ -w "$output" ] || fail 4 "cannot write $output"
+    # shellcheck disable=SC3013 # dash, bash and busybox have -ef, and POSIX since 2024
+    [ ! "$output" -ef "$conference" ] || fail 4 "cannot write $output: it is the conference file"
+fi
 trap 'exit 129' HUP
 trap 'exit 130' INT
 trap 'exit 143' TERM

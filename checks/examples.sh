@@ -3,7 +3,7 @@
 . "$(dirname -- "$0")/lib.sh"
 program=$1
 examples=$top/examples
-cd "$room"
+cd "$room" || exit
 
 # the conference files are those of their description
 cp -r "$examples" again

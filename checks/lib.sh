@@ -1,3 +1,4 @@
+# shellcheck shell=sh disable=SC2034
 # What the checks share: they work in $room, run commands by `try`, and say by `ended` how a command was to end.
 CDPATH=''
 top=$(cd -- "$(dirname -- "$0")/.." && pwd)

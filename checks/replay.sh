@@ -46,7 +46,8 @@ replay_in() {
 }
 is_all_told() {
     name=$1
-    judge "$([ "$(ls -A "$here")" = "$2" ]; echo $?)" "the folder has: $(ls -A "$here")"
+    [ "$(ls -A "$here")" = "$2" ]
+    judge $? "the folder has: $(ls -A "$here")"
     rm -rf "$here"
     mkdir "$here"
 }
@@ -178,8 +179,11 @@ link"
 mkfifo "$here/fifo"
 replay_in '{ cat fifo > got & exec "$@"; }' "$striped" fifo
 ended "a FIFO as output" 0
-for wait in 1 2 3 4 5 6 7 8 9 10; do
-    cmp -s "$here/got" "$room/striped_top_right.rtp" && break || sleep 0.2
+for _ in 1 2 3 4 5 6 7 8 9 10; do
+    if cmp -s "$here/got" "$room/striped_top_right.rtp"; then
+        break
+    fi
+    sleep 0.2
 done
 is "the FIFO stays" test -p "$here/fifo"
 is "its reader got the packets" cmp "$here/got" "$room/striped_top_right.rtp"
