@@ -10,4 +10,5 @@ if [ -e "$program.by-rattle" ]; then
 fi
 checks/replay.sh "$program" || status=1
 checks/examples.sh "$PWD/$program" || status=1
+checks/documents.sh "$PWD/$program" || status=1
 exit "$status"
