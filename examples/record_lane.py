@@ -1,7 +1,7 @@
 #!/usr/bin/env python3
 """Records the RTP packets that come to a UDP port as frames (RFC 4571): record_lane.py PORT [SECONDS] > LANE
 
-It ends at an interrupt, or once nothing has come for so many seconds. RTCP packets that share the port (RFC 5761) are
+It ends at an interrupt, or where nothing more comes for so many seconds after a packet. RTCP packets that share the port (RFC 5761) are
 left out, since a reader of frames takes them for RTP."""
 import socket
 import sys
@@ -30,10 +30,10 @@ def received(port, seconds):
     """The datagrams that come to a port."""
     with socket.socket(socket.AF_INET, socket.SOCK_DGRAM) as its:
         its.bind(("", port))
-        its.settimeout(seconds)
         try:
             while True:
                 yield its.recv(65535)
+                its.settimeout(seconds)
         except (TimeoutError, KeyboardInterrupt):
             pass
 
