@@ -80,6 +80,7 @@ fn serve(rt: &HostRuntime, words: &[String]) -> Status {
     }
 }
 
+// How a run that only prints ended.
 fn ended(printed: io::Result<()>) -> Status {
     match printed {
         Ok(()) => Status::Done,

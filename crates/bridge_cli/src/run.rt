@@ -6,8 +6,8 @@ ghost use Rattle.pel_model.specs.declared.Format.TheVariants.{Qcif, Cif};
 ghost use Rattle.pel_model.specs.Records.{Picture};
 ghost use Rattle.pel_model.specs.Refresh.{IsRefresh};
 ghost use Rattle.h261_pic.specs.Coded.{coding};
-ghost use Rattle.bridge_cli.specs.FirstForm.{FirstForm, IsFirstForm, most_bits, packet_bits as bits_of_packet};
-ghost use Rattle.bridge_cli.specs.Ends.{asks_replay as words_ask_replay, Ends};
+ghost use Rattle.bridge_cli.specs.FirstForm.{FirstForm, IsFirstForm, most_bits, packet_bits};
+ghost use Rattle.bridge_cli.specs.Ends.{asks_replay, Ends};
 ghost use Rattle.bridge_cli.specs.Pieces.{IsPacketSize, head_octets};
 ghost use Rattle.bridge_cli.specs.Taken.{TakesAll, TakesForm, shown};
 
@@ -41,7 +41,7 @@ pub fn run<S: Source, K: Sink, N: Sink>(
     output: &mut K,
     notes: &mut N,
 ) -> Status
-    ensures usage { (result ≡ Status.Usage) ↔ (words_ask_replay words.now ≡ false) }
+    ensures usage { (result ≡ Status.Usage) ↔ (asks_replay words.now ≡ false) }
     ensures ends { Ends
         (record {
           left = S.left input.old;
@@ -70,7 +70,7 @@ pub fn run<S: Source, K: Sink, N: Sink>(
 
 // Whether the words are the one word `replay`.
 fn asks_replay(words: &[String]) -> bool
-    ensures { result ≡ words_ask_replay words.now }
+    ensures { result ≡ asks_replay words.now }
 {
     match words {
         [word] => word.as_str() == "replay",
@@ -191,7 +191,7 @@ fn mix(place: Quad, rest: &[u8], pictures: &mut Pictures) -> Option<u8>
 // The bits of a packet behind its headers, without those that EBIT takes away.
 fn packet_bits(packet: &[u8]) -> Bits<'_>
     requires { IsPacketSize (length packet.now) }
-    ensures { result ≡ bits_of_packet packet.now }
+    ensures { result ≡ packet_bits packet.now }
 {
     let ebit = u32::from(packet[12] / 4 % 8);
     let payload = &packet[HEADER_OCTETS..];

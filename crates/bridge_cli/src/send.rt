@@ -7,7 +7,7 @@ ghost use Rattle.io_edge.specs.Whole.{PutsAll};
 ghost use Rattle.pel_bits.specs.Buffer.{whole};
 ghost use Rattle.rtp_wire.specs.Frames.{frame};
 ghost use Rattle.bridge_cli.specs.FirstForm.{most_composed_bits};
-ghost use Rattle.bridge_cli.specs.OnePacket.{one_packet, payload_header as header_of_payload};
+ghost use Rattle.bridge_cli.specs.OnePacket.{one_packet, payload_header};
 
 use crate::form::HEADER_OCTETS;
 use byteorder::{BigEndian, ByteOrder};
@@ -55,7 +55,7 @@ fn put_both<K: Sink>(sink: &mut K, first: &[u8], second: &[u8]) -> Result<(), Fa
 // The payload header of so many bits in one packet.
 fn payload_header(len: u32) -> [u8; 4]
     requires { len ≤ most_composed_bits }
-    ensures { result ≡ header_of_payload (whole len - len) }
+    ensures { result ≡ payload_header (whole len - len) }
 {
     let ebit = (8 - len % 8) % 8;
     [4 * ebit as u8 + 1, 0, 0, 0]
