@@ -38,9 +38,9 @@ numbers=$("$1" --help | sed -n 's/^ *\([0-9]\{1,2\}\)  .*/\1/p' | tr '\n' ' ')
 is "the statuses of README.md" test "$(statuses README.md)" = "$numbers"
 is "the statuses of docs/GUIDE.md" test "$(statuses docs/GUIDE.md)" = "$numbers"
 
-# the links of both lead to files
+# the links of both to other files lead to them
 for document in README.md docs/GUIDE.md; do
-    for link in $(grep -o '](\([^)]*\))' "$top/$document" | sed 's/](\(.*\))/\1/'); do
+    for link in $(sed -n 's/](\([^)#]*\))/\n<\1>\n/gp' "$top/$document" | sed -n 's/^<\(.*\)>$/\1/p'); do
         is "the link $link of $document" test -e "$top/$(dirname "$document")/$link"
     done
 done
