@@ -29,7 +29,8 @@ Usage: bridge_cli replay < CONFERENCE > PACKETS
        bridge_cli --help | --version";
 
 const DETAILS: &str = "\
-replay reads a conference file of the first form (docs/FORMATS.md) and writes framed RTP packets (RFC 4571).
+replay reads a conference file of the first form, one picture of one conferee (docs/FORMATS.md), and writes framed RTP
+packets (RFC 4571).
 
 Example, at the top of the repository:
        bridge_cli replay < examples/striped_top_right.conf > composed.rtp
