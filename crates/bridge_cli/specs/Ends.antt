@@ -1,11 +1,11 @@
 -- How a run ends, and what it read and wrote until then.
-use Rattle.std.specs.Prelude.{◌≡◌, ℕ, ◌<◌, ◌≤◌, Bool, false, List, [], ◌∷◌, ◌++◌, length, take, Option, Some, String, string_bytes, bytes_eq, codes}
+use Rattle.std.specs.Prelude.{◌≡◌, ℕ, ◌+◌, ◌<◌, ◌≤◌, Bool, false, List, [], ◌∷◌, ◌++◌, length, take, Option, Some, String, string_bytes, bytes_eq, codes}
 use Rattle.std.specs.Io.KnownBytes.{Consumes, Appends, Keeps}
 use Rattle.std.specs.Global.{Global}
 use Rattle.io_edge.specs.Causes.{Rose}
 use Rattle.bridge_cli.specs.declared.status.Status.{Status}
 use Rattle.bridge_cli.specs.declared.status.Status.TheVariants.{Done, Usage, ReadFault, WriteFault, NoMemory, Unsupported}
-use Rattle.bridge_cli.specs.FirstForm.{FirstForm, IsFirstForm}
+use Rattle.bridge_cli.specs.FirstForm.{FirstForm, IsFirstForm, longest_packet}
 use Rattle.bridge_cli.specs.OnePacket.{answer}
 
 -- the number that the program ends with
@@ -24,7 +24,8 @@ asks_replay _ = false
 
 -- no front of these octets is a file of the first form
 abbrev pub HasNoFirstForm : List ℕ → Type 0
-HasNoFirstForm octets = (front rest : List ℕ) (f : FirstForm) → octets ≡ front ++ rest → IsFirstForm front f → ⊥
+HasNoFirstForm octets =
+    (front rest : List ℕ) (f : FirstForm) → octets ≡ front ++ rest → IsFirstForm front f → ⊥
 
 -- what the source had left and the sink had been given, before and after, where they tell it, and their faults
 pub record Outside : Type 0 where
@@ -39,11 +40,12 @@ IsUntouched before after = after ≡ before
 
 -- the first form was read, and nothing behind it
 abbrev pub ReadsForm : Outside → Outside → FirstForm → Type 0
-ReadsForm before after f = (file : List ℕ) × Consumes before.left after.left file × IsFirstForm file f
+ReadsForm before after f =
+    (file : List ℕ) × Consumes before.left after.left file × IsFirstForm file f
 
--- the longest file of the first form: 25 octets, a packet of 65,535, and 3
+-- the longest file of the first form: 25 octets, the longest packet, and 3
 abbrev pub most_octets : ℕ
-most_octets = 65563
+most_octets = 25 + longest_packet + 3
 
 -- no more octets were taken
 abbrev pub TakesAtMostForm : (old new : Option (List ℕ)) → Type 0
@@ -73,9 +75,11 @@ Ends before after WriteFault =
     × ((n : ℕ) × (n < length (answer f)) × Appends before.written after.written (take n (answer f)))
     × NoReadFails before after × Rose before.write_faults after.write_faults
 Ends before after ReadFault =
-    Rose before.faults after.faults × ReadsAtMostForm before after × WritesNothing before after × NoWriteFails before after
+    Rose before.faults after.faults × ReadsAtMostForm before after
+    × WritesNothing before after × NoWriteFails before after
 Ends before after Unsupported =
     ((octets : List ℕ) → before.left ≡ Some octets → HasNoFirstForm octets)
-    × NoReadFails before after × ReadsAtMostForm before after × WritesNothing before after × NoWriteFails before after
+    × NoReadFails before after × ReadsAtMostForm before after
+    × WritesNothing before after × NoWriteFails before after
 Ends before after Usage = IsUntouched before after
 Ends before after NoMemory = IsUntouched before after

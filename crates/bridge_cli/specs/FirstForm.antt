@@ -19,23 +19,35 @@ file_octets place packet step =
     ++ (codes "P" ++ 0 ∷ length packet / 256 ∷ length packet % 256 ∷ packet)
     ++ (codes "T" ++ step ∷ codes "E")
 
+-- the octets of the RTP header without sources and of the payload header
+abbrev pub header_octets : ℕ
+header_octets = 12 + 4
+
+-- the octets of the longest packet whose length fits two octets
+abbrev pub longest_packet : ℕ
+longest_packet = 65535
+
 -- an RTP packet (RFC 3550, 5.1) with both its headers, whose length fits two octets, of version 2 with no padding,
 -- extension or contributing source, with the marker bit; its payload header (RFC 4587, 4.1) has SBIT 0
 pub record IsWholePacket (packet : List ℕ) : Type 0 where
-  pub headers : 16 ≤ length packet
-  pub fits : length packet < 65536
+  pub headers : header_octets ≤ length packet
+  pub fits : length packet ≤ longest_packet
   pub version : slice_index packet 0 ≡ 128
   pub marker : 128 ≤ slice_index packet 1
   pub no_sbit : slice_index packet 12 < 32
 
 -- the bits behind the two headers (RFC 4587, 4.1), without those that EBIT takes away at the end
 abbrev pub packet_bits : List ℕ → List Bool
-packet_bits packet = take (8 * (length packet - 16) - slice_index packet 12 / 4 % 8) (bits (drop 16 packet))
+packet_bits packet =
+    take (8 * (length packet - header_octets) - slice_index packet 12 / 4 % 8) (bits (drop header_octets packet))
 
--- the composed picture has the sender's bits and nine empty groups, and fits the 1,384 octets that a packet of 1,400
--- has behind its headers
+-- the composed picture fits the octets that a packet of 1,400 has behind its headers
+abbrev pub most_composed_bits : ℕ
+most_composed_bits = 8 * (1400 - header_octets)
+
+-- it has the sender's bits and nine empty groups
 abbrev pub most_bits : ℕ
-most_bits = 8 * 1384 - 9 * group_header_length
+most_bits = most_composed_bits - 9 * group_header_length
 
 -- what a file of the first form says: the place, the packet of the lane and its picture, and the step of the tick
 pub record FirstForm : Type 0 where

@@ -11,7 +11,8 @@ use Rattle.rtp_wire.specs.Rtp.{octets_of, plain}
 
 -- bits as octets, eight to each
 unfoldable pub packed : List Bool → List ℕ
-packed (a ∷ b ∷ c ∷ d ∷ e ∷ f ∷ g ∷ h ∷ bits) = number (a ∷ b ∷ c ∷ d ∷ e ∷ f ∷ g ∷ h ∷ []) ∷ packed bits
+packed (a ∷ b ∷ c ∷ d ∷ e ∷ f ∷ g ∷ h ∷ bits) =
+    number (a ∷ b ∷ c ∷ d ∷ e ∷ f ∷ g ∷ h ∷ []) ∷ packed bits
 packed _ = []
 
 -- the payload header (RFC 4587, 4.1) of a packet that begins with a picture header: SBIT 0, EBIT, I 0, V 1, and zeros
@@ -25,7 +26,14 @@ payload bits = payload_header (whole (length bits) - length bits) ++ packed (fil
 -- a whole picture in the first packet that is written, with the SSRC `H261`
 unfoldable pub one_packet : ℕ → List Bool → List ℕ
 one_packet timestamp bits =
-    octets_of (plain (record { marker = true; kind = 31; seq = 0; stamp = timestamp; ssrc = 1211250225; payload = payload bits }))
+    octets_of (plain (record {
+      marker = true;
+      kind = 31;
+      seq = 0;
+      stamp = timestamp;
+      ssrc = 1211250225;
+      payload = payload bits;
+    }))
 
 -- what is written for a file of the first form: the picture in its place, with the step as TR, and 3,003 ticks of the
 -- clock of 90 kHz for each step

@@ -22,4 +22,5 @@ group_shown (Some i) picture number = renumbered number (group_in picture i)
 -- the first groups
 abbrev pub groups_shown : Quad → Picture → ℕ → List Group
 groups_shown place picture zero = []
-groups_shown place picture (suc k) = groups_shown place picture k ++ group_shown (index_in place (k + 1)) picture (k + 1) ∷ []
+groups_shown place picture (suc k) =
+    groups_shown place picture k ++ group_shown (index_in place (k + 1)) picture (k + 1) ∷ []

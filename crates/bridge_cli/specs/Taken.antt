@@ -16,9 +16,11 @@ abbrev pub TakesFewer : (old new : Option (List ℕ)) → (slice : List ℕ) →
 TakesFewer old new slice = (taken : List ℕ) × (length taken < length slice) × Consumes old new taken
 
 -- the slice was filled; or fewer octets were there, or the source failed
-abbrev pub TakesAll : (old new : Option (List ℕ)) → (before now : ℕ) → (slice : List ℕ) → Result Unit Status → Type 0
+abbrev pub TakesAll : (old new : Option (List ℕ)) → (before now : ℕ) → (slice : List ℕ)
+    → Result Unit Status → Type 0
 TakesAll old new before now slice (Ok _) = Consumes old new slice × (now ≡ before)
-TakesAll old new before now slice (Err Unsupported) = TakesFewer old new slice × IsAtEnd new × (now ≡ before)
+TakesAll old new before now slice (Err Unsupported) =
+    TakesFewer old new slice × IsAtEnd new × (now ≡ before)
 TakesAll old new before now slice (Err ReadFault) = TakesFewer old new slice × Rose before now
 TakesAll old new before now slice (Err _) = ⊥
 
@@ -27,10 +29,13 @@ abbrev pub shown : FirstForm → Coding
 shown f = coding Cif (shown_in f.place f.step f.picture)
 
 -- a file of the first form was taken, and its picture composed; or there is none, or the source failed
-abbrev pub TakesForm : (old new : Option (List ℕ)) → (before now : ℕ) → Coding → Result ℕ Status → Type 0
+abbrev pub TakesForm : (old new : Option (List ℕ)) → (before now : ℕ) → Coding
+    → Result ℕ Status → Type 0
 TakesForm old new before now whole (Ok step) =
-    (f : FirstForm) × ((file : List ℕ) × Consumes old new file × IsFirstForm file f) × (now ≡ before) × (step ≡ f.step) × (whole ≡ shown f)
+    (f : FirstForm) × ((file : List ℕ) × Consumes old new file × IsFirstForm file f)
+    × (now ≡ before) × (step ≡ f.step) × (whole ≡ shown f)
 TakesForm old new before now whole (Err Unsupported) =
-    ((octets : List ℕ) → old ≡ Some octets → HasNoFirstForm octets) × (now ≡ before) × TakesAtMostForm old new
+    ((octets : List ℕ) → old ≡ Some octets → HasNoFirstForm octets)
+    × (now ≡ before) × TakesAtMostForm old new
 TakesForm old new before now whole (Err ReadFault) = Rose before now × TakesAtMostForm old new
 TakesForm old new before now whole (Err _) = ⊥

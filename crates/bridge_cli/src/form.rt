@@ -2,7 +2,7 @@
 #![tactic(auto)]
 
 ghost use Rattle.std.specs.Prelude.{◌≡◌, ℕ, ◌+◌, ◌-◌, ◌<◌, ◌≤◌, ◌↔◌, List, [], ◌∷◌, length, take, drop, IsTrue, IfSome, IfNone, MatchOption};
-ghost use Rattle.pel_model.specs.declared.Quad.{Quad as Place};
+ghost use Rattle.pel_model.specs.declared.Quad.{Quad};
 ghost use Rattle.pel_model.specs.Regions.{number_of};
 ghost use Rattle.bridge_cli.specs.FirstForm.{IsWholePacket};
 ghost use Rattle.bridge_cli.specs.Pieces.{IsHead, IsRest, IsPacketSize};
@@ -15,8 +15,11 @@ pub const HEAD_OCTETS: usize = 25;
 /// The number of octets of the entries behind the packet.
 pub const END_OCTETS: usize = 3;
 
-// The RTP header and the payload header.
-const HEADER_OCTETS: usize = 16;
+/// The octets of the RTP header and the payload header.
+pub const HEADER_OCTETS: usize = 16;
+
+/// The octets of the longest packet whose length fits two octets.
+pub const LONGEST_PACKET: usize = 65_535;
 
 // What stands before the digit of the place, and behind it up to the packet's length.
 const FRONT: &[u8] = b"H261CONF\x01\x01C\x09place ";
@@ -44,7 +47,7 @@ pub struct Rest<'a> {
 /// Reads the head of a file of the first form.
 pub fn read_head(head: &[u8]) -> Option<Head>
     requires { length head.now ≡ HEAD_OCTETS }
-    ensures none { IfNone result ((place : Place) (size : ℕ) → IsHead head.now place size → ⊥) }
+    ensures none { IfNone result ((place : Quad) (size : ℕ) → IsHead head.now place size → ⊥) }
     ensures some { IfSome result (λ h. IsHead head.now h.place h.size) }
 {
     let place = place_of(head[18])?;
@@ -71,7 +74,9 @@ pub fn read_rest(rest: &[u8]) -> Option<Rest<'_>>
 
 // The place of a digit from 1 to 4.
 fn place_of(digit: u8) -> Option<Quad>
-    ensures { MatchOption result ((place : Place) → (digit ≡ 48 + number_of place) → ⊥) (λ place. digit ≡ 48 + number_of place) }
+    ensures { MatchOption result
+        ((place : Quad) → (digit ≡ 48 + number_of place) → ⊥)
+        (λ place. digit ≡ 48 + number_of place) }
 {
     match digit {
         b'1' => Some(Quad::One),

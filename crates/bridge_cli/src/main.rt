@@ -20,13 +20,29 @@ use std::process::ExitCode;
 /// The octets that standard input and standard output are read and written by.
 const BUFFER: usize = 65_536;
 
-const HELP: &str = "\
-A continuous-presence bridge for H.261 in the coded domain.
+const ABOUT: &str = "\
+A continuous-presence bridge for H.261 in the coded domain: it shows up to four conferees in one picture, made from
+their own coded bits.";
 
-Usage: bridge_cli replay < conference file > framed RTP packets
-       bridge_cli --help | --version
+const USAGE: &str = "\
+Usage: bridge_cli replay < CONFERENCE > PACKETS
+       bridge_cli --help | --version";
 
-Status: 0 done, 2 usage, 3 input failed, 4 output failed, 9 no memory, 11 not a conference file of the first form";
+const DETAILS: &str = "\
+replay reads a conference file of the first form, one picture of one conferee (docs/FORMATS.md), and writes framed RTP
+packets (RFC 4571).
+
+Example, at the top of the repository:
+       bridge_cli replay < examples/striped_top_right.conf > composed.rtp
+       tail -c +19 composed.rtp > composed.h261
+
+Status:
+   0   done
+   2   usage: the words ask for no job
+   3   the input failed
+   4   the output failed
+   9   no memory
+  11   the input is not a conference file of the first form";
 
 const VERSION: &str = "bridge_cli 0.1.0";
 
@@ -35,6 +51,10 @@ fn main(rt: HostRuntime) -> ExitCode {
         Ok(words) => serve(&rt, &words),
         Err(status) => status,
     };
+    if status == Status::Usage {
+        // where that fails too, the status alone tells it
+        let _told = rt.eprintln(USAGE);
+    }
     ExitCode::from(status.number())
 }
 
@@ -53,14 +73,17 @@ fn arguments(rt: &HostRuntime) -> Result<Vec<String>, Status> {
 // Answers `--help` and `--version`, and runs any other words.
 fn serve(rt: &HostRuntime, words: &[String]) -> Status {
     match words {
-        [word] if word.as_str() == "--help" => print(rt, HELP),
-        [word] if word.as_str() == "--version" => print(rt, VERSION),
+        [word] if word.as_str() == "--help" => ended(println!(rt;
+            "{ABOUT}\n\n{USAGE}\n\n{DETAILS}"
+        )),
+        [word] if word.as_str() == "--version" => ended(rt.println(VERSION)),
         _ => run_on_standard_streams(rt, words),
     }
 }
 
-fn print(rt: &HostRuntime, text: &str) -> Status {
-    match rt.println(text) {
+// How a run that only prints ended.
+fn ended(printed: io::Result<()>) -> Status {
+    match printed {
         Ok(()) => Status::Done,
         Err(_error) => Status::WriteFault,
     }

@@ -6,13 +6,15 @@ ghost use Rattle.pel_model.specs.declared.Format.TheVariants.{Qcif, Cif};
 ghost use Rattle.pel_model.specs.Records.{Picture};
 ghost use Rattle.pel_model.specs.Refresh.{IsRefresh};
 ghost use Rattle.h261_pic.specs.Coded.{coding};
-ghost use Rattle.bridge_cli.specs.FirstForm.{FirstForm, IsFirstForm, most_bits, packet_bits as bits_of_packet};
-ghost use Rattle.bridge_cli.specs.Ends.{asks_replay as words_ask_replay, Ends};
+ghost use Rattle.bridge_cli.specs.FirstForm.{FirstForm, IsFirstForm, most_bits, packet_bits};
+ghost use Rattle.bridge_cli.specs.Ends.{asks_replay, Ends};
 ghost use Rattle.bridge_cli.specs.Pieces.{IsPacketSize, head_octets};
 ghost use Rattle.bridge_cli.specs.Taken.{TakesAll, TakesForm, shown};
 
-use crate::form::{END_OCTETS, HEAD_OCTETS, Rest, read_head, read_rest};
-use crate::send::send;
+use crate::form::{
+    END_OCTETS, HEAD_OCTETS, HEADER_OCTETS, LONGEST_PACKET, Rest, read_head, read_rest,
+};
+use crate::send::{MOST_COMPOSED_BITS, send};
 use crate::show::show;
 use crate::status::Status;
 use h261_pic::{Coded, parse};
@@ -21,11 +23,14 @@ use pel_bits::{Bits, NoMemory};
 use pel_model::{Format, Quad};
 use std::alloc::Global;
 
-/// The most octets behind the head of a file: a packet of 65,535 octets and the entries behind it.
-const REST_OCTETS: usize = 65_538;
+/// The most octets behind the head of a file: the longest packet and the entries behind it.
+const REST_OCTETS: usize = LONGEST_PACKET + END_OCTETS;
 
-/// The most bits of a picture whose composed picture fits one packet.
-const MOST_BITS: u32 = 10_838;
+/// The most bits of a picture whose composed picture, with nine headers of groups more, fits one packet.
+const MOST_BITS: u32 = MOST_COMPOSED_BITS - 9 * GROUP_HEADER_BITS;
+
+/// The bits of the header of a group without spare bytes.
+const GROUP_HEADER_BITS: u32 = 26;
 
 /// Does the job that the words after the program's name ask for. The word `replay` reads a conference file from
 /// `input` and writes framed RTP packets to `output`. Nothing is written to `notes` yet.
@@ -36,10 +41,20 @@ pub fn run<S: Source, K: Sink, N: Sink>(
     output: &mut K,
     notes: &mut N,
 ) -> Status
-    ensures usage { (result ≡ Status.Usage) ↔ (words_ask_replay words.now ≡ false) }
+    ensures usage { (result ≡ Status.Usage) ↔ (asks_replay words.now ≡ false) }
     ensures ends { Ends
-        (record { left = S.left input.old; faults = S.faults input.old; written = K.written output.old; write_faults = K.faults output.old })
-        (record { left = S.left input.new; faults = S.faults input.new; written = K.written output.new; write_faults = K.faults output.new })
+        (record {
+          left = S.left input.old;
+          faults = S.faults input.old;
+          written = K.written output.old;
+          write_faults = K.faults output.old;
+        })
+        (record {
+          left = S.left input.new;
+          faults = S.faults input.new;
+          written = K.written output.new;
+          write_faults = K.faults output.new;
+        })
         result }
     ensures notes { notes.new ≡ notes.old }
 {
@@ -55,7 +70,7 @@ pub fn run<S: Source, K: Sink, N: Sink>(
 
 // Whether the words are the one word `replay`.
 fn asks_replay(words: &[String]) -> bool
-    ensures { result ≡ words_ask_replay words.now }
+    ensures { result ≡ asks_replay words.now }
 {
     match words {
         [word] => word.as_str() == "replay",
@@ -78,7 +93,8 @@ struct Pictures {
 }
 
 fn reserve(alloc: Global) -> Result<Room, NoMemory>
-    ensures { IfOk result (λ room. (vec_len room.rest ≡ REST_OCTETS) × (room.pictures.sent.format ≡ Qcif) × (room.pictures.whole.format ≡ Cif)) }
+    ensures { IfOk result (λ room. (vec_len room.rest ≡ REST_OCTETS)
+        × (room.pictures.sent.format ≡ Qcif) × (room.pictures.whole.format ≡ Cif)) }
 {
     Ok(Room {
         rest: vec![in alloc; 0; REST_OCTETS]?,
@@ -95,8 +111,18 @@ fn replay<S: Source, K: Sink>(room: &mut Room, input: &mut S, output: &mut K) ->
     requires sent { room.old.pictures.sent.format ≡ Qcif }
     requires whole { room.old.pictures.whole.format ≡ Cif }
     ensures ends { Ends
-        (record { left = S.left input.old; faults = S.faults input.old; written = K.written output.old; write_faults = K.faults output.old })
-        (record { left = S.left input.new; faults = S.faults input.new; written = K.written output.new; write_faults = K.faults output.new })
+        (record {
+          left = S.left input.old;
+          faults = S.faults input.old;
+          written = K.written output.old;
+          write_faults = K.faults output.old;
+        })
+        (record {
+          left = S.left input.new;
+          faults = S.faults input.new;
+          written = K.written output.new;
+          write_faults = K.faults output.new;
+        })
         result }
     ensures asked { result ≡ Status.Usage → ⊥ }
 {
@@ -115,7 +141,8 @@ fn take_form<S: Source>(room: &mut Room, input: &mut S) -> Result<u8, Status>
     requires rest { vec_len room.old.rest ≡ REST_OCTETS }
     requires sent { room.old.pictures.sent.format ≡ Qcif }
     requires whole { room.old.pictures.whole.format ≡ Cif }
-    ensures { TakesForm (S.left input.old) (S.left input.new) (S.faults input.old) (S.faults input.new) room.new.pictures.whole result }
+    ensures { TakesForm (S.left input.old) (S.left input.new) (S.faults input.old) (S.faults input.new)
+        room.new.pictures.whole result }
 {
     let mut octets = [0; HEAD_OCTETS];
     take_all(input, &mut octets)?;
@@ -129,7 +156,8 @@ fn take_form<S: Source>(room: &mut Room, input: &mut S) -> Result<u8, Status>
 
 // Fills a slice from the source.
 fn take_all<S: Source>(input: &mut S, slice: &mut [u8]) -> Result<(), Status>
-    ensures { TakesAll (S.left input.old) (S.left input.new) (S.faults input.old) (S.faults input.new) slice.new result }
+    ensures { TakesAll (S.left input.old) (S.left input.new) (S.faults input.old) (S.faults input.new)
+        slice.new result }
 {
     let len = slice.len() as u64;
     match fill(input, slice, len).stop {
@@ -145,8 +173,10 @@ fn mix(place: Quad, rest: &[u8], pictures: &mut Pictures) -> Option<u8>
     requires size { IsPacketSize (length rest.now - END_OCTETS) }
     requires sent { pictures.old.sent.format ≡ Qcif }
     requires whole { pictures.old.whole.format ≡ Cif }
-    ensures none { IfNone result ((f : FirstForm) → IsFirstForm (head_octets place (length rest.now - END_OCTETS) ++ rest.now) f → ⊥) }
-    ensures some { IfSome result (λ step. (f : FirstForm) × IsFirstForm (head_octets place (length rest.now - END_OCTETS) ++ rest.now) f
+    ensures none { IfNone result ((f : FirstForm)
+        → IsFirstForm (head_octets place (length rest.now - END_OCTETS) ++ rest.now) f → ⊥) }
+    ensures some { IfSome result (λ step. (f : FirstForm)
+        × IsFirstForm (head_octets place (length rest.now - END_OCTETS) ++ rest.now) f
         × (step ≡ f.step) × (pictures.new.whole ≡ shown f)) }
 {
     let Rest { packet, step } = read_rest(rest)?;
@@ -161,16 +191,17 @@ fn mix(place: Quad, rest: &[u8], pictures: &mut Pictures) -> Option<u8>
 // The bits of a packet behind its headers, without those that EBIT takes away.
 fn packet_bits(packet: &[u8]) -> Bits<'_>
     requires { IsPacketSize (length packet.now) }
-    ensures { result ≡ bits_of_packet packet.now }
+    ensures { result ≡ packet_bits packet.now }
 {
     let ebit = u32::from(packet[12] / 4 % 8);
-    let payload = &packet[16..];
+    let payload = &packet[HEADER_OCTETS..];
     Bits::new(payload, 0, (8 * payload.len() as u32).saturating_sub(ebit))
 }
 
 // Whether a picture is a refresh whose composed picture fits one packet.
 fn may_be_shown(picture: &Coded) -> bool
-    ensures { (p : Picture) → picture.now ≡ coding Qcif p → (IsTrue result ↔ (IsRefresh Qcif p × (length picture.now.bits ≤ most_bits))) }
+    ensures { (p : Picture) → picture.now ≡ coding Qcif p
+        → (IsTrue result ↔ (IsRefresh Qcif p × (length picture.now.bits ≤ most_bits))) }
 {
     picture.is_refresh() && picture.bits().len() <= MOST_BITS
 }

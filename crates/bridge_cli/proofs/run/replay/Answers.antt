@@ -1,6 +1,7 @@
 use Rattle.std.proofs.Common.{ℕ, ◌≤◌, List, length, arith, sym, subst}
 use Rattle.std.specs.Io.KnownBytes.{Appends}
 use Rattle.h261_pic.specs.Coded.{Coding}
+use Rattle.bridge_cli.specs.FirstForm.{most_composed_bits}
 use Rattle.bridge_cli.proofs.Ends.{sent-is-answer}
 use Rattle.bridge_cli.proofs.Sends.{PutsFront}
 use Rattle.bridge_cli.proofs.Shows.{text-shown}
@@ -11,7 +12,7 @@ send-requires-clause-fits g c =
     let taken = c.in-Ok.ensures in
     let f = taken.0 in
     let form = taken.1.2 in
-    subst (λ (k : Coding). length k.bits ≤ 11072) (sym taken.4) (omega (arith, text-shown f.place f.step f.picture form.accepted.1.valid, form.short))
+    subst (λ (k : Coding). length k.bits ≤ most_composed_bits) (sym taken.4) (omega (arith, text-shown f.place f.step f.picture form.accepted.1.valid, form.short))
 
 pub returns-in-Ok-send-clause-ends : goal.returns-in-Ok-send-clause-ends
 returns-in-Ok-send-clause-ends g c =
