@@ -2,5 +2,7 @@ pub mod BlockElements
 pub mod InsideElements
 pub mod Steps
 pub mod Walks
+mod WorkedBlocks
+mod WorkedFrames
 mod WorkedPictures
 mod WorkedTexts
