@@ -5,7 +5,7 @@ use Rattle.std.proofs.lemmas.List.{map_push}
 use Rattle.pel_model.specs.declared.Fault.{Fault}
 use Rattle.pel_model.specs.Records.{Coefficient, Block}
 use Rattle.pel_model.specs.Elements.{IsBlockSoFar, coefficient_elements, block_elements, dc_elements, dc_level, sent_levels, levels}
-use Rattle.pel_model.specs.Walk.{Step, Good, Bad, skipped, after, Goes}
+use Rattle.pel_model.specs.Walk.{Standing, Good, Bad, skipped, after, Goes}
 use Rattle.pel_model.specs.Grammar.{Element, Dc, Tcoeff, Eob, slot, filled, AtFirst, AtCoefficient}
 use Rattle.pel_model.proofs.Walks.{after-append, goes_more}
 use Rattle.vlc_codes.specs.declared.readers.CoefRow.{CoefRow}
@@ -17,7 +17,7 @@ use Rattle.pel_model.proofs.BlockElements.{first-filled}
 use Rattle.h261_block.proofs.LevelLaws.{with_one_more, length-sent-more, levels-more}
 
 -- the elements of a block without its end were read, and so many coefficients stand in it
-pub record SoFar (next : List Element → List Bool × ℕ → Step Element) (before : List Element) (intra : Bool) (old new : List Bool × ℕ) (count : ℕ) : Type 0 where
+pub record SoFar (next : List Element → List Bool × ℕ → Standing Element) (before : List Element) (intra : Bool) (old new : List Bool × ℕ) (count : ℕ) : Type 0 where
   pub block : Block
   pub kind : is_some block.dc ≡ intra
   pub walk : Goes next before old (coefficient_elements block) new
@@ -25,7 +25,7 @@ pub record SoFar (next : List Element → List Bool × ℕ → Step Element) (be
   pub full : filled (after before (coefficient_elements block)) ≡ count
 
 -- the same with the levels that were sent
-pub record LevelsSoFar (next : List Element → List Bool × ℕ → Step Element) (before : List Element) (intra : Bool) (old new : List Bool × ℕ) (count : ℕ) (out : List ℤ) : Type 0 where
+pub record LevelsSoFar (next : List Element → List Bool × ℕ → Standing Element) (before : List Element) (intra : Bool) (old new : List Bool × ℕ) (count : ℕ) (out : List ℤ) : Type 0 where
   pub so_far : SoFar next before intra old new count
   pub sent : length (sent_levels so_far.block) ≡ count
   pub out_is : out ≡ levels so_far.block
@@ -51,7 +51,7 @@ row-filled filled (Pair run' level') run level h = let same : ◌≡◌ {A = ℕ
 row-filled filled (Escape run' level') run level h = let same : ◌≡◌ {A = ℕ × ℤ} (run', level') (run, level) = cc in ap (λ (p : ℕ × ℤ). filled + p.0 + 1) same
 row-filled filled row.Eob run level h = absurd cc
 
-module _ (next : List Element → List Bool × ℕ → Step Element) (before : List Element) where
+module _ (next : List Element → List Bool × ℕ → Standing Element) (before : List Element) where
   abbrev StopsAt : Fault → List Bool × ℕ → List Bool × ℕ → Type 0
   StopsAt f old new =
       (es : List Element) × Goes next before old es new × IsBlockSoFar es × (next (after before es) new ≡ Bad f.why) × (f.place ≡ new.1)

@@ -4,7 +4,7 @@ use Rattle.pel_model.specs.declared.MbKind.{MbKind}
 use Rattle.pel_model.specs.Codes.{has_vector}
 use Rattle.pel_model.specs.Records.{Across, Down}
 use Rattle.pel_model.specs.Walk.{after}
-use Rattle.pel_model.specs.Grammar.{Element, Mba, Mtype, slot, vector_slot, vector, address, resets_predictor}
+use Rattle.pel_model.specs.Grammar.{Element, Mba, Mtype, slot, vector_slot, vector_component, address, resets_predictor}
 use Rattle.h261_mb.specs.declared.state.MbState.{MbState}
 use Rattle.pel_model.specs.Elements.{mquant_elements}
 use Rattle.h261_mb.specs.State.{Stands, IsBegun}
@@ -34,14 +34,14 @@ module _ (number : ℕ) (state : MbState) (before : List Element) (stands : Stan
       here : address before + (at - state.address) ≡ at
       here = omega (arith, stands.say.address_is)
 
-      across_here : vector Across begin ≡ h
+      across_here : vector_component Across begin ≡ h
       across_here =
-          ap (λ (a : ℕ). predicted k (at - state.address) a (vector Across before)) here
+          ap (λ (a : ℕ). predicted k (at - state.address) a (vector_component Across before)) here
           ∙ (ap (λ (z : ℤ). predicted k (at - state.address) at z) stands.say.across_is ∙ across)
 
-      down_here : vector Down begin ≡ v
+      down_here : vector_component Down begin ≡ v
       down_here =
-          ap (λ (a : ℕ). predicted k (at - state.address) a (vector Down before)) here
+          ap (λ (a : ℕ). predicted k (at - state.address) a (vector_component Down before)) here
           ∙ (ap (λ (z : ℤ). predicted k (at - state.address) at z) stands.say.down_is ∙ down)
 
       by_mquant : (mquant : Option ℕ) → q ≡ unwrap_or mquant state.quant → slot (after begin (mquant_elements mquant)) ≡ vector_slot k → IsBegun number (record { address = at; kind = k; quant = q; h = h; v = v }) (after begin (mquant_elements mquant))

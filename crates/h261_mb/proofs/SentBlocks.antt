@@ -9,7 +9,7 @@ use Rattle.pel_model.specs.declared.MbKind.TheVariants.{Intra, IntraQuant, Inter
 use Rattle.pel_model.specs.Codes.{is_intra, has_cbp}
 use Rattle.pel_model.specs.Records.{Block}
 use Rattle.pel_model.specs.Elements.{block_elements}
-use Rattle.pel_model.specs.Walk.{Step, after, Goes}
+use Rattle.pel_model.specs.Walk.{Standing, after, Goes}
 use Rattle.pel_model.specs.Grammar.{Element, Mtype, Cbp, AtCbp, AtDc, AtFirst, slot, block_slot, cbp_slot, kind, blocks, may_end, next}
 use Rattle.pel_model.proofs.Walks.{after-append, goes-append}
 use Rattle.pel_model.proofs.BlockElements.{block-blocks, block-slot}
@@ -32,7 +32,7 @@ slot-no-cbp k none = ap (λ (b : Bool). cond b AtCbp (block_slot k (cond (is_int
 
 -- ---- the loop
 
-pub record SomeRead (next : List Element → List Bool × ℕ → Step Element) (before : List Element) (k : MbKind) (old new : List Bool × ℕ) (count done : ℕ) : Type 0 where
+pub record SomeRead (next : List Element → List Bool × ℕ → Standing Element) (before : List Element) (k : MbKind) (old new : List Bool × ℕ) (count done : ℕ) : Type 0 where
   pub read : List Block
   pub many : length read ≡ done
   pub walk : Goes next before old (flat_map block_elements read) new
@@ -42,7 +42,7 @@ pub record SomeRead (next : List Element → List Bool × ℕ → Step Element) 
 flat_map_one : (b : Block) → flat_map block_elements (b ∷ []) ≡ block_elements b
 flat_map_one b = append-nil (block_elements b)
 
-module _ (next : List Element → List Bool × ℕ → Step Element) (before : List Element) (k : MbKind) (kind_is : kind before ≡ k) where
+module _ (next : List Element → List Bool × ℕ → Standing Element) (before : List Element) (k : MbKind) (kind_is : kind before ≡ k) where
   pub none_read : (old : List Bool × ℕ) (count : ℕ) → slot before ≡ block_slot k count → blocks before ≡ count → SomeRead next before k old old count 0
   none_read old count due to_come =
       let all : count ≡ count - 0 = omega arith in

@@ -10,13 +10,13 @@ use Rattle.pel_model.specs.declared.Why.TheVariants.{Cut, BadQuant, BadAddress}
 use Rattle.pel_model.specs.Bits as model
 use Rattle.pel_model.specs.Codes.{mtype_table, mvd_table, cbp_table}
 use Rattle.pel_model.specs.Records.{Axis}
-use Rattle.pel_model.specs.Walk.{Step, Good, Bad, Stop, read}
+use Rattle.pel_model.specs.Walk.{Standing, Good, Bad, Stop, read}
 use Rattle.pel_model.specs.Grammar.{Element, Mba, Mtype, Mquant, Mvd, Cbp, Slot, slot, AtMacroblock, AtMtype, AtMquant, AtMvd, AtCbp, at_slot, rows, table_rows, field_rows, mba_rows, gbsc_row, address, faults, first_why, next}
 use Rattle.pel_model.proofs.Steps.{judge, next-at, judged-good, judged-bad, judged-none, field-good, field-cut}
 use Rattle.vlc_codes.proofs.CoefficientLaws.{same_number}
 use Rattle.h261_mb.proofs.Words.{read_front, mba_has_one}
 
-module _ (format : Format) (before : List Element) (r : List Bool × ℕ) (s : Slot) (here : Step Element) (due : slot before ≡ s) (at : at_slot s r.0 ≡ here) where
+module _ (format : Format) (before : List Element) (r : List Bool × ℕ) (s : Slot) (here : Standing Element) (due : slot before ≡ s) (at : at_slot s r.0 ≡ here) where
   pub good : (e : Element) (n : ℕ) → here ≡ Good e n → first_why (faults format before e) ≡ None → next format before r ≡ Good e n
   good e n is fine = next-at format before r s due ∙ judged-good (judge format before) e n (at_slot s r.0) (at ∙ is) fine
 
@@ -52,7 +52,7 @@ at-macroblock left e n is =
     ap (λ (one : Bool). cond (nat_lt (length left) 8 && not one) Stop (read (mba_rows ++ gbsc_row ∷ []) left)) (mba_has_one left e n is)
     ∙ (no_end (nat_lt (length left) 8) (read (mba_rows ++ gbsc_row ∷ []) left) ∙ read_front left e n mba_rows (gbsc_row ∷ []) is)
   where
-    no_end : (short : Bool) (here : Step Element) → cond (short && not true) Stop here ≡ here
+    no_end : (short : Bool) (here : Standing Element) → cond (short && not true) Stop here ≡ here
     no_end true here = refl
     no_end false here = refl
 

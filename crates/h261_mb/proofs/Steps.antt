@@ -1,11 +1,11 @@
 -- Walks of several parts, to their end or to a fault.
 use Rattle.std.proofs.Common.{◌≡◌, ℕ, ◌≤◌, Bool, List, [], ◌∷◌, ◌++◌, Result, Ok, Err, sym, ◌∙◌, subst, ap, arith}
 use Rattle.pel_model.specs.declared.Fault.{Fault}
-use Rattle.pel_model.specs.Walk.{Step, Good, Bad, skipped, after, Goes, Walked}
+use Rattle.pel_model.specs.Walk.{Standing, Good, Bad, skipped, after, Goes, Walked}
 use Rattle.pel_model.specs.Grammar.{Element}
 use Rattle.pel_model.proofs.Walks.{goes-append, after-append}
 
-module _ (next : List Element → List Bool × ℕ → Step Element) (before : List Element) where
+module _ (next : List Element → List Bool × ℕ → Standing Element) (before : List Element) where
   -- an element, and a walk behind it
   pub goes_first : (r mid end : List Bool × ℕ) (e : Element) (n : ℕ) (es : List Element) → next before r ≡ Good e n → mid ≡ skipped n r → Goes next (e ∷ before) mid es end → Goes next before r (e ∷ es) end
   goes_first r mid end e n es is moved rest = (n, is, subst (λ (m : List Bool × ℕ). Goes next (e ∷ before) m es end) moved rest)
@@ -31,7 +31,7 @@ module _ (next : List Element → List Bool × ℕ → Step Element) (before : L
       (es ++ ys, goes-append next before r mid end es ys here there, part, ap (λ (b : List Element). next b end) (after-append before es ys) ∙ bad, at)
 
 -- a walk does not go back
-pub goes_onward : (next : List Element → List Bool × ℕ → Step Element) (before : List Element) (r end : List Bool × ℕ) (es : List Element) → Goes next before r es end → r.1 ≤ end.1
+pub goes_onward : (next : List Element → List Bool × ℕ → Standing Element) (before : List Element) (r end : List Bool × ℕ) (es : List Element) → Goes next before r es end → r.1 ≤ end.1
 goes_onward next before r end [] walk = omega (arith, ap (λ (r : List Bool × ℕ). r.1) walk)
 goes_onward next before r end (e ∷ es) walk =
     omega (arith, goes_onward next (e ∷ before) (skipped walk.0 r) end es walk.2)

@@ -11,7 +11,7 @@ use Rattle.pel_model.specs.Records.{Axis}
 use Rattle.pel_model.specs.Valid.{side as side_of}
 use Rattle.pel_model.specs.Valid.{corner}
 use Rattle.pel_model.specs.Walk.{Good, Bad, read}
-use Rattle.pel_model.specs.Grammar.{Element, Mvd, AtMvd, slot, vector, group, address, table_rows, faults, first_why, stays_within, next, in_range, component_from}
+use Rattle.pel_model.specs.Grammar.{Element, Mvd, AtMvd, slot, vector_component, group, address, table_rows, faults, first_why, stays_within, next, in_range, component_from}
 use Rattle.h261_mb.proofs.Slots.{good, at_fault, at-mvd}
 use Rattle.h261_mb.specs.State.{IsNear}
 
@@ -74,7 +74,7 @@ is_none last given v same is =
 abbrev why_of : ℕ → ℕ → ℤ → Option Why
 why_of side first m = cond (not (in_range m)) (Some BadVector) (cond (not (stays_within side first m)) (Some VectorOutside) None)
 
-module _ (format : Format) (before : List Element) (r : List Bool × ℕ) (axis : Axis) (last : ℤ) (first side : ℕ) (v : ℤ × ℤ) (n : ℕ) (due : slot before ≡ AtMvd axis) (vector_is : vector axis before ≡ last) (side_is : side_of format axis ≡ side) (corner_is : corner axis (group before) (address before) ≡ first) (is : read (table_rows mvd_table (Mvd axis)) r.0 ≡ Good (Mvd axis v) n) where
+module _ (format : Format) (before : List Element) (r : List Bool × ℕ) (axis : Axis) (last : ℤ) (first side : ℕ) (v : ℤ × ℤ) (n : ℕ) (due : slot before ≡ AtMvd axis) (vector_is : vector_component axis before ≡ last) (side_is : side_of format axis ≡ side) (corner_is : corner axis (group before) (address before) ≡ first) (is : read (table_rows mvd_table (Mvd axis)) r.0 ≡ Good (Mvd axis v) n) where
   judged_by : first_why (faults format before (Mvd axis v)) ≡ why_of side first (component_from last v)
   judged_by =
       ap (λ (p : ℤ). why_of (side_of format axis) (corner axis (group before) (address before)) (component_from p v)) vector_is

@@ -4,7 +4,7 @@ use Rattle.pel_model.specs.declared.Mark.{Mark}
 use Rattle.pel_model.specs.Codes.{is_intra}
 use Rattle.pel_model.specs.Records.{Across, Down, Macroblock}
 use Rattle.pel_model.specs.Walk.{after}
-use Rattle.pel_model.specs.Grammar.{Element, slot, AtMacroblock, vector_slot, cbp_slot, kind, blocks, group, address, quant, vector}
+use Rattle.pel_model.specs.Grammar.{Element, slot, AtMacroblock, vector_slot, cbp_slot, kind, blocks, group, address, quantiser, vector_component}
 use Rattle.h261_mb.specs.declared.state.MbState.{MbState}
 use Rattle.h261_mb.specs.declared.state.Head.{Head}
 use Rattle.pel_model.specs.Elements.{macroblock_elements}
@@ -26,9 +26,9 @@ pub record IsReady (state : MbState) : Type 0 where
 pub record Say (number at q : ℕ) (h v : ℤ) (before : List Element) : Type 0 where
   pub number_is : group before ≡ number
   pub address_is : address before ≡ at
-  pub quant_is : quant before ≡ q
-  pub across_is : vector Across before ≡ h
-  pub down_is : vector Down before ≡ v
+  pub quant_is : quantiser before ≡ q
+  pub across_is : vector_component Across before ≡ h
+  pub down_is : vector_component Down before ≡ v
 
 -- a macroblock, stuffing or a group may come, and the state is that of the elements before
 pub record Stands (number : ℕ) (state : MbState) (before : List Element) : Type 0 where

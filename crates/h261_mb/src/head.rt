@@ -67,7 +67,7 @@ fn take_address(r: &mut Reader<'_>, last: u8) -> Result<u8, Fault>
     let place = r.place();
     let mut ahead = r.copy();
     match mba(&mut ahead) {
-        Ok(MbaRow::Step(difference)) => {
+        Ok(MbaRow::Difference(difference)) => {
             if difference > 33 - last {
                 return Err(Fault {
                     place,

@@ -5,7 +5,7 @@ ghost use Rattle.std.specs.Prelude.{◌≡◌, ℕ, ◌<◌, ◌≤◌, ℤ, neg
 ghost use Rattle.pel_model.specs.declared.Format.{Format as PictureFormat};
 ghost use Rattle.pel_model.specs.Valid.{side as side_of, corner};
 ghost use Rattle.pel_model.specs.Records.{Axis, Across, Down};
-ghost use Rattle.pel_model.specs.Grammar.{Element, Mvd, slot, AtMvd, group as group_before, address as address_before, vector as vector_before, component_from, in_range as is_in_range, is_group, stays_within as stays, next};
+ghost use Rattle.pel_model.specs.Grammar.{Element, Mvd, slot, AtMvd, group as group_before, address as address_before, vector_component, component_from, in_range as is_in_range, is_group, stays_within as stays, next};
 ghost use Rattle.pel_model.specs.Walk.{after, Walked};
 ghost use Rattle.h261_mb.specs.Inside.{StaysInside};
 ghost use Rattle.pel_model.specs.Elements.{vector_elements};
@@ -52,7 +52,7 @@ fn read_vector(
     requires address { (0 < head.now.address) × (head.now.address ≤ 33) }
     requires near { IsNear head.now.h × IsNear head.now.v }
     ensures walk { (before : List Element) → slot before ≡ AtMvd Across → group_before before ≡ group → address_before before ≡ head.now.address →
-        vector_before Across before ≡ head.now.h → vector_before Down before ≡ head.now.v →
+        vector_component Across before ≡ head.now.h → vector_component Down before ≡ head.now.v →
         Walked (next format) before
         (λ vector es new. (across : ℤ × ℤ) × (down : ℤ × ℤ) × (es ≡ Mvd Across across ∷ Mvd Down down ∷ []) × (component_from head.now.h across ≡ vector.0) × (component_from head.now.v down ≡ vector.1))
         (StaysInside before) result r.old r.new }
@@ -68,7 +68,7 @@ fn read_vector(
 fn take_component(r: &mut Reader<'_>, last: i8, first: u32, side: u32) -> Result<i8, Fault>
     requires near { IsNear last }
     requires first { first ≤ 1000 }
-    ensures walk { (format : PictureFormat) (before : List Element) (axis : Axis) → slot before ≡ AtMvd axis → vector_before axis before ≡ last →
+    ensures walk { (format : PictureFormat) (before : List Element) (axis : Axis) → slot before ≡ AtMvd axis → vector_component axis before ≡ last →
         side_of format axis ≡ side → corner axis (group_before before) (address_before before) ≡ first →
         Walked (next format) before (λ component es new. (values : ℤ × ℤ) × (es ≡ Mvd axis values ∷ []) × (component_from last values ≡ component)) (StaysInside before) result r.old r.new }
     ensures near { IfOk result (λ component. IsNear component) }

@@ -7,7 +7,7 @@ use Rattle.pel_model.specs.declared.Why.TheVariants.{TooLong}
 use Rattle.pel_model.specs.Text.{group_header_length}
 use Rattle.pel_model.specs.Valid.{group_count, limit}
 use Rattle.pel_model.specs.Walk.{Bad}
-use Rattle.pel_model.specs.Grammar.{Element, Gbsc, Stuffing, begun, counted, next, picture}
+use Rattle.pel_model.specs.Grammar.{Element, Gbsc, Stuffing, begun, counted, next, next_within_limit}
 use Rattle.picture_laws.proofs.Limits.{picture-good, picture-long, picture-stops, picture-bad}
 use Rattle.h261_pic.specs.declared.coming.Coming.{Coming}
 use Rattle.h261_pic.specs.declared.coming.Coming.TheVariants as coming
@@ -44,12 +44,12 @@ past Cif n place h = omega arith
 
 module _ (format : Format) (before : List Element) (old : List Bool × ℕ) where
   -- a fault is one of the picture
-  pub bad-within : (f : Fault) (new : List Bool × ℕ) → Comes (next format before old) (Err f) old new → Comes (picture format before old) (Err f) old old
+  pub bad-within : (f : Fault) (new : List Bool × ℕ) → Comes (next format before old) (Err f) old new → Comes (next_within_limit format before old) (Err f) old old
   bad-within f new h = (picture-bad format before old f.why h.0, h.1, refl)
 
   module _ (n : ℕ) (begun_is : begun before ≡ n) (new : List Bool × ℕ) where
     -- what ends within the limit comes in the picture
-    pub comes-within : (here : Coming) → Comes (next format before old) (Ok here) old new → new.1 ≤ last_place format (begun_with here n) → Comes (picture format before old) (Ok here) old new
+    pub comes-within : (here : Coming) → Comes (next format before old) (Ok here) old new → new.1 ≤ last_place format (begun_with here n) → Comes (next_within_limit format before old) (Ok here) old new
     comes-within coming.End h fits = (picture-stops format before old h.0, h.1)
     comes-within coming.Macroblock h fits = h
     comes-within coming.Group h fits =
@@ -72,7 +72,7 @@ module _ (format : Format) (before : List Element) (old : List Bool × ℕ) wher
         omega (arith, same, counts, more, inside)
 
     -- what ends past it is too long
-    pub comes-long : (here : Coming) → counted format before old.1 ≤ limit format → Comes (next format before old) (Ok here) old new → last_place format (begun_with here n) < new.1 → picture format before old ≡ Bad TooLong
+    pub comes-long : (here : Coming) → counted format before old.1 ≤ limit format → Comes (next format before old) (Ok here) old new → last_place format (begun_with here n) < new.1 → next_within_limit format before old ≡ Bad TooLong
     comes-long coming.End inside h far = absurd (not_moved inside h.1 far)
     comes-long coming.Macroblock inside h far = absurd (not_moved inside h.3 far)
     comes-long coming.Group inside h far =
@@ -92,10 +92,10 @@ module _ (format : Format) (before : List Element) (old new : List Bool × ℕ) 
   of_group : here ≡ coming.Group → Comes (next format before old) (Ok coming.Group) old new
   of_group is = subst (λ (x : Coming). Comes (next format before old) (Ok x) old new) is comes
 
-  pub group-within : here ≡ coming.Group → new.1 ≤ last_place format 1 → Follows (picture format before old) true old new
+  pub group-within : here ≡ coming.Group → new.1 ≤ last_place format 1 → Follows (next_within_limit format before old) true old new
   group-within is fits = comes-within format before old 0 begun_is new coming.Group (of_group is) fits
 
-  pub group-long : here ≡ coming.Group → counted format before old.1 ≤ limit format → last_place format 1 < new.1 → picture format before old ≡ Bad TooLong
+  pub group-long : here ≡ coming.Group → counted format before old.1 ≤ limit format → last_place format 1 < new.1 → next_within_limit format before old ≡ Bad TooLong
   group-long is inside far = comes-long format before old 0 begun_is new coming.Group inside (of_group is) far
 
   ended : (x : Coming) → IsGroupOrEnd x → ((x ≡ coming.End) ⊎ ((x ≡ coming.Stuffing) ⊎ (x ≡ coming.Macroblock))) → x ≡ coming.End
@@ -104,7 +104,7 @@ module _ (format : Format) (before : List Element) (old new : List Bool × ℕ) 
   ended coming.Stuffing ok is = absurd ok
   ended coming.Macroblock ok is = absurd ok
 
-  pub end-within : IsGroupOrEnd here → ((here ≡ coming.End) ⊎ ((here ≡ coming.Stuffing) ⊎ (here ≡ coming.Macroblock))) → Follows (picture format before old) false old new
+  pub end-within : IsGroupOrEnd here → ((here ≡ coming.End) ⊎ ((here ≡ coming.Stuffing) ⊎ (here ≡ coming.Macroblock))) → Follows (next_within_limit format before old) false old new
   end-within ok is =
       let end = subst (λ (x : Coming). Comes (next format before old) (Ok x) old new) (ended here ok is) comes in
       (picture-stops format before old end.0, end.1)

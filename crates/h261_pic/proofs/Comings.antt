@@ -7,13 +7,13 @@ use Rattle.pel_bits.specs.Bits as bits
 use Rattle.pel_model.specs.declared.Format.{Format}
 use Rattle.pel_model.specs.declared.Why.{Why}
 use Rattle.pel_model.specs.declared.Why.TheVariants.{Cut, NoCode}
-use Rattle.pel_model.specs.Codes.{begins, group_start_code, mba_table}
-use Rattle.pel_model.specs.Walk.{Step, Good, Bad, Stop, Row, read, cause, whole_word, word_at, judged}
+use Rattle.pel_model.specs.Codes.{is_prefix, group_start_code, mba_table}
+use Rattle.pel_model.specs.Walk.{Standing, Good, Bad, Stop, Row, read, cause, whole_word, word_at, judged}
 use Rattle.pel_model.specs.Grammar.{Element, Gbsc, Stuffing, Slot, slot, AtGroup, AtMacroblock, at_slot, is_end, rows, mba_rows, gbsc_row, next}
 use Rattle.pel_model.proofs.Steps.{judge, next-at, judged-good, judged-none}
-use Rattle.vlc_codes.proofs.WordLaws.{begins_length, begins_longer, cause-cut}
+use Rattle.vlc_codes.proofs.WordLaws.{is_prefix_length, is_prefix_longer, cause-cut}
 use Rattle.h261_mb.proofs.Words.{read_front}
-use Rattle.h261_pic.proofs.HeaderSteps.{begins_front, front_begins, is_number}
+use Rattle.h261_pic.proofs.HeaderSteps.{is_prefix_front, front_begins, is_number}
 
 -- ---- bits that are all 0
 
@@ -52,23 +52,23 @@ no_tails = refl
 
 module _ (left : List Bool) where
   abbrev front : List (Row Element) → Option (Row Element)
-  front rows = find (λ (row : Row Element). begins row.code left) rows
+  front rows = find (λ (row : Row Element). is_prefix row.code left) rows
 
-  is_good : (e : Element) (n : ℕ) (why : Why) (short : Bool) → short ≡ false → ◌≡◌ {A = Step Element} (if short then Bad Cut else Good e n) (Bad why) → ⊥
+  is_good : (e : Element) (n : ℕ) (why : Why) (short : Bool) → short ≡ false → ◌≡◌ {A = Standing Element} (if short then Bad Cut else Good e n) (Bad why) → ⊥
   is_good e n why true is bad = cc
   is_good e n why false is bad = cc
 
   -- a word without a tail is whole where it stands
-  whole : (row : Row Element) (why : Why) → row.tail ≡ 0 → begins row.code left ≡ true → whole_word row left ≡ Bad why → ⊥
+  whole : (row : Row Element) (why : Why) → row.tail ≡ 0 → is_prefix row.code left ≡ true → whole_word row left ≡ Bad why → ⊥
   whole row why no_tail here bad =
       is_good _ _ why (nat_lt (length left) (length row.code + row.tail))
-      (le-ltb (length left) (length row.code + row.tail) (omega (arith, no_tail, begins_length row.code left here))) bad
+      (le-ltb (length left) (length row.code + row.tail) (omega (arith, no_tail, is_prefix_length row.code left here))) bad
 
   -- no word is found where none is read
   none_found : (all rows : List (Row Element)) (why : Why) → list_all (λ (row : Row Element). row.tail == 0) rows ≡ true → word_at all left (front rows) ≡ Bad why → front rows ≡ None
   none_found all [] why plain bad = refl
   none_found all (row ∷ rows) why plain bad =
-      elim (cases_Bool (begins row.code left)) [
+      elim (cases_Bool (is_prefix row.code left)) [
         | inl here ↦
             absurd (whole row why (eqb-true row.tail 0 (and_parts (row.tail == 0) _ plain).0) here (subst (λ (b : Bool). word_at all left (cond b (Some row) (front rows)) ≡ Bad why) here bad))
         | inr other ↦
@@ -79,28 +79,28 @@ module _ (left : List Bool) where
   -- where none of these is found, the first of the others
   found_behind : (rows more : List (Row Element)) → front rows ≡ None → front (rows ++ more) ≡ front more
   found_behind [] more none = refl
-  found_behind (row ∷ rows) more none = passed (begins row.code left) none (λ (later : front rows ≡ None). found_behind rows more later)
+  found_behind (row ∷ rows) more none = passed (is_prefix row.code left) none (λ (later : front rows ≡ None). found_behind rows more later)
     where
       passed : (here : Bool) → cond here (Some row) (front rows) ≡ None → (front rows ≡ None → front (rows ++ more) ≡ front more) → cond here (Some row) (front (rows ++ more)) ≡ front more
       passed true none later = absurd cc
       passed false none later = later none
 
   abbrev is_cut : List (Row Element) → Bool
-  is_cut rows = list_any (λ code. begins left code) (map (λ (row : Row Element). row.code) rows)
+  is_cut rows = list_any (λ code. is_prefix left code) (map (λ (row : Row Element). row.code) rows)
 
-  cut_either : (rows : List (Row Element)) (row : Row Element) → is_cut (rows ++ row ∷ []) ≡ (is_cut rows || begins left row.code)
-  cut_either [] row = or_nothing (begins left row.code)
+  cut_either : (rows : List (Row Element)) (row : Row Element) → is_cut (rows ++ row ∷ []) ≡ (is_cut rows || is_prefix left row.code)
+  cut_either [] row = or_nothing (is_prefix left row.code)
     where
       or_nothing : (b : Bool) → (b || false) ≡ b
       or_nothing true = refl
       or_nothing false = refl
-  cut_either (r ∷ rows) row = ap (λ (b : Bool). begins left r.code || b) (cut_either rows row) ∙ regroup (begins left r.code) (is_cut rows) (begins left row.code)
+  cut_either (r ∷ rows) row = ap (λ (b : Bool). is_prefix left r.code || b) (cut_either rows row) ∙ regroup (is_prefix left r.code) (is_cut rows) (is_prefix left row.code)
     where
       regroup : (a b c : Bool) → (a || (b || c)) ≡ ((a || b) || c)
       regroup true b c = refl
       regroup false b c = refl
 
-  same_bad : (why other : Why) → ◌≡◌ {A = Step Element} (Bad why) (Bad other) → why ≡ other
+  same_bad : (why other : Why) → ◌≡◌ {A = Standing Element} (Bad why) (Bad other) → why ≡ other
   same_bad why other same = cc
 
   module _ (words : List (Row Element)) (plain : list_all (λ (row : Row Element). row.tail == 0) words ≡ true) (why : Why) (is : read words left ≡ Bad why) where
@@ -113,30 +113,30 @@ module _ (left : List Bool) where
     abbrev union : List (Row Element)
     union = words ++ gbsc_row ∷ []
 
-    at_code : (here : Bool) → begins group_start_code left ≡ here → read union left ≡ word_at union left (cond here (Some gbsc_row) None)
+    at_code : (here : Bool) → is_prefix group_start_code left ≡ here → read union left ≡ word_at union left (cond here (Some gbsc_row) None)
     at_code here h = ap (word_at union left) (found_behind words (gbsc_row ∷ []) none ∙ ap (λ (b : Bool). cond b (Some gbsc_row) None) h)
 
     -- a start code; a front of one; or what the words of MBA say
     pub group-good : 16 ≤ length left → take 16 left ≡ take 16 group_start_code → read union left ≡ Good Gbsc 16
     group-good long same =
-        at_code true (begins_front group_start_code left same)
+        at_code true (is_prefix_front group_start_code left same)
         ∙ ap (λ (short : Bool). if short then Bad Cut else Good Gbsc 16) (le-ltb (length left) 16 long)
 
     pub group-cut : (k : ℕ) → k ≡ length left → k < 16 → take k left ≡ take k group_start_code → read union left ≡ Bad Cut
     group-cut k len short same =
         let begun : take (length left) group_start_code ≡ left =
         ap (λ (n : ℕ). take n group_start_code) (sym len) ∙ (sym same ∙ take_all k left (omega (arith, len))) in
-        let cut : is_cut union ≡ true = cut_either words gbsc_row ∙ or_true (is_cut words) (begins left group_start_code) (begins_front left group_start_code begun) in
-        at_code false (begins_longer group_start_code left (omega (arith, len))) ∙ ap Bad (cause-cut (map (λ (row : Row Element). row.code) union) left cut)
+        let cut : is_cut union ≡ true = cut_either words gbsc_row ∙ or_true (is_cut words) (is_prefix left group_start_code) (is_prefix_front left group_start_code begun) in
+        at_code false (is_prefix_longer group_start_code left (omega (arith, len))) ∙ ap Bad (cause-cut (map (λ (row : Row Element). row.code) union) left cut)
       where
         or_true : (a b : Bool) → b ≡ true → (a || b) ≡ true
         or_true true b h = refl
         or_true false b h = h
 
-    pub group-none : (begins group_start_code left ≡ true → ⊥) → (begins left group_start_code ≡ true → ⊥) → read union left ≡ Bad why
+    pub group-none : (is_prefix group_start_code left ≡ true → ⊥) → (is_prefix left group_start_code ≡ true → ⊥) → read union left ≡ Bad why
     group-none not_whole not_front =
-        let same : is_cut union ≡ is_cut words = cut_either words gbsc_row ∙ or_false (is_cut words) (begins left group_start_code) (false_from_ne_true (begins left group_start_code) not_front) in
-        at_code false (false_from_ne_true (begins group_start_code left) not_whole)
+        let same : is_cut union ≡ is_cut words = cut_either words gbsc_row ∙ or_false (is_cut words) (is_prefix left group_start_code) (false_from_ne_true (is_prefix left group_start_code) not_front) in
+        at_code false (false_from_ne_true (is_prefix group_start_code left) not_whole)
         ∙ ap Bad (ap (λ (cut : Bool). if cut then Cut else NoCode) same ∙ reason)
       where
         or_false : (a b : Bool) → b ≡ false → (a || b) ≡ a
@@ -172,12 +172,12 @@ module _ (format : Format) (before : List Element) (r : List Bool × ℕ) where
     -- the number of the first bits, 16 or all that are left, is not that of the start code's front
     pub nothing-comes : (n k : ℕ) → k ≡ min (length r.0) 16 → n ≡ bits.number (take k r.0) → n ≢ 1 / 2 ^ (16 - k) → next format before r ≡ Bad why
     nothing-comes n k k_is seen differs =
-        let not_whole : begins group_start_code r.0 ≡ true → ⊥ = λ whole.
-        let long : 16 ≤ length r.0 = begins_length group_start_code r.0 whole in
+        let not_whole : is_prefix group_start_code r.0 ≡ true → ⊥ = λ whole.
+        let long : 16 ≤ length r.0 = is_prefix_length group_start_code r.0 whole in
         let all : k ≡ 16 = omega arith in
         differs (is_number group_start_code 1 16 group-field (omega arith) r.0 n k (omega arith) seen (ap (λ (m : ℕ). take m r.0) all ∙ (front_begins group_start_code r.0 whole ∙ ap (λ (m : ℕ). take m group_start_code) (sym all)))) in
-        let not_front : begins r.0 group_start_code ≡ true → ⊥ = λ begun.
-        let short : length r.0 ≤ 16 = begins_length r.0 group_start_code begun in
+        let not_front : is_prefix r.0 group_start_code ≡ true → ⊥ = λ begun.
+        let short : length r.0 ≤ 16 = is_prefix_length r.0 group_start_code begun in
         let all : k ≡ length r.0 = omega arith in
         differs (is_number group_start_code 1 16 group-field (omega arith) r.0 n k (omega arith) seen (take_all k r.0 (omega arith) ∙ (sym (front_begins r.0 group_start_code begun) ∙ ap (λ (m : ℕ). take m group_start_code) (sym all)))) in
         next-at format before r s due

@@ -10,7 +10,7 @@ use Rattle.pel_model.specs.Records.{Across, Down, Macroblock}
 use Rattle.pel_model.specs.Text.{macroblocks_text}
 use Rattle.pel_model.specs.Valid.{group_count, limit}
 use Rattle.pel_model.specs.Walk.{Good, skipped, after, Goes}
-use Rattle.pel_model.specs.Grammar.{Element, Gbsc, Gn, Gquant, Stuffing, Slot, AtMacroblock, slot, begun, counted, picture}
+use Rattle.pel_model.specs.Grammar.{Element, Gbsc, Gn, Gquant, Stuffing, Slot, AtMacroblock, slot, begun, counted, next_within_limit}
 use Rattle.pel_model.proofs.Walks.{after-append, goes_more}
 use Rattle.picture_laws.specs.SoFar.{IsGroupSoFar}
 use Rattle.picture_laws.proofs.Chains.{goes-walk, words, next-is}
@@ -33,7 +33,7 @@ use Rattle.h261_pic.specs.Adding.{bits_at}
 -- ---- places of a walk
 
 -- the end of a walk stands among the same bits
-pub walk-place : (format : Format) (bits : List Bool) (before : List Element) (r end : List Bool × ℕ) (es : List Element) → Goes (picture format) before r es end → r.0 ≡ drop r.1 bits → end.0 ≡ drop end.1 bits
+pub walk-place : (format : Format) (bits : List Bool) (before : List Element) (r end : List Bool × ℕ) (es : List Element) → Goes (next_within_limit format) before r es end → r.0 ≡ drop r.1 bits → end.0 ≡ drop end.1 bits
 walk-place format bits before r end [] goes at = subst (λ (x : List Bool × ℕ). x.0 ≡ drop x.1 bits) (sym goes) at
 walk-place format bits before r end (e ∷ es) goes at =
     walk-place format bits (e ∷ before) (skipped goes.0 r) end es goes.2 (ap (drop goes.0) at ∙ drop-drop goes.0 r.1 bits)
@@ -51,7 +51,7 @@ within-end format before place n is fits = omega (arith, is, fits, ap (λ (k : �
 pub record GroupSoFar (format : Format) (bits : List Bool) (groups : ℕ) (before : List Element) (from : List Bool × ℕ) (number quant : ℕ) (state : MbState) (marks : List Mark) (r : List Bool × ℕ) : Type 0 where
   pub macroblocks : List Macroblock
   pub es : List Element
-  pub walk : Goes (picture format) before from es r
+  pub walk : Goes (next_within_limit format) before from es r
   pub so_far : IsGroupSoFar format before number quant macroblocks es
   pub stands : Stands number state (after before es)
   pub begun_is : begun (after before es) ≡ groups
@@ -69,12 +69,12 @@ abbrev pub at_first : ℕ → MbState
 at_first quant = record { address = 0; quant = quant; h = pos 0; v = pos 0 }
 
 -- the header was read
-pub header-read : (format : Format) (bits : List Bool) (last groups : ℕ) (before : List Element) (from r0 r : List Bool × ℕ) (number quant : ℕ) (es : List Element) (spares : List ℕ) → GroupComes format bits last groups before from r0 → Goes (picture format) (Gbsc ∷ before) r0 es r → es ≡ group_header_elements number quant spares → GroupSoFar format bits groups before from number quant (at_first quant) [] r
+pub header-read : (format : Format) (bits : List Bool) (last groups : ℕ) (before : List Element) (from r0 r : List Bool × ℕ) (number quant : ℕ) (es : List Element) (spares : List ℕ) → GroupComes format bits last groups before from r0 → Goes (next_within_limit format) (Gbsc ∷ before) r0 es r → es ≡ group_header_elements number quant spares → GroupSoFar format bits groups before from number quant (at_first quant) [] r
 header-read format bits last groups before from r0 r number quant es spares comes goes is =
     let all : List Element = Gbsc ∷ group_header_elements number quant spares in
-    let behind : Goes (picture format) (Gbsc ∷ before) (skipped comes.size from) (group_header_elements number quant spares) r =
-    subst (λ (x : List Element). Goes (picture format) (Gbsc ∷ before) (skipped comes.size from) x r) is (subst (λ (x : List Bool × ℕ). Goes (picture format) (Gbsc ∷ before) x es r) comes.behind goes) in
-    let walk : Goes (picture format) before from all r = (comes.size, comes.starts, behind) in
+    let behind : Goes (next_within_limit format) (Gbsc ∷ before) (skipped comes.size from) (group_header_elements number quant spares) r =
+    subst (λ (x : List Element). Goes (next_within_limit format) (Gbsc ∷ before) (skipped comes.size from) x r) is (subst (λ (x : List Bool × ℕ). Goes (next_within_limit format) (Gbsc ∷ before) x es r) comes.behind goes) in
+    let walk : Goes (next_within_limit format) before from all r = (comes.size, comes.starts, behind) in
     let plain = goes-next format before from all r walk in
     let begins = group-begins format before from r number quant (spares_of OfGroup spares) plain (inside-spares OfGroup spares) (slot-spares OfGroup (Gquant quant ∷ Gn number ∷ Gbsc ∷ before) spares) in
     record {
@@ -102,14 +102,14 @@ header-read format bits last groups before from r0 r number quant es spares come
     }
 
 -- stuffing was read
-pub stuffing-read : (format : Format) (bits : List Bool) (groups : ℕ) (before : List Element) (from r : List Bool × ℕ) (number quant : ℕ) (state : MbState) (marks : List Mark) (n : ℕ) → (s : GroupSoFar format bits groups before from number quant state marks r) → picture format (after before s.es) r ≡ Good Stuffing n → GroupSoFar format bits groups before from number quant state marks (skipped n r)
+pub stuffing-read : (format : Format) (bits : List Bool) (groups : ℕ) (before : List Element) (from r : List Bool × ℕ) (number quant : ℕ) (state : MbState) (marks : List Mark) (n : ℕ) → (s : GroupSoFar format bits groups before from number quant state marks r) → next_within_limit format (after before s.es) r ≡ Good Stuffing n → GroupSoFar format bits groups before from number quant state marks (skipped n r)
 stuffing-read format bits groups before from r number quant state marks n s step =
     let behind : Stuffing ∷ after before s.es ≡ after before (s.es ++ Stuffing ∷ []) = sym (after-append before s.es (Stuffing ∷ [])) in
     let stands : Stands number state (Stuffing ∷ after before s.es) = record { due = refl; say = record { number_is = s.stands.say.number_is; address_is = s.stands.say.address_is; quant_is = s.stands.say.quant_is; across_is = s.stands.say.across_is; down_is = s.stands.say.down_is } } in
     record {
       macroblocks = s.macroblocks;
       es = s.es ++ Stuffing ∷ [];
-      walk = goes_more (picture format) before from r s.es Stuffing n s.walk step;
+      walk = goes_more (next_within_limit format) before from r s.es Stuffing n s.walk step;
       so_far = stuffing-joins format before number quant s.macroblocks s.es s.so_far;
       stands = subst (Stands number state) behind stands;
       begun_is = ap begun (sym behind) ∙ s.begun_is;
@@ -134,20 +134,20 @@ group-ends format bits groups end before from number quant state marks r s is =
     (subst (EndsAt format (after before s.es)) (sym is) (ends-at format (after before s.es) groups s.begun_is), omega (arith, is, within-end format (after before s.es) r.1 groups s.begun_is s.fits))
 
 -- a fault in the header
-pub header-fails : (format : Format) (bits : List Bool) (last groups : ℕ) (before : List Element) (from r end : List Bool × ℕ) (es : List Element) → (comes : GroupComes format bits last groups before from r) → Goes (picture format) (Gbsc ∷ before) r es end → Goes (picture format) before from (Gbsc ∷ es) end
+pub header-fails : (format : Format) (bits : List Bool) (last groups : ℕ) (before : List Element) (from r end : List Bool × ℕ) (es : List Element) → (comes : GroupComes format bits last groups before from r) → Goes (next_within_limit format) (Gbsc ∷ before) r es end → Goes (next_within_limit format) before from (Gbsc ∷ es) end
 header-fails format bits last groups before from r end es comes goes =
-    (comes.size, comes.starts, subst (λ (x : List Bool × ℕ). Goes (picture format) (Gbsc ∷ before) x es end) comes.behind goes)
+    (comes.size, comes.starts, subst (λ (x : List Bool × ℕ). Goes (next_within_limit format) (Gbsc ∷ before) x es end) comes.behind goes)
 
 pub at-most : (format : Format) (bits : List Bool) (groups : ℕ) (before : List Element) (from : List Bool × ℕ) (number quant : ℕ) (state : MbState) (marks : List Mark) (r : List Bool × ℕ) → GroupSoFar format bits groups before from number quant state marks r → length marks ≤ 33
 at-most format bits groups before from number quant state marks r s = omega (arith, s.count, length-risen 0 s.macroblocks (omega arith) s.so_far.valid.addresses)
 
 -- a walk on takes bits
-pub fewer : (format : Format) (before : List Element) (r end : List Bool × ℕ) (es : List Element) → Goes (picture format) before r es end → r.1 < end.1 → length end.0 < length r.0
+pub fewer : (format : Format) (before : List Element) (r end : List Bool × ℕ) (es : List Element) → Goes (next_within_limit format) before r es end → r.1 < end.1 → length end.0 < length r.0
 fewer format before r end es goes on =
     let w = goes-walk format before r es end (goes-next format before r es end goes) in
     omega (arith, w.place, on, ap length w.bits, length-append (words before es) end.0)
 
-pub stuffing-on : (format : Format) (before : List Element) (r : List Bool × ℕ) (n : ℕ) → picture format before r ≡ Good Stuffing n → slot before ≡ AtMacroblock → 0 < n
+pub stuffing-on : (format : Format) (before : List Element) (r : List Bool × ℕ) (n : ℕ) → next_within_limit format before r ≡ Good Stuffing n → slot before ≡ AtMacroblock → 0 < n
 stuffing-on format before r n step due =
     let w = (next-is format before r Stuffing n (picture-next format before r Stuffing n step).0).1 in
     let long : length (word_at (slot before) Stuffing) ≡ 11 = ap (λ (s : Slot). length (word_at s Stuffing)) due in

@@ -9,11 +9,11 @@ use Rattle.pel_model.specs.declared.Format.{Format}
 use Rattle.pel_model.specs.declared.Why.{Why}
 use Rattle.pel_model.specs.declared.Why.TheVariants.{Cut, NoCode, NoStart}
 use Rattle.pel_model.specs.Bits as model
-use Rattle.pel_model.specs.Codes.{begins, picture_start_code}
+use Rattle.pel_model.specs.Codes.{is_prefix, picture_start_code}
 use Rattle.pel_model.specs.Walk.{Good, Bad, read, word_at}
 use Rattle.pel_model.specs.Grammar.{Element, Psc, Tr, Ptype, Gn, Gquant, Slot, slot, AtPsc, AtTr, AtPtype, AtGn, AtGquant, at_slot, or_no_start, rows, word_row, field_rows, faults, first_why, next}
 use Rattle.pel_model.proofs.Steps.{judge, next-at, judged-good, judged-bad, judged-none, field-good, field-cut}
-use Rattle.vlc_codes.proofs.WordLaws.{begins_length, begins_longer, cause-cut, cause-none}
+use Rattle.vlc_codes.proofs.WordLaws.{is_prefix_length, is_prefix_longer, cause-cut, cause-none}
 use Rattle.h261_pic.specs.HeaderElements.{Layer, OfPicture, OfGroup, FieldOf, flag_of, spare_of, flag_slot, spare_slot}
 
 -- ---- fields
@@ -68,18 +68,18 @@ peeked left n k fits is = is ∙ ap bits.number (take-append-le k left (zeros k)
 
 -- ---- the start code
 
-pub begins_front : (word left : List Bool) → take (length word) left ≡ word → begins word left ≡ true
-begins_front [] left is = refl
-begins_front (b ∷ word) [] is = absurd cc
-begins_front (b ∷ word) (c ∷ left) is = same b c (cc) (begins_front word left cc)
+pub is_prefix_front : (word left : List Bool) → take (length word) left ≡ word → is_prefix word left ≡ true
+is_prefix_front [] left is = refl
+is_prefix_front (b ∷ word) [] is = absurd cc
+is_prefix_front (b ∷ word) (c ∷ left) is = same b c (cc) (is_prefix_front word left cc)
   where
-    same : (b c : Bool) → c ≡ b → begins word left ≡ true → begins (b ∷ word) (c ∷ left) ≡ true
+    same : (b c : Bool) → c ≡ b → is_prefix word left ≡ true → is_prefix (b ∷ word) (c ∷ left) ≡ true
     same true true is front = front
     same false false is front = front
     same true false is front = absurd cc
     same false true is front = absurd cc
 
-pub front_begins : (word left : List Bool) → begins word left ≡ true → take (length word) left ≡ word
+pub front_begins : (word left : List Bool) → is_prefix word left ≡ true → take (length word) left ≡ word
 front_begins [] left is = refl
 front_begins (b ∷ word) [] is = absurd cc
 front_begins (true ∷ word) (true ∷ left) is = ap (λ (bs : List Bool). true ∷ bs) (front_begins word left is)
@@ -124,7 +124,7 @@ at-psc : (left : List Bool) → at_slot AtPsc left ≡ or_no_start AtPsc (read (
 unfolding rows
 at-psc left = refl
 
-found : (left : List Bool) (here : Bool) → begins picture_start_code left ≡ here → read (word_row picture_start_code Psc ∷ []) left ≡ word_at (word_row picture_start_code Psc ∷ []) left (cond here (Some (word_row picture_start_code Psc)) None)
+found : (left : List Bool) (here : Bool) → is_prefix picture_start_code left ≡ here → read (word_row picture_start_code Psc ∷ []) left ≡ word_at (word_row picture_start_code Psc ∷ []) left (cond here (Some (word_row picture_start_code Psc)) None)
 found left here is = ap (λ (b : Bool). word_at (word_row picture_start_code Psc ∷ []) left (cond b (Some (word_row picture_start_code Psc)) None)) is
 
 module _ (format : Format) (before : List Element) (r : List Bool × ℕ) (due : slot before ≡ AtPsc) where
@@ -132,7 +132,7 @@ module _ (format : Format) (before : List Element) (r : List Bool × ℕ) (due :
   start-good long same =
       let whole : nat_lt (length r.0) 20 ≡ false = le-ltb (length r.0) 20 long in
       let word : read (word_row picture_start_code Psc ∷ []) r.0 ≡ Good Psc 20 =
-      found r.0 true (begins_front picture_start_code r.0 same) ∙ ap (λ (short : Bool). if short then Bad Cut else Good Psc 20) whole in
+      found r.0 true (is_prefix_front picture_start_code r.0 same) ∙ ap (λ (short : Bool). if short then Bad Cut else Good Psc 20) whole in
       next-at format before r AtPsc due
       ∙ judged-good (judge format before) Psc 20 (at_slot AtPsc r.0) (at-psc r.0 ∙ ap (or_no_start AtPsc) word) refl
 
@@ -141,16 +141,16 @@ module _ (format : Format) (before : List Element) (r : List Bool × ℕ) (due :
       let front : take (length r.0) picture_start_code ≡ r.0 =
       ap (λ (n : ℕ). take n picture_start_code) (sym len) ∙ (sym same ∙ take_all k r.0 (omega (arith, len))) in
       let word : read (word_row picture_start_code Psc ∷ []) r.0 ≡ Bad Cut =
-      found r.0 false (begins_longer picture_start_code r.0 (omega (arith, len)))
-      ∙ ap Bad (cause-cut (picture_start_code ∷ []) r.0 (ap (λ (b : Bool). b || false) (begins_front r.0 picture_start_code front))) in
+      found r.0 false (is_prefix_longer picture_start_code r.0 (omega (arith, len)))
+      ∙ ap Bad (cause-cut (picture_start_code ∷ []) r.0 (ap (λ (b : Bool). b || false) (is_prefix_front r.0 picture_start_code front))) in
       next-at format before r AtPsc due
       ∙ judged-none (judge format before) Cut (at_slot AtPsc r.0) (at-psc r.0 ∙ ap (or_no_start AtPsc) word)
 
-  pub start-none : (begins picture_start_code r.0 ≡ true → ⊥) → (begins r.0 picture_start_code ≡ true → ⊥) → next format before r ≡ Bad NoStart
+  pub start-none : (is_prefix picture_start_code r.0 ≡ true → ⊥) → (is_prefix r.0 picture_start_code ≡ true → ⊥) → next format before r ≡ Bad NoStart
   start-none not_whole not_front =
       let word : read (word_row picture_start_code Psc ∷ []) r.0 ≡ Bad NoCode =
-      found r.0 false (false_from_ne_true (begins picture_start_code r.0) not_whole)
-      ∙ ap Bad (cause-none (picture_start_code ∷ []) r.0 (or_from (begins r.0 picture_start_code) false (false_from_ne_true (begins r.0 picture_start_code) not_front) refl)) in
+      found r.0 false (false_from_ne_true (is_prefix picture_start_code r.0) not_whole)
+      ∙ ap Bad (cause-none (picture_start_code ∷ []) r.0 (or_from (is_prefix r.0 picture_start_code) false (false_from_ne_true (is_prefix r.0 picture_start_code) not_front) refl)) in
       next-at format before r AtPsc due
       ∙ judged-none (judge format before) NoStart (at_slot AtPsc r.0) (at-psc r.0 ∙ ap (or_no_start AtPsc) word)
 
@@ -158,9 +158,9 @@ module _ (format : Format) (before : List Element) (r : List Bool × ℕ) (due :
   pub other-number : (n k : ℕ) → k ≡ min (length r.0) 20 → n ≡ bits.number (take k r.0) → n ≢ 16 / 2 ^ (20 - k) → next format before r ≡ Bad NoStart
   other-number n k is seen differs =
       start-none
-      (λ whole. let long : 20 ≤ length r.0 = begins_length picture_start_code r.0 whole in
+      (λ whole. let long : 20 ≤ length r.0 = is_prefix_length picture_start_code r.0 whole in
       let k_is : k ≡ 20 = omega arith in
       differs (is_number picture_start_code 16 20 code-field (omega arith) r.0 n k (omega arith) seen (ap (λ (m : ℕ). take m r.0) k_is ∙ (front_begins picture_start_code r.0 whole ∙ ap (λ (m : ℕ). take m picture_start_code) (sym k_is)))))
-      (λ front. let short : length r.0 ≤ 20 = begins_length r.0 picture_start_code front in
+      (λ front. let short : length r.0 ≤ 20 = is_prefix_length r.0 picture_start_code front in
       let k_is : k ≡ length r.0 = omega arith in
       differs (is_number picture_start_code 16 20 code-field (omega arith) r.0 n k (omega arith) seen (take_all k r.0 (omega arith) ∙ (sym (front_begins r.0 picture_start_code front) ∙ ap (λ (m : ℕ). take m picture_start_code) (sym k_is)))))

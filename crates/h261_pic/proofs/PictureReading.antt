@@ -11,7 +11,7 @@ use Rattle.pel_model.specs.Text.{text, macroblocks_text}
 use Rattle.pel_model.specs.Valid.{group_numbers, group_count, limit}
 use Rattle.pel_model.specs.Accepts.{Accepts}
 use Rattle.pel_model.specs.Walk.{Bad, start, after, Goes, FirstFault}
-use Rattle.pel_model.specs.Grammar.{Element, Psc, Tr, Ptype, Pei, Pspare, AtGroup, slot, may_end, begun, group, counted, next, picture}
+use Rattle.pel_model.specs.Grammar.{Element, Psc, Tr, Ptype, Pei, Pspare, AtGroup, slot, may_end, begun, group, counted, next, next_within_limit}
 use Rattle.pel_model.proofs.Walks.{goes-append, after-append}
 use Rattle.picture_laws.specs.SoFar.{IsPictureSoFar, IsGroupSoFar, group_of}
 use Rattle.picture_laws.specs.SoFar as law
@@ -35,10 +35,10 @@ pub record PictureSoFar (format : Format) (bits : List Bool) (last groups : ℕ)
   pub pic : Picture
   pub es : List Element
   pub mid : List Bool × ℕ
-  pub walk : Goes (picture format) [] (start bits) es mid
+  pub walk : Goes (next_within_limit format) [] (start bits) es mid
   pub so_far : IsPictureSoFar format pic es
   pub written : into ≡ coding format pic
-  pub follows : Follows (picture format (after [] es) mid) another mid r
+  pub follows : Follows (next_within_limit format (after [] es) mid) another mid r
   pub due : may_end (slot (after [] es)) ≡ true
   pub last_is : group (after [] es) ≡ last
   pub groups_are : begun (after [] es) ≡ groups
@@ -62,7 +62,7 @@ fits-first Cif = omega arith
 -- what is known behind the header
 pub record HeaderRead (format : Format) (bits : List Bool) (tr : ℕ) (r : List Bool × ℕ) : Type 0 where
   pub es : List Element
-  pub walk : Goes (picture format) [] (start bits) es r
+  pub walk : Goes (next_within_limit format) [] (start bits) es r
   pub so_far : IsPictureSoFar format (record { tr = tr; groups = [] }) es
   pub due : slot (after [] es) ≡ AtGroup
   pub last_is : group (after [] es) ≡ 0
@@ -70,10 +70,10 @@ pub record HeaderRead (format : Format) (bits : List Bool) (tr : ℕ) (r : List 
   pub fits : counted format (after [] es) r.1 ≤ limit format
   pub long : 32 ≤ r.1
 
-pub header-read : (format : Format) (bits : List Bool) (r : List Bool × ℕ) (tr ptype : ℕ) (spares : List ℕ) (es : List Element) → Goes (picture format) [] (start bits) es r → es ≡ picture_header_elements tr ptype spares → HeaderRead format bits tr r
+pub header-read : (format : Format) (bits : List Bool) (r : List Bool × ℕ) (tr ptype : ℕ) (spares : List ℕ) (es : List Element) → Goes (next_within_limit format) [] (start bits) es r → es ≡ picture_header_elements tr ptype spares → HeaderRead format bits tr r
 header-read format bits r tr ptype spares es goes is =
     let all : List Element = picture_header_elements tr ptype spares in
-    let walk : Goes (picture format) [] (start bits) all r = subst (λ (x : List Element). Goes (picture format) [] (start bits) x r) is goes in
+    let walk : Goes (next_within_limit format) [] (start bits) all r = subst (λ (x : List Element). Goes (next_within_limit format) [] (start bits) x r) is goes in
     let plain = goes-next format [] (start bits) all r walk in
     let before : List Element = Ptype ptype ∷ Tr tr ∷ Psc ∷ [] in
     record {
@@ -88,7 +88,7 @@ header-read format bits r tr ptype spares es goes is =
     }
 
 -- the picture of no groups
-pub first-groups : (format : Format) (bits : List Bool) (tr : ℕ) (mid r : List Bool × ℕ) (another : Bool) (into : Coding) → (h : HeaderRead format bits tr mid) → into ≡ coding format (record { tr = tr; groups = [] }) → Follows (picture format (after [] h.es) mid) another mid r → PictureSoFar format bits 0 0 another into r
+pub first-groups : (format : Format) (bits : List Bool) (tr : ℕ) (mid r : List Bool × ℕ) (another : Bool) (into : Coding) → (h : HeaderRead format bits tr mid) → into ≡ coding format (record { tr = tr; groups = [] }) → Follows (next_within_limit format (after [] h.es) mid) another mid r → PictureSoFar format bits 0 0 another into r
 first-groups format bits tr mid r another into h written follows =
     let p : Picture = record { tr = tr; groups = [] } in
     record {
@@ -124,9 +124,9 @@ group-comes format bits last groups into r s = record {
 }
 
 -- a fault behind what was read
-pub fails-later : (format : Format) (bits : List Bool) (mid end : List Bool × ℕ) (es more : List Element) (place : ℕ) (why : Why) → Goes (picture format) [] (start bits) es mid → Goes (picture format) (after [] es) mid more end → picture format (after (after [] es) more) end ≡ Bad why → place ≡ end.1 → FirstFault (picture format) bits place why
+pub fails-later : (format : Format) (bits : List Bool) (mid end : List Bool × ℕ) (es more : List Element) (place : ℕ) (why : Why) → Goes (next_within_limit format) [] (start bits) es mid → Goes (next_within_limit format) (after [] es) mid more end → next_within_limit format (after (after [] es) more) end ≡ Bad why → place ≡ end.1 → FirstFault (next_within_limit format) bits place why
 fails-later format bits mid end es more place why here there bad at =
-    (es ++ more, end, goes-append (picture format) [] (start bits) mid end es more here there, subst (λ (b : List Element). picture format b end ≡ Bad why) (sym (after-append [] es more)) bad, at)
+    (es ++ more, end, goes-append (next_within_limit format) [] (start bits) mid end es more here there, subst (λ (b : List Element). next_within_limit format b end ≡ Bad why) (sym (after-append [] es more)) bad, at)
 
 -- where the next group stands, by its number
 pub record StandsNext (format : Format) (last number place : ℕ) (p : Picture) : Type 0 where
@@ -199,10 +199,10 @@ group-added format bits last groups number quant place another marks into into' 
       pic = with_group q g;
       es = s.es ++ read.es;
       mid = read.end;
-      walk = goes-append (picture format) [] (start bits) s.mid read.end s.es read.es s.walk read.walk;
+      walk = goes-append (next_within_limit format) [] (start bits) s.mid read.end s.es read.es s.walk read.walk;
       so_far = subst (λ (k : ℕ). IsPictureSoFar format (with_group q (group_of k quant read.macroblocks)) (s.es ++ read.es)) law_number joined;
       written = grown_is ∙ (ap (λ (c : Coding). grown c quant (bits_at bits marks) marks) same ∙ (ap (λ (t : List Bool). grown (coding format q) quant t marks) read.bits_are ∙ coding-with_group format q g marks number_is read.marks_are));
-      follows = subst (λ (b : List Element). Follows (picture format b read.end) another read.end new) behind read.follows;
+      follows = subst (λ (b : List Element). Follows (next_within_limit format b read.end) another read.end new) behind read.follows;
       due = ap (λ (b : List Element). may_end (slot b)) (sym behind) ∙ ap may_end read.so_far.place.at;
       last_is = ap group (sym behind) ∙ read.so_far.place.group_is;
       groups_are = ap begun (sym behind) ∙ (read.begun_is ∙ ap (λ (k : ℕ). k + 1) s.groups_are);

@@ -7,8 +7,8 @@ use Rattle.std.proofs.lemmas.List.Elements.{All-nil, All-cons, All-head, All-tai
 use Rattle.h261_pic.specs.Coded.{placed}
 use Rattle.pel_bits.specs.Buffer.{Buffer}
 use Rattle.pel_model.specs.declared.Mark.{Mark}
-use Rattle.pel_model.specs.Marks.{quant_behind, mark_of, macroblock_marks}
-use Rattle.pel_model.specs.Records.{Macroblock}
+use Rattle.pel_model.specs.Marks.{mark_of, macroblock_marks}
+use Rattle.pel_model.specs.Records.{Macroblock, quantiser_after}
 use Rattle.pel_model.specs.Text.{macroblock_text, macroblocks_text}
 use Rattle.pel_model.specs.Valid.{AddressesRise}
 use Rattle.h261_pic.specs.Adding.{bits_at}
@@ -66,7 +66,7 @@ pub length-macroblock_marks : (at number quant : ℕ) (last : Option Macroblock)
     → length (macroblock_marks at number quant last ms) ≡ length ms
 length-macroblock_marks at number quant last [] = refl
 length-macroblock_marks at number quant last (m ∷ ms) =
-    ap suc (length-macroblock_marks (at + length (macroblock_text last m)) number (quant_behind quant m.mquant) (Some m) ms)
+    ap suc (length-macroblock_marks (at + length (macroblock_text last m)) number (quantiser_after quant m.mquant) (Some m) ms)
 
 -- they may be placed anew
 pub placed-macroblock_marks : (at at' number number' quant : ℕ) (last : Option Macroblock) (ms : List Macroblock)
@@ -75,7 +75,7 @@ placed-macroblock_marks at at' number number' quant last [] = refl
 placed-macroblock_marks at at' number number' quant last (m ∷ ms) =
     ap (λ (ks : List Mark). mark_of at' number' quant last m ∷ ks)
     (placed-macroblock_marks (at + length (macroblock_text last m)) (at' + length (macroblock_text last m)) number number'
-    (quant_behind quant m.mquant) (Some m) ms)
+    (quantiser_after quant m.mquant) (Some m) ms)
 
 -- what stands at them is their text
 pub bits_at-macroblock_marks : (front rest : List Bool) (number quant : ℕ) (last : Option Macroblock) (ms : List Macroblock)
@@ -93,9 +93,9 @@ bits_at-macroblock_marks front rest number quant last (m ∷ ms) =
     let regroup : front ++ (here ++ more) ++ rest ≡ (front ++ here) ++ more ++ rest =
     ap (λ (bs : List Bool). bs ++ rest) (sym (append_assoc front here more)) in
     ap₂ (λ (bs : List Bool) (cs : List Bool). bs ++ cs) first
-    (ap₂ (λ (bs : List Bool) (n : ℕ). bits_at bs (macroblock_marks n number (quant_behind quant m.mquant) (Some m) ms))
+    (ap₂ (λ (bs : List Bool) (n : ℕ). bits_at bs (macroblock_marks n number (quantiser_after quant m.mquant) (Some m) ms))
     regroup (sym (length-append front here))
-    ∙ bits_at-macroblock_marks (front ++ here) rest number (quant_behind quant m.mquant) (Some m) ms)
+    ∙ bits_at-macroblock_marks (front ++ here) rest number (quantiser_after quant m.mquant) (Some m) ms)
 
 -- they lie within their text
 pub macroblock_marks-inside : (at number quant end : ℕ) (last : Option Macroblock) (ms : List Macroblock)
@@ -105,9 +105,9 @@ macroblock_marks-inside at number quant end last [] inside = All-nil (λ (m : Ma
 macroblock_marks-inside at number quant end last (m ∷ ms) inside =
     let long = length-append (macroblock_text last m) (macroblocks_text (Some m) ms) in
     All-cons (λ (k : Mark). k.at + k.len ≤ end) (mark_of at number quant last m)
-    (macroblock_marks (at + length (macroblock_text last m)) number (quant_behind quant m.mquant) (Some m) ms)
+    (macroblock_marks (at + length (macroblock_text last m)) number (quantiser_after quant m.mquant) (Some m) ms)
     (omega arith)
-    (macroblock_marks-inside (at + length (macroblock_text last m)) number (quant_behind quant m.mquant) end (Some m) ms (omega arith))
+    (macroblock_marks-inside (at + length (macroblock_text last m)) number (quantiser_after quant m.mquant) end (Some m) ms (omega arith))
 
 -- a group has at most 33 macroblocks
 pub length-risen : (last : ℕ) (ms : List Macroblock) → last ≤ 33 → AddressesRise last ms → last + length ms ≤ 33

@@ -6,8 +6,8 @@ use Rattle.h261_pic.proofs.GroupMarks.{length-group_marks}
 use Rattle.pel_model.specs.declared.Format.TheVariants.{Qcif}
 use Rattle.pel_model.specs.declared.Mark.{Mark}
 use Rattle.pel_model.specs.Codes.{is_intra}
-use Rattle.pel_model.specs.Marks.{quant_behind, mark_of, macroblock_marks, group_marks, marks_of}
-use Rattle.pel_model.specs.Records.{Macroblock, Group, Picture}
+use Rattle.pel_model.specs.Marks.{mark_of, macroblock_marks, group_marks, marks_of}
+use Rattle.pel_model.specs.Records.{Macroblock, Group, Picture, quantiser_after}
 use Rattle.pel_model.specs.Refresh.{IsRefresh}
 use Rattle.pel_model.specs.Text.{macroblock_text, group_text}
 
@@ -28,16 +28,16 @@ IsIntra m = is_intra m.kind ≡ true
 intra_marks : (at number quant : ℕ) (last : Option Macroblock) (ms : List Macroblock) → All IsIntra ms → All IsIntraMark (macroblock_marks at number quant last ms)
 intra_marks at number quant last [] all = All-nil IsIntraMark
 intra_marks at number quant last (m ∷ ms) all =
-    All-cons IsIntraMark (mark_of at number quant last m) (macroblock_marks (at + length (macroblock_text last m)) number (quant_behind quant m.mquant) (Some m) ms)
+    All-cons IsIntraMark (mark_of at number quant last m) (macroblock_marks (at + length (macroblock_text last m)) number (quantiser_after quant m.mquant) (Some m) ms)
     (All-head IsIntra m ms all)
-    (intra_marks (at + length (macroblock_text last m)) number (quant_behind quant m.mquant) (Some m) ms (All-tail IsIntra m ms all))
+    (intra_marks (at + length (macroblock_text last m)) number (quantiser_after quant m.mquant) (Some m) ms (All-tail IsIntra m ms all))
 
 marks_intra : (at number quant : ℕ) (last : Option Macroblock) (ms : List Macroblock) → All IsIntraMark (macroblock_marks at number quant last ms) → All IsIntra ms
 marks_intra at number quant last [] all = All-nil IsIntra
 marks_intra at number quant last (m ∷ ms) all =
-    let rest = macroblock_marks (at + length (macroblock_text last m)) number (quant_behind quant m.mquant) (Some m) ms in
+    let rest = macroblock_marks (at + length (macroblock_text last m)) number (quantiser_after quant m.mquant) (Some m) ms in
     All-cons IsIntra m ms (All-head IsIntraMark (mark_of at number quant last m) rest all)
-    (marks_intra (at + length (macroblock_text last m)) number (quant_behind quant m.mquant) (Some m) ms (All-tail IsIntraMark (mark_of at number quant last m) rest all))
+    (marks_intra (at + length (macroblock_text last m)) number (quantiser_after quant m.mquant) (Some m) ms (All-tail IsIntraMark (mark_of at number quant last m) rest all))
 
 abbrev pub IsIntraGroup : Group → Type 0
 IsIntraGroup g = All IsIntra g.macroblocks

@@ -2,13 +2,13 @@
 use Rattle.std.proofs.Common.{◌≡◌, ℕ, Bool, true, false, List, [], ◌∷◌, ◌++◌, refl, sym, ◌∙◌, ap, subst, append_assoc}
 use Rattle.std.proofs.lemmas.Grind.{flat_map-append}
 use Rattle.pel_model.specs.declared.Fault.{Fault}
-use Rattle.pel_model.specs.Walk.{Step, Good, Bad, skipped, after, Goes}
+use Rattle.pel_model.specs.Walk.{Standing, Good, Bad, skipped, after, Goes}
 use Rattle.pel_model.specs.Grammar.{Element, slot}
 use Rattle.pel_model.proofs.Walks.{after-append, goes-append, goes_more}
 use Rattle.h261_pic.specs.HeaderElements.{Layer, OfPicture, OfGroup, flag_of, spare_of, flag_slot, spare_slot, spares_so_far, spares_of, AreSparesSoFar}
 
 -- flags with their bytes were passed, and a flag is due
-pub record SparesSoFar (next : List Element → List Bool × ℕ → Step Element) (before : List Element) (layer : Layer) (old new : List Bool × ℕ) : Type 0 where
+pub record SparesSoFar (next : List Element → List Bool × ℕ → Standing Element) (before : List Element) (layer : Layer) (old new : List Bool × ℕ) : Type 0 where
   pub octets : List ℕ
   pub walk : Goes next before old (spares_so_far layer octets) new
   pub due : slot (after before (spares_so_far layer octets)) ≡ flag_slot layer
@@ -25,7 +25,7 @@ slot-spare OfGroup octet before = refl
 one_more : (layer : Layer) (octets : List ℕ) (octet : ℕ) → spares_so_far layer (octets ++ octet ∷ []) ≡ spares_so_far layer octets ++ flag_of layer true ∷ spare_of layer octet ∷ []
 one_more layer octets octet = flat_map-append (λ (o : ℕ). flag_of layer true ∷ spare_of layer o ∷ []) octets (octet ∷ [])
 
-module _ (next : List Element → List Bool × ℕ → Step Element) (before : List Element) (layer : Layer) where
+module _ (next : List Element → List Bool × ℕ → Standing Element) (before : List Element) (layer : Layer) where
   pub none_yet : (old : List Bool × ℕ) → slot before ≡ flag_slot layer → SparesSoFar next before layer old old
   none_yet old due = record { octets = []; walk = refl; due = due }
 

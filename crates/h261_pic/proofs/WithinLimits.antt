@@ -9,7 +9,7 @@ use Rattle.pel_model.specs.declared.Why.{Why}
 use Rattle.pel_model.specs.declared.Why.TheVariants.{Cut, BadAddress, TooLong}
 use Rattle.pel_model.specs.Codes.{is_prefix_free, mba_table}
 use Rattle.pel_model.specs.Walk.{Good, Bad, skipped, after, Goes, Walked, read}
-use Rattle.pel_model.specs.Grammar.{Element, Mba, slot, AtMacroblock, address, may_end, mba_rows, next, picture}
+use Rattle.pel_model.specs.Grammar.{Element, Mba, slot, AtMacroblock, address, may_end, mba_rows, next, next_within_limit}
 use Rattle.pel_model.proofs.Walks.{same_walk}
 use Rattle.picture_laws.specs.Laws.{Leaves, TooLongAt}
 use Rattle.pel_model.specs.Elements.{AreInside}
@@ -23,8 +23,8 @@ use Rattle.h261_pic.specs.Reached.{Reached}
 -- good elements of the picture, and the next one is too long, at that place
 abbrev pub IsTooLong : Format → List Element → List Bool × ℕ → ℕ → Type 0
 IsTooLong format before old place =
-    (es : List Element) × (end : List Bool × ℕ) × Goes (picture format) before old es end
-    × (picture format (after before es) end ≡ Bad TooLong) × (place ≡ end.1)
+    (es : List Element) × (end : List Bool × ℕ) × Goes (next_within_limit format) before old es end
+    × (next_within_limit format (after before es) end ≡ Bad TooLong) × (place ≡ end.1)
 
 -- a reading of the first k bits alone
 abbrev pub first_bits : ℕ → List Bool × ℕ → List Bool × ℕ
@@ -35,7 +35,7 @@ pub first-bits : (end : ℕ) (begin old cut : List Bool × ℕ) → cut ≡ (tak
 first-bits end begin old cut is copied = is ∙ ap (λ (r : List Bool × ℕ). (take (end - r.1) r.0, r.1)) copied
 
 -- the fault that is answered there
-pub fault-there : (format : Format) (before : List Element) (old : List Bool × ℕ) (place at : ℕ) (f : Fault) → f ≡ record { place = place; why = TooLong } → place ≡ at → IsTooLong format before old at → (es : List Element) × (end : List Bool × ℕ) × Goes (picture format) before old es end × (picture format (after before es) end ≡ Bad f.why) × (f.place ≡ end.1)
+pub fault-there : (format : Format) (before : List Element) (old : List Bool × ℕ) (place at : ℕ) (f : Fault) → f ≡ record { place = place; why = TooLong } → place ≡ at → IsTooLong format before old at → (es : List Element) × (end : List Bool × ℕ) × Goes (next_within_limit format) before old es end × (next_within_limit format (after before es) end ≡ Bad f.why) × (f.place ≡ end.1)
 fault-there format before old place at f is same long =
     (long.0, long.1, long.2, long.3 ∙ ap (λ (f : Fault). Bad f.why) (sym is), ap (λ (f : Fault). f.place) is ∙ (same ∙ long.4))
 
@@ -106,7 +106,7 @@ module _ {X : Type 0} (format : Format) (before : List Element) (Wanted : X → 
       one (y ∷ es) goes bad at = absurd (bad_good (next format before old) why fault y goes.0 goes.1)
 
   -- a good first element, and what is reached behind it
-  first-reached : (e : Element) (n : ℕ) → picture format before old ≡ Good e n → (result : Result X Fault) → Reached format (e ∷ before) (λ x es. Wanted x (e ∷ es)) result (skipped n old) new → Reached format before Wanted result old new
+  first-reached : (e : Element) (n : ℕ) → next_within_limit format before old ≡ Good e n → (result : Result X Fault) → Reached format (e ∷ before) (λ x es. Wanted x (e ∷ es)) result (skipped n old) new → Reached format before Wanted result old new
   first-reached e n good (Ok x) w = (e ∷ w.0, (n, good, w.1), w.2)
   first-reached e n good (Err f) w = (e ∷ w.0, w.1, (n, good, w.2), w.3, w.4)
 
@@ -133,7 +133,7 @@ module _ (format : Format) (before : List Element) (old : List Bool × ℕ) (d n
         abbrev rest : Walked (next format) (first ∷ before) (λ x es. Wanted x (first ∷ es)) (λ es. IsPart (first ∷ es)) result (skipped n old) new
         rest = behind-first format before Wanted IsPart old new some first n good result walked
 
-        mba_within : n ≤ k → picture format before old ≡ Good first n
+        mba_within : n ≤ k → next_within_limit format before old ≡ Good first n
         mba_within fits = picture-good format before old first n good (omega (arith, leaves, fits))
 
         left : n ≤ k → Leaves format (first ∷ before) (old.1 + n) (k - n)

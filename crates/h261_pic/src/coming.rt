@@ -37,7 +37,7 @@ pub fn take_coming(r: &mut Reader<'_>) -> Result<Coming, Fault>
     }
     let mut ahead = r.copy();
     match mba(&mut ahead) {
-        Ok(MbaRow::Step(_)) => Ok(Coming::Macroblock),
+        Ok(MbaRow::Difference(_)) => Ok(Coming::Macroblock),
         Ok(MbaRow::Stuffing) => {
             *r = ahead;
             Ok(Coming::Stuffing)

@@ -6,7 +6,7 @@ ghost use Rattle.std.specs.Prelude.{◌≡◌, ◌+◌, ◌-◌, ◌*◌, ◌<�
 ghost use Rattle.pel_model.specs.declared.Format.{Format as PictureFormat};
 ghost use Rattle.pel_model.specs.Text.{group_header_length};
 ghost use Rattle.pel_model.specs.Valid.{group_count as group_count_of, limit};
-ghost use Rattle.pel_model.specs.Grammar.{Element, Mba, mba_rows, slot, AtGn, AtGroup, AtMacroblock, group as group_before, begun as begun_before, is_group as is_group_of, counted, picture};
+ghost use Rattle.pel_model.specs.Grammar.{Element, Mba, mba_rows, slot, AtGn, AtGroup, AtMacroblock, group as group_before, begun as begun_before, is_group as is_group_of, counted, next_within_limit};
 ghost use Rattle.pel_model.specs.Walk.{Good, read};
 ghost use Rattle.h261_mb.specs.State.{IsReady, Stands, IsRead};
 ghost use Rattle.h261_pic.specs.HeaderElements.{picture_header_elements, group_header_elements};
@@ -96,7 +96,7 @@ pub fn macroblock_within(
 pub fn coming_within(r: &mut Reader<'_>, format: Format, begun: u32) -> Result<Coming, Fault>
     requires { begun ≤ 13 }
     ensures { (before : List Element) → slot before ≡ AtMacroblock → begun_before before ≡ begun → counted format before r.old.1 ≤ limit format →
-        Comes (picture format before r.old) result r.old r.new }
+        Comes (next_within_limit format before r.old) result r.old r.new }
 {
     let mut ahead = r.copy();
     let coming = take_coming(&mut ahead)?;
@@ -114,7 +114,7 @@ pub fn coming_within(r: &mut Reader<'_>, format: Format, begun: u32) -> Result<C
 /// Says whether a group comes behind a picture header, and then takes its start code; else the picture ends.
 pub fn group_follows(r: &mut Reader<'_>, format: Format) -> Result<bool, Fault>
     ensures { (before : List Element) → slot before ≡ AtGroup → begun_before before ≡ 0 → counted format before r.old.1 ≤ limit format →
-        FollowsOrFails (picture format before r.old) result r.old r.new }
+        FollowsOrFails (next_within_limit format before r.old) result r.old r.new }
 {
     let place = r.place();
     match take_group_or_end(r)? {

@@ -5,7 +5,7 @@ ghost use Rattle.std.specs.Prelude.{◌≡◌, ℕ, IfOk, IfErr, IsOk};
 ghost use Rattle.pel_model.specs.declared.Why.{Why as Reason};
 ghost use Rattle.pel_model.specs.Records.{Picture};
 ghost use Rattle.pel_model.specs.Accepts.{Accepts};
-ghost use Rattle.pel_model.specs.Grammar.{picture as picture_grammar};
+ghost use Rattle.pel_model.specs.Grammar.{next_within_limit};
 ghost use Rattle.pel_model.specs.Walk.{FirstFault};
 ghost use Rattle.h261_pic.specs.Coded.{nothing, coding};
 
@@ -28,8 +28,8 @@ pub fn parse(bits: Bits<'_>, want: Format, into: &mut Coded) -> Result<(), Fault
     requires { into.old.format ≡ want }
     ensures accepted { IfOk result (λ _. (picture : Picture) × Accepts want bits.entry picture × (into.new ≡ coding want picture)) }
     ensures only { (picture : Picture) → Accepts want bits.entry picture → IsOk result × (into.new ≡ coding want picture) }
-    ensures refused { IfErr result (λ fault. FirstFault (picture_grammar want) bits.entry fault.place fault.why × (into.new ≡ nothing want)) }
-    ensures faults { (place : ℕ) (why : Reason) → FirstFault (picture_grammar want) bits.entry place why → result ≡ Err (record { place = place; why = why }) }
+    ensures refused { IfErr result (λ fault. FirstFault (next_within_limit want) bits.entry fault.place fault.why × (into.new ≡ nothing want)) }
+    ensures faults { (place : ℕ) (why : Reason) → FirstFault (next_within_limit want) bits.entry place why → result ≡ Err (record { place = place; why = why }) }
 {
     let result = read_picture(&bits, want, into);
     if result.is_err() {
@@ -43,7 +43,7 @@ fn read_picture(bits: &Bits<'_>, format: Format, into: &mut Coded) -> Result<(),
     requires { into.old.format ≡ format }
     ensures format { into.new.format ≡ format }
     ensures accepted { IfOk result (λ _. (picture : Picture) × Accepts format bits.now picture × (into.new ≡ coding format picture)) }
-    ensures refused { IfErr result (λ fault. FirstFault (picture_grammar format) bits.now fault.place fault.why) }
+    ensures refused { IfErr result (λ fault. FirstFault (next_within_limit format) bits.now fault.place fault.why) }
 {
     let mut r = Reader::new(bits.slice(0, bits.len()));
     into.start(picture_header_within(&mut r, format)?);

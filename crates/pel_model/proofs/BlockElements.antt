@@ -4,12 +4,12 @@ use Rattle.pel_model.specs.declared.MbKind.{MbKind}
 use Rattle.pel_model.specs.Records.{Across, Down, Coefficient, Block}
 use Rattle.pel_model.specs.Elements.{dc_elements, coefficient_elements, block_elements}
 use Rattle.pel_model.specs.Walk.{after}
-use Rattle.pel_model.specs.Grammar.{Element, Dc, Tcoeff, Eob, AtFirst, slot, block_slot, kind, blocks, filled, group, address, quant, vector}
+use Rattle.pel_model.specs.Grammar.{Element, Dc, Tcoeff, Eob, AtFirst, slot, block_slot, kind, blocks, filled, group, address, quantiser, vector_component}
 use Rattle.pel_model.proofs.Walks.{after-append}
 
 -- all that elements say of the last macroblock but its blocks
 abbrev pub said : List Element → MbKind × ℕ × ℕ × ℕ × ℤ × ℤ
-said before = (kind before, group before, address before, quant before, vector Across before, vector Down before)
+said before = (kind before, group before, address before, quantiser before, vector_component Across before, vector_component Down before)
 
 pass_coefficients : (before : List Element) (cs : List Coefficient) → (said (after before (map Tcoeff cs)) ≡ said before) × (blocks (after before (map Tcoeff cs)) ≡ blocks before)
 pass_coefficients before [] = (refl, refl)

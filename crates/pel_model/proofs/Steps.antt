@@ -5,7 +5,7 @@ use Rattle.pel_model.specs.declared.Format.{Format}
 use Rattle.pel_model.specs.declared.Why.{Why}
 use Rattle.pel_model.specs.declared.Why.TheVariants.{Cut}
 use Rattle.pel_model.specs.Bits.{number}
-use Rattle.pel_model.specs.Walk.{Step, Good, Bad, read, judged, verdict}
+use Rattle.pel_model.specs.Walk.{Standing, Good, Bad, read, judged, verdict}
 use Rattle.pel_model.specs.Grammar.{Element, Slot, slot, at_slot, faults, first_why, field_rows, next}
 
 -- what is judged of an element behind others
@@ -18,14 +18,14 @@ unfolding next
 next-at format before r s is = ap (λ (s : Slot). judged (judge format before) (at_slot s r.0)) is
 
 -- an element was read, and it is good, or it is at fault
-pub judged-good : {E : Type 0} (judge : E → ℕ → Option Why) (e : E) (n : ℕ) (here : Step E) → here ≡ Good e n → judge e n ≡ None → judged judge here ≡ Good e n
+pub judged-good : {E : Type 0} (judge : E → ℕ → Option Why) (e : E) (n : ℕ) (here : Standing E) → here ≡ Good e n → judge e n ≡ None → judged judge here ≡ Good e n
 judged-good judge e n here is fine = ap (judged judge) is ∙ ap (verdict e n) fine
 
-pub judged-bad : {E : Type 0} (judge : E → ℕ → Option Why) (e : E) (n : ℕ) (why : Why) (here : Step E) → here ≡ Good e n → judge e n ≡ Some why → judged judge here ≡ Bad why
+pub judged-bad : {E : Type 0} (judge : E → ℕ → Option Why) (e : E) (n : ℕ) (why : Why) (here : Standing E) → here ≡ Good e n → judge e n ≡ Some why → judged judge here ≡ Bad why
 judged-bad judge e n why here is fault = ap (judged judge) is ∙ ap (verdict e n) fault
 
 -- no element was read
-pub judged-none : {E : Type 0} (judge : E → ℕ → Option Why) (why : Why) (here : Step E) → here ≡ Bad why → judged judge here ≡ Bad why
+pub judged-none : {E : Type 0} (judge : E → ℕ → Option Why) (why : Why) (here : Standing E) → here ≡ Bad why → judged judge here ≡ Bad why
 judged-none judge why here is = ap (judged judge) is
 
 -- any bits of a width

@@ -3,7 +3,7 @@ use Rattle.std.proofs.Common.{◌≡◌, ℕ, ◌+◌, Bool, List, [], ◌∷◌
 use Rattle.std.proofs.lemmas.List.{drop-drop}
 use Rattle.pel_model.specs.declared.Fault.{Fault}
 use Rattle.pel_model.specs.declared.Why.{Why}
-use Rattle.pel_model.specs.Walk.{Step, Good, Stop, Bad, skipped, start, after, Goes, FirstFault, Reads, HasOneAnswer, Walked}
+use Rattle.pel_model.specs.Walk.{Standing, Good, Stop, Bad, skipped, start, after, Goes, FirstFault, Reads, HasOneAnswer, Walked}
 
 pub after-append : {E : Type 0} (before xs ys : List E) → after before (xs ++ ys) ≡ after (after before xs) ys
 after-append before [] ys = refl
@@ -16,19 +16,19 @@ skipped-skipped m n r = ap (λ (bs : List Bool). (bs, r.1 + n + m)) (drop-drop m
 pub good_same : {E : Type 0} (x y : E) (n m : ℕ) → Good x n ≡ Good y m → (x ≡ y) × (n ≡ m)
 good_same x y n m same = (cc, cc)
 
-good_not_stop : {E : Type 0} (s : Step E) (e : E) (n : ℕ) → s ≡ Stop → s ≡ Good e n → ⊥
+good_not_stop : {E : Type 0} (s : Standing E) (e : E) (n : ℕ) → s ≡ Stop → s ≡ Good e n → ⊥
 good_not_stop s e n stop good = cc
 
-good_not_bad : {E : Type 0} (s : Step E) (e : E) (n : ℕ) (why : Why) → s ≡ Bad why → s ≡ Good e n → ⊥
+good_not_bad : {E : Type 0} (s : Standing E) (e : E) (n : ℕ) (why : Why) → s ≡ Bad why → s ≡ Good e n → ⊥
 good_not_bad s e n why bad good = cc
 
-bad_same : {E : Type 0} (why other : Why) → ◌≡◌ {A = Step E} (Bad why) (Bad other) → why ≡ other
+bad_same : {E : Type 0} (why other : Why) → ◌≡◌ {A = Standing E} (Bad why) (Bad other) → why ≡ other
 bad_same why other same = cc
 
-stop_not_bad : {E : Type 0} (s : Step E) (why : Why) → s ≡ Stop → s ≡ Bad why → ⊥
+stop_not_bad : {E : Type 0} (s : Standing E) (why : Why) → s ≡ Stop → s ≡ Bad why → ⊥
 stop_not_bad s why stop bad = cc
 
-module _ {E : Type 0} (next : List E → List Bool × ℕ → Step E) where
+module _ {E : Type 0} (next : List E → List Bool × ℕ → Standing E) where
   -- two walks, one behind the other
   pub goes-append : (before : List E) (r mid end : List Bool × ℕ) (xs ys : List E) → Goes next before r xs mid → Goes next (after before xs) mid ys end → Goes next before r (xs ++ ys) end
   goes-append before r mid end [] ys here there = subst (λ (m : List Bool × ℕ). Goes next before m ys end) here there

@@ -8,8 +8,8 @@ use Rattle.pel_model.specs.declared.Why.{Why}
 use Rattle.pel_model.specs.declared.Why.TheVariants.{BadAddress, BadDc, BadGroup, BadLevel, BadQuant, BadVector, Cut, NoCode, NoStart, StillImage, TooMany, VectorOutside, WrongFormat, TooLong}
 use Rattle.pel_model.specs.Bits.{field, number}
 use Rattle.pel_model.specs.Codes.{word, mba_table, mtype_table, mvd_table, cbp_table, tcoeff_table}
-use Rattle.pel_model.specs.Walk.{Step, Good, Stop, Bad, skipped}
-use Rattle.pel_model.specs.Grammar.{Element, rows, next, picture}
+use Rattle.pel_model.specs.Walk.{Standing, Good, Stop, Bad, skipped}
+use Rattle.pel_model.specs.Grammar.{Element, rows, next, next_within_limit}
 
 -- the lawful end, or the first fault
 pub data Outcome : Type 0 where
@@ -17,7 +17,7 @@ pub data Outcome : Type 0 where
   At : ℕ → Why → Outcome
   Spent : Outcome
 
-abbrev pub outcome : Step Element → ℕ → (Element → ℕ → Outcome) → Outcome
+abbrev pub outcome : Standing Element → ℕ → (Element → ℕ → Outcome) → Outcome
 outcome (Good e n) place more = more e n
 outcome Stop place more = Whole place
 outcome (Bad why) place more = At place why
@@ -25,7 +25,7 @@ outcome (Bad why) place more = At place why
 unfoldable pub run : ℕ → Format → List Element → List Bool × ℕ → Outcome
 run zero format before r = Spent
 run (suc fuel) format before r =
-    outcome (picture format before r) r.1 (λ e n. run fuel format (e ∷ before) (skipped n r))
+    outcome (next_within_limit format before r) r.1 (λ e n. run fuel format (e ∷ before) (skipped n r))
 
 abbrev pub answer_from : ℕ → Format → List Bool → Outcome
 answer_from place format bits = run (suc (length bits)) format [] (bits, place)
@@ -122,7 +122,7 @@ worked =
     ∷ []
 
 pub worked_answers : map (λ w. answer_from 0 w.0.0 (word w.0.1)) worked ≡ map (λ w. w.1) worked
-unfolding run picture next rows field number mba_table mtype_table mvd_table cbp_table tcoeff_table
+unfolding run next_within_limit next rows field number mba_table mtype_table mvd_table cbp_table tcoeff_table
 worked_answers = refl
 
 -- the same picture of 158 bits, begun so near the limit that its last bit is the last that is allowed, and one later:
@@ -131,5 +131,5 @@ abbrev pub vectors : List ℕ
 vectors = codes "00000000000000010000000010000110000000000000000100010100000000101000000000100111100000000101011000000001110000000000000001001101000000000000000000010101010000"
 
 pub limit_answers : (answer_from 65378 Qcif (word vectors) ≡ Whole 65536) × (answer_from 65379 Qcif (word vectors) ≡ At 65484 TooLong)
-unfolding run picture next rows field number mba_table mtype_table mvd_table cbp_table tcoeff_table
+unfolding run next_within_limit next rows field number mba_table mtype_table mvd_table cbp_table tcoeff_table
 limit_answers = (refl, refl)

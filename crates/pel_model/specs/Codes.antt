@@ -305,15 +305,15 @@ has_cbp _ = true
 
 -- ---- prefix freedom
 
--- the first list stands at the front of the second
-abbrev pub begins : List Bool → List Bool → Bool
-begins [] bits = true
-begins (b ∷ bs) [] = false
-begins (true ∷ bs) (true ∷ cs) = begins bs cs
-begins (false ∷ bs) (false ∷ cs) = begins bs cs
-begins (b ∷ bs) (c ∷ cs) = false
+-- the first list is a prefix of the second
+abbrev pub is_prefix : List Bool → List Bool → Bool
+is_prefix [] bits = true
+is_prefix (b ∷ bs) [] = false
+is_prefix (true ∷ bs) (true ∷ cs) = is_prefix bs cs
+is_prefix (false ∷ bs) (false ∷ cs) = is_prefix bs cs
+is_prefix (b ∷ bs) (c ∷ cs) = false
 
--- no word is a front of another
+-- no word is a prefix of another
 abbrev pub is_prefix_free : List (List Bool) → Bool
 is_prefix_free [] = true
-is_prefix_free (w ∷ ws) = not (list_any (λ v. begins w v || begins v w) ws) && is_prefix_free ws
+is_prefix_free (w ∷ ws) = not (list_any (λ v. is_prefix w v || is_prefix v w) ws) && is_prefix_free ws

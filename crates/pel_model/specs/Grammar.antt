@@ -8,10 +8,10 @@ use Rattle.pel_model.specs.declared.MbKind.TheVariants.{Intra}
 use Rattle.pel_model.specs.declared.Why.{Why}
 use Rattle.pel_model.specs.declared.Why.TheVariants.{NoStart, WrongFormat, StillImage, NoCode, BadGroup, BadQuant, BadAddress, BadVector, VectorOutside, BadDc, BadLevel, TooMany, TooLong}
 use Rattle.pel_model.specs.Codes.{picture_start_code, group_start_code, mba_table, stuffing_word, mtype_table, mvd_table, cbp_table, tcoeff_table, first_one_word, later_one_word, escape_word, end_of_block_word, is_intra, has_mquant, has_vector, has_cbp}
-use Rattle.pel_model.specs.Records.{Axis, Across, Down, Coefficient}
+use Rattle.pel_model.specs.Records.{Axis, Across, Down, Coefficient, quantiser_after}
 use Rattle.pel_model.specs.Text.{group_header_length}
 use Rattle.pel_model.specs.Valid.{side, corner, group_numbers, group_count, limit}
-use Rattle.pel_model.specs.Walk.{Step, Stop, Bad, Row, read, judged}
+use Rattle.pel_model.specs.Walk.{Standing, Stop, Bad, Row, read, judged}
 
 -- ---- elements
 
@@ -83,11 +83,11 @@ address (Mba n ∷ before) = address before + n
 address (_ ∷ before) = address before
 
 -- the quantiser in effect
-abbrev pub quant : List Element → ℕ
-quant [] = 0
-quant (Gquant q ∷ before) = q
-quant (Mquant q ∷ before) = q
-quant (_ ∷ before) = quant before
+abbrev pub quantiser : List Element → ℕ
+quantiser [] = 0
+quantiser (Gquant q ∷ before) = q
+quantiser (Mquant q ∷ before) = quantiser_after (quantiser before) (Some q)
+quantiser (_ ∷ before) = quantiser before
 
 -- ---- vectors (4.2.3.4)
 
@@ -109,13 +109,13 @@ abbrev pub resets_predictor : ℕ → ℕ → Bool
 resets_predictor difference at = not (difference == 1) || at == 1 || at == 12 || at == 23
 
 -- a component of the last macroblock's vector, 0 where its kind has none; before its MVD the predictor
-abbrev pub vector : Axis → List Element → ℤ
-vector axis [] = pos 0
-vector axis (Gbsc ∷ before) = pos 0
-vector axis (Mba n ∷ before) = cond (resets_predictor n (address before + n)) (pos 0) (vector axis before)
-vector axis (Mtype k ∷ before) = cond (has_vector k) (vector axis before) (pos 0)
-vector axis (Mvd a v ∷ before) = cond (same_axis a axis) (component_from (vector axis before) v) (vector axis before)
-vector axis (_ ∷ before) = vector axis before
+abbrev pub vector_component : Axis → List Element → ℤ
+vector_component axis [] = pos 0
+vector_component axis (Gbsc ∷ before) = pos 0
+vector_component axis (Mba n ∷ before) = cond (resets_predictor n (address before + n)) (pos 0) (vector_component axis before)
+vector_component axis (Mtype k ∷ before) = cond (has_vector k) (vector_component axis before) (pos 0)
+vector_component axis (Mvd a v ∷ before) = cond (same_axis a axis) (component_from (vector_component axis before) v) (vector_component axis before)
+vector_component axis (_ ∷ before) = vector_component axis before
 
 -- ---- what may stand behind these elements
 
@@ -251,8 +251,8 @@ faults format before (Gquant q) = (q == 0, BadQuant) ∷ []
 faults format before (Mquant q) = (q == 0, BadQuant) ∷ []
 faults format before (Mba n) = (nat_lt 33 (address before + n), BadAddress) ∷ []
 faults format before (Mvd axis v) =
-    (not (in_range (component_from (vector axis before) v)), BadVector)
-    ∷ (not (stays_within (side format axis) (corner axis (group before) (address before)) (component_from (vector axis before) v)), VectorOutside)
+    (not (in_range (component_from (vector_component axis before) v)), BadVector)
+    ∷ (not (stays_within (side format axis) (corner axis (group before) (address before)) (component_from (vector_component axis before) v)), VectorOutside)
     ∷ []
 faults format before (Dc n) = (n == 0 || n == 128, BadDc) ∷ []
 faults format before (Tcoeff c) =
@@ -276,15 +276,15 @@ abbrev pub is_end : List Bool → Bool
 is_end left = nat_lt (length left) 8 && not (list_any (λ b. b) left)
 
 -- bits that do not begin with PSC, nor are a front of it, are no picture
-abbrev pub or_no_start : Slot → Step Element → Step Element
+abbrev pub or_no_start : Slot → Standing Element → Standing Element
 or_no_start AtPsc (Bad NoCode) = Bad NoStart
 or_no_start _ here = here
 
-abbrev pub at_slot : Slot → List Bool → Step Element
+abbrev pub at_slot : Slot → List Bool → Standing Element
 at_slot place left = cond (may_end place && is_end left) Stop (or_no_start place (read (rows place) left))
 
 -- what stands behind these elements, whatever the length of the picture
-unfoldable pub next : Format → List Element → List Bool × ℕ → Step Element
+unfoldable pub next : Format → List Element → List Bool × ℕ → Standing Element
 next format before r = judged (λ e n. first_why (faults format before e)) (at_slot (slot before) r.0)
 
 -- ---- the limit of a picture
@@ -294,7 +294,7 @@ abbrev pub counted : Format → List Element → ℕ → ℕ
 counted format before end = end + group_header_length * (group_count format - begun before)
 
 -- what stands behind these elements in a picture; last of all conditions, no element ends past the limit
-unfoldable pub picture : Format → List Element → List Bool × ℕ → Step Element
-picture format before r =
+unfoldable pub next_within_limit : Format → List Element → List Bool × ℕ → Standing Element
+next_within_limit format before r =
     judged (λ e n. cond (nat_lt (limit format) (counted format (e ∷ before) (r.1 + n))) (Some TooLong) None)
     (next format before r)

@@ -3,13 +3,8 @@
 use Rattle.std.specs.Prelude.{ℕ, ◌+◌, List, [], ◌∷◌, ◌++◌, length, Option, None, Some}
 use Rattle.pel_model.specs.declared.Mark.{Mark}
 use Rattle.pel_model.specs.Codes.{is_intra}
-use Rattle.pel_model.specs.Records.{Macroblock, Group, Picture}
+use Rattle.pel_model.specs.Records.{Macroblock, Group, Picture, quantiser_after}
 use Rattle.pel_model.specs.Text.{picture_header_length, group_header_length, macroblock_text, group_text}
-
--- the quantiser in effect behind a macroblock, where it was `quant` before (4.2.3.3)
-abbrev pub quant_behind : ℕ → Option ℕ → ℕ
-quant_behind quant None = quant
-quant_behind quant (Some mquant) = mquant
 
 -- the mark of a macroblock whose first bit stands at `at`, in the group with this number
 abbrev pub mark_of : (at number quant : ℕ) → Option Macroblock → Macroblock → Mark
@@ -18,7 +13,7 @@ mark_of at number quant last m = record {
   len = length (macroblock_text last m);
   group = number;
   address = m.address;
-  quant_after = quant_behind quant m.mquant;
+  quant_after = quantiser_after quant m.mquant;
   h_after = m.across;
   v_after = m.down;
   intra = is_intra m.kind;
@@ -29,7 +24,7 @@ abbrev pub macroblock_marks : (at number quant : ℕ) → Option Macroblock → 
 macroblock_marks at number quant last [] = []
 macroblock_marks at number quant last (m ∷ ms) =
     mark_of at number quant last m
-    ∷ macroblock_marks (at + length (macroblock_text last m)) number (quant_behind quant m.mquant) (Some m) ms
+    ∷ macroblock_marks (at + length (macroblock_text last m)) number (quantiser_after quant m.mquant) (Some m) ms
 
 -- the marks of groups, the first of whose headers begins at `at`
 abbrev pub group_marks : ℕ → List Group → List Mark

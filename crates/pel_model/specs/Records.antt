@@ -1,5 +1,5 @@
 -- A coded picture as a record: what the layers of H.261 (4.2) carry, without their words.
-use Rattle.std.specs.Prelude.{ℕ, ℤ, Bool, List, [], ◌∷◌, ◌++◌, Option}
+use Rattle.std.specs.Prelude.{ℕ, ℤ, Bool, List, [], ◌∷◌, ◌++◌, Option, None, Some}
 use Rattle.pel_model.specs.declared.MbKind.{MbKind}
 
 -- the two components of a vector
@@ -26,6 +26,16 @@ pub record Macroblock : Type 0 where
   pub across : ℤ
   pub down : ℤ
   pub blocks : List (Option Block)
+
+-- the quantiser in effect for a macroblock with this MQUANT and behind it, where it was `before` (4.2.3.3)
+abbrev pub quantiser_after : (before : ℕ) → Option ℕ → ℕ
+quantiser_after before None = before
+quantiser_after before (Some mquant) = mquant
+
+-- behind macroblocks one after another
+abbrev pub quantiser_behind : (before : ℕ) → List Macroblock → ℕ
+quantiser_behind before [] = before
+quantiser_behind before (m ∷ ms) = quantiser_behind (quantiser_after before m.mquant) ms
 
 -- a group of blocks (4.2.2): GN, GQUANT, and the macroblocks that are sent
 pub record Group : Type 0 where

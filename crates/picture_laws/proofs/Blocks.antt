@@ -14,7 +14,7 @@ use Rattle.pel_model.specs.Records.{Across, Down, Coefficient, Block}
 use Rattle.pel_model.specs.Text.{coefficient_word, coefficients_text, block_text, sent_block_text}
 use Rattle.pel_model.specs.Valid.{IsLongLevel, IsValidCoefficient, IsIntraBlock, IsCodedBlock}
 use Rattle.pel_model.specs.Walk.{after}
-use Rattle.pel_model.specs.Grammar.{Element, Dc, Tcoeff, Eob, Slot, AtDc, AtFirst, AtCoefficient, AtMacroblock, slot, kind, blocks, filled, group, address, vector, first_why, is_forbidden_level, block_slot}
+use Rattle.pel_model.specs.Grammar.{Element, Dc, Tcoeff, Eob, Slot, AtDc, AtFirst, AtCoefficient, AtMacroblock, slot, kind, blocks, filled, group, address, vector_component, first_why, is_forbidden_level, block_slot}
 use Rattle.pel_model.proofs.BlockElements.{pass_block, block-blocks, block-slot, first-filled}
 use Rattle.pel_model.proofs.Walks.{after-append}
 use Rattle.pel_model.specs.Elements.{block_elements, blocks_elements}
@@ -109,7 +109,7 @@ says-coefficients format before one (c ∷ cs) at is valid fits =
 
 -- what coefficients leave as it was
 abbrev pub state : List Element → MbKind × ℕ × ℕ × ℤ × ℤ
-state before = (kind before, group before, address before, vector Across before, vector Down before)
+state before = (kind before, group before, address before, vector_component Across before, vector_component Down before)
 
 pub coefficients-slot : (before : List Element) (cs : List Coefficient) → slot before ≡ AtCoefficient → slot (after before (map Tcoeff cs)) ≡ AtCoefficient
 coefficients-slot before [] h = h

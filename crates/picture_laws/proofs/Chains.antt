@@ -8,9 +8,9 @@ use Rattle.pel_model.specs.declared.Why.{Why}
 use Rattle.pel_model.specs.declared.Why.TheVariants.{NoCode}
 use Rattle.pel_model.specs.Codes.{mba_table}
 use Rattle.pel_model.specs.Text.{word_of}
-use Rattle.pel_model.specs.Walk.{Step, Good, Stop, Bad, skipped, after, Goes, read, judged, verdict}
+use Rattle.pel_model.specs.Walk.{Standing, Good, Stop, Bad, skipped, after, Goes, read, judged, verdict}
 use Rattle.pel_model.specs.Grammar.{Element, Slot, AtPsc, AtGroup, AtMacroblock, slot, rows, faults, first_why, may_end, is_end, or_no_start, at_slot, next}
-use Rattle.picture_laws.proofs.Rows.{among-all}
+use Rattle.vlc_codes.proofs.FoundRows.{among-all}
 use Rattle.picture_laws.proofs.Slots.{word_at, Takes, IsStep}
 use Rattle.picture_laws.proofs.Words.{IsWord, read-slot}
 use Rattle.picture_laws.proofs.Written.{write-slot, found_step}
@@ -62,19 +62,19 @@ judge_same judge x e m n same h =
     let b : m ≡ n = cc in
     ap (λ k. judge e k) (sym b) ∙ (ap (λ y. judge y m) (sym a) ∙ h)
 
-pub judged_good : {E : Type 0} (judge : E → ℕ → Option Why) (s : Step E) (e : E) (n : ℕ) → judged judge s ≡ Good e n → (s ≡ Good e n) × (judge e n ≡ None)
+pub judged_good : {E : Type 0} (judge : E → ℕ → Option Why) (s : Standing E) (e : E) (n : ℕ) → judged judge s ≡ Good e n → (s ≡ Good e n) × (judge e n ≡ None)
 judged_good judge (Good x m) e n h = let v = verdict_good x e m n (judge x m) h in (v.1, judge_same judge x e m n v.1 v.0)
 judged_good judge Stop e n h = absurd cc
 judged_good judge (Bad why) e n h = absurd cc
 
-pub judged_here : {E : Type 0} (judge : E → ℕ → Option Why) (s : Step E) (e : E) (n : ℕ) → s ≡ Good e n → judge e n ≡ None → judged judge s ≡ Good e n
+pub judged_here : {E : Type 0} (judge : E → ℕ → Option Why) (s : Standing E) (e : E) (n : ℕ) → s ≡ Good e n → judge e n ≡ None → judged judge s ≡ Good e n
 judged_here judge s e n is ok = ap (judged judge) is ∙ ap (verdict e n) ok
 
-or_good : (s : Slot) (step : Step Element) (e : Element) (n : ℕ) → or_no_start s step ≡ Good e n → step ≡ Good e n
+or_good : (s : Slot) (step : Standing Element) (e : Element) (n : ℕ) → or_no_start s step ≡ Good e n → step ≡ Good e n
 or_good AtPsc (Bad NoCode) e n h = absurd cc
 or_good _ found e n h = h
 
-or_here : (s : Slot) (step : Step Element) (e : Element) (n : ℕ) → step ≡ Good e n → or_no_start s step ≡ Good e n
+or_here : (s : Slot) (step : Standing Element) (e : Element) (n : ℕ) → step ≡ Good e n → or_no_start s step ≡ Good e n
 or_here AtPsc (Bad NoCode) e n h = absurd cc
 or_here _ found e n h = h
 

@@ -7,17 +7,17 @@ use Rattle.pel_model.specs.declared.Format.{Format}
 use Rattle.pel_model.specs.declared.Why.{Why}
 use Rattle.pel_model.specs.declared.Why.TheVariants.{Cut, NoCode}
 use Rattle.pel_model.specs.Bits.{number}
-use Rattle.pel_model.specs.Codes.{begins, is_prefix_free}
+use Rattle.pel_model.specs.Codes.{is_prefix, is_prefix_free}
 use Rattle.pel_model.specs.Valid.{group_count}
-use Rattle.pel_model.specs.Walk.{Step, Good, Stop, Bad, Row, skipped, after, Goes, read, word_at, judged}
-use Rattle.pel_model.specs.Grammar.{Element, Slot, AtPsc, AtTr, AtPtype, AtPei, AtPspare, AtGroup, AtGn, AtGquant, AtGei, AtGspare, AtMacroblock, AtMtype, AtMquant, AtMvd, AtCbp, AtDc, AtFirst, AtCoefficient, slot, begun, rows, faults, first_why, may_end, is_end, or_no_start, at_slot, next, picture}
+use Rattle.pel_model.specs.Walk.{Standing, Good, Stop, Bad, Row, skipped, after, Goes, read, word_at, judged}
+use Rattle.pel_model.specs.Grammar.{Element, Slot, AtPsc, AtTr, AtPtype, AtPei, AtPspare, AtGroup, AtGn, AtGquant, AtGei, AtGspare, AtMacroblock, AtMtype, AtMquant, AtMvd, AtCbp, AtDc, AtFirst, AtCoefficient, slot, begun, rows, faults, first_why, may_end, is_end, or_no_start, at_slot, next, next_within_limit}
 use Rattle.picture_laws.specs.Laws.{Leaves, GoodOverFirst, GoodOverAll, WithinTheLimit, PastTheLimit, TooLongAt, JudgedByTheLimit}
-use Rattle.picture_laws.proofs.Rows.{Among, apart, read-is, read-row, find-row, among-mapped}
+use Rattle.vlc_codes.proofs.FoundRows.{Among, apart, read-is, read-row, find-row, among-mapped}
 use Rattle.picture_laws.proofs.Slots.{Takes, rows_free}
 use Rattle.picture_laws.proofs.Chains.{word_in, words, next-is, next-good, goes-walk, walk-goes, judged_good, slot_good}
 use Rattle.picture_laws.proofs.Limits.{picture-good, picture-long, picture-stops, picture-bad}
 use Rattle.vlc_codes.specs.Lookup.{codes_of_rows}
-use Rattle.vlc_codes.proofs.WordLaws.{begins_self, begins_length, whole-cut}
+use Rattle.vlc_codes.proofs.WordLaws.{is_prefix_self, is_prefix_length, whole-cut}
 
 -- ---- lists
 
@@ -55,26 +55,26 @@ cut-good format before r e n k h fits =
 -- ---- past the cut
 
 -- of a list of which no word is a front of another, one that is a front of another is that one
-free_same : (ws : List (List Bool)) (v w : List Bool) → is_prefix_free ws ≡ true → Among v ws → Among w ws → begins v w ≡ true → v ≡ w
+free_same : (ws : List (List Bool)) (v w : List Bool) → is_prefix_free ws ≡ true → Among v ws → Among w ws → is_prefix v w ≡ true → v ≡ w
 free_same [] v w free p q h = absurd p
 free_same (u ∷ ws) v w free p q h = elim p [
   | inl v_is ↦ elim q [
     | inl w_is ↦ v_is ∙ sym w_is
-    | inr w_in ↦ absurd (false≢true (sym (apart u ws w (not-true _ (and_parts _ _ free).0) w_in).0 ∙ (ap (λ x. begins x w) (sym v_is) ∙ h)))
+    | inr w_in ↦ absurd (false≢true (sym (apart u ws w (not-true _ (and_parts _ _ free).0) w_in).0 ∙ (ap (λ x. is_prefix x w) (sym v_is) ∙ h)))
   ]
   | inr v_in ↦ elim q [
-    | inl w_is ↦ absurd (false≢true (sym (apart u ws v (not-true _ (and_parts _ _ free).0) v_in).1 ∙ (ap (λ x. begins v x) (sym w_is) ∙ h)))
+    | inl w_is ↦ absurd (false≢true (sym (apart u ws v (not-true _ (and_parts _ _ free).0) v_in).1 ∙ (ap (λ x. is_prefix v x) (sym w_is) ∙ h)))
     | inr w_in ↦ free_same ws v w (and_parts _ _ free).1 v_in w_in h
   ]
 ]
 
-begins_more : (w v more : List Bool) → begins w v ≡ true → begins w (v ++ more) ≡ true
-begins_more [] v more h = refl
-begins_more (b ∷ w) [] more h = absurd cc
-begins_more (true ∷ w) (true ∷ v) more h = begins_more w v more h
-begins_more (false ∷ w) (false ∷ v) more h = begins_more w v more h
-begins_more (true ∷ w) (false ∷ v) more h = absurd cc
-begins_more (false ∷ w) (true ∷ v) more h = absurd cc
+is_prefix_more : (w v more : List Bool) → is_prefix w v ≡ true → is_prefix w (v ++ more) ≡ true
+is_prefix_more [] v more h = refl
+is_prefix_more (b ∷ w) [] more h = absurd cc
+is_prefix_more (true ∷ w) (true ∷ v) more h = is_prefix_more w v more h
+is_prefix_more (false ∷ w) (false ∷ v) more h = is_prefix_more w v more h
+is_prefix_more (true ∷ w) (false ∷ v) more h = absurd cc
+is_prefix_more (false ∷ w) (true ∷ v) more h = absurd cc
 
 find_none : {A : Type 0} (test : A → Bool) (xs : List A) → ((x : A) → Among x xs → test x ≡ false) → find test xs ≡ None
 find_none test [] h = refl
@@ -93,16 +93,16 @@ any_among test (y ∷ xs) x p h = elim p [
 -- bits that end inside a word of a row are cut
 cut_code : {E : Type 0} (rows : List (Row E)) (row : Row E) (k : ℕ) → is_prefix_free (codes_of_rows rows) ≡ true → Among row rows → k < length row.code → read rows (take k row.code) ≡ Bad Cut
 cut_code rows row k free among short =
-    let none : find (λ other. begins other.code (take k row.code)) rows ≡ None = find_none (λ other. begins other.code (take k row.code)) rows (λ other in_. elim (cases_Bool (begins other.code (take k row.code))) [
+    let none : find (λ other. is_prefix other.code (take k row.code)) rows ≡ None = find_none (λ other. is_prefix other.code (take k row.code)) rows (λ other in_. elim (cases_Bool (is_prefix other.code (take k row.code))) [
       | inl here ↦
-          let front : begins other.code row.code ≡ true = ap (begins other.code) (sym (take-append-drop k row.code)) ∙ begins_more other.code (take k row.code) (drop k row.code) here in
+          let front : is_prefix other.code row.code ≡ true = ap (is_prefix other.code) (sym (take-append-drop k row.code)) ∙ is_prefix_more other.code (take k row.code) (drop k row.code) here in
           let same = free_same (codes_of_rows rows) other.code row.code free (among-mapped (λ r. r.code) other rows in_) (among-mapped (λ r. r.code) row rows among) front in
-          absurd (omega (arith, ap length same, begins_length other.code (take k row.code) here, length-take k row.code, short))
+          absurd (omega (arith, ap length same, is_prefix_length other.code (take k row.code) here, length-take k row.code, short))
       | inr no_ ↦ no_
     ]) in
-    let begun_ : begins (take k row.code) row.code ≡ true = ap (begins (take k row.code)) (sym (take-append-drop k row.code)) ∙ begins_self (take k row.code) (drop k row.code) in
-    let some : list_any (λ code. begins (take k row.code) code) (codes_of_rows rows) ≡ true = any_among (λ code. begins (take k row.code) code) (codes_of_rows rows) row.code (among-mapped (λ r. r.code) row rows among) begun_ in
-    ap (word_at rows (take k row.code)) none ∙ ap Bad (cond-true (list_any (λ code. begins (take k row.code) code) (codes_of_rows rows)) Cut NoCode some)
+    let begun_ : is_prefix (take k row.code) row.code ≡ true = ap (is_prefix (take k row.code)) (sym (take-append-drop k row.code)) ∙ is_prefix_self (take k row.code) (drop k row.code) in
+    let some : list_any (λ code. is_prefix (take k row.code) code) (codes_of_rows rows) ≡ true = any_among (λ code. is_prefix (take k row.code) code) (codes_of_rows rows) row.code (among-mapped (λ r. r.code) row rows among) begun_ in
+    ap (word_at rows (take k row.code)) none ∙ ap Bad (cond-true (list_any (λ code. is_prefix (take k row.code) code) (codes_of_rows rows)) Cut NoCode some)
 
 cut_row : {E : Type 0} (rows : List (Row E)) (row : Row E) (tail rest : List Bool) (k : ℕ) → is_prefix_free (codes_of_rows rows) ≡ true → Among row rows → length tail ≡ row.tail → k < length row.code + row.tail → read rows (take k (row.code ++ (tail ++ rest))) ≡ Bad Cut
 cut_row rows row tail rest k free among long short = elim (cases_Bool (nat_lt k (length row.code))) [
@@ -138,7 +138,7 @@ read-kept rows bits e n k free h fits =
     ∙ (read-row rows w.row w.tail (take (left - length w.tail) (drop n bits)) free w.among w.long
     ∙ (ap (λ m. Good (w.row.make (number w.tail)) m) (sym w.size) ∙ ap (λ x. Good x n) (sym w.is)))
 
-or_cut : (s : Slot) (found : Step Element) → found ≡ Bad Cut → or_no_start s found ≡ Bad Cut
+or_cut : (s : Slot) (found : Standing Element) → found ≡ Bad Cut → or_no_start s found ≡ Bad Cut
 or_cut AtPsc (Bad NoCode) h = absurd cc
 or_cut _ found h = h
 
@@ -200,7 +200,7 @@ begun_of : (format : Format) (before : List Element) (r : List Bool × ℕ) (e :
 begun_of format before r e n h no_ = same_begun (slot before) before e (next-is format before r e n h).0.takes no_
 
 -- an element within the limit, and the bits that the limit leaves behind it
-one_within : (format : Format) (before : List Element) (r : List Bool × ℕ) (e : Element) (n k : ℕ) → Leaves format before r.1 k → may_end (slot before) ≡ false → next format before r ≡ Good e n → n ≤ k → (picture format before r ≡ Good e n) × Leaves format (e ∷ before) (r.1 + n) (k - n)
+one_within : (format : Format) (before : List Element) (r : List Bool × ℕ) (e : Element) (n k : ℕ) → Leaves format before r.1 k → may_end (slot before) ≡ false → next format before r ≡ Good e n → n ≤ k → (next_within_limit format before r ≡ Good e n) × Leaves format (e ∷ before) (r.1 + n) (k - n)
 one_within format before r e n k leaves no_ h fits =
     let same : 26 * (group_count format - begun (e ∷ before)) ≡ 26 * (group_count format - begun before) = ap (λ b. 26 * (group_count format - b)) (begun_of format before r e n h no_) in
     (picture-good format before r e n h (omega (arith, leaves, same, fits)), omega (arith, leaves, same, fits))
@@ -212,10 +212,10 @@ within-the-limit format before r end (e ∷ es) k leaves inside goes within =
     let one = one_within format before r e goes.0 k leaves inside.0 goes.1 (omega (arith, w.place, within)) in
     (goes.0, one.0, within-the-limit format (e ∷ before) (skipped goes.0 r) end es (k - goes.0) one.1 inside.1 goes.2 (omega (arith, w.place, within)))
 
-pub same_good : {E : Type 0} (s : Step E) (x y : E) (n m : ℕ) → s ≡ Good x n → s ≡ Good y m → (x ≡ y) × (n ≡ m)
+pub same_good : {E : Type 0} (s : Standing E) (x y : E) (n m : ℕ) → s ≡ Good x n → s ≡ Good y m → (x ≡ y) × (n ≡ m)
 same_good s x y n m p q = (cc, cc)
 
-pub bad_good : {E : Type 0} (s : Step E) (why : Why) → s ≡ Bad why → (e : E) (n : ℕ) → s ≡ Good e n → ⊥
+pub bad_good : {E : Type 0} (s : Standing E) (why : Why) → s ≡ Bad why → (e : E) (n : ℕ) → s ≡ Good e n → ⊥
 bad_good s why bad e n good = cc
 
 no_end_here : (format : Format) (before : List Element) (cut : List Bool × ℕ) → may_end (slot before) ≡ false → next format before cut ≡ Bad Cut → (es : List Element) (end : List Bool × ℕ) → Goes (next format) before cut es end → may_end (slot (after before es)) ≡ true → ⊥
@@ -248,7 +248,7 @@ long_here format before r e n k leaves no_ h past =
     }
 
 -- one more element before it
-long_later : (format : Format) (before : List Element) (r : List Bool × ℕ) (e : Element) (n k : ℕ) → may_end (slot before) ≡ false → next format before r ≡ Good e n → n ≤ k → picture format before r ≡ Good e n → TooLongAt format (e ∷ before) (skipped n r) (k - n) → TooLongAt format before r k
+long_later : (format : Format) (before : List Element) (r : List Bool × ℕ) (e : Element) (n k : ℕ) → may_end (slot before) ≡ false → next format before r ≡ Good e n → n ≤ k → next_within_limit format before r ≡ Good e n → TooLongAt format (e ∷ before) (skipped n r) (k - n) → TooLongAt format before r k
 long_later format before r e n k no_ h fits good rest =
     let left : (drop n (take k r.0), r.1 + n) ≡ (take (k - n) (drop n r.0), r.1 + n) = ap (λ (t : List Bool). (t, r.1 + n)) (drop-take n k r.0 fits) in
     let step_ = cut-good format before r e n k h fits in

@@ -15,11 +15,11 @@ use Rattle.pel_model.specs.Text.{address_of, macroblock_text}
 use Rattle.pel_model.specs.Valid.{IsValidMacroblock, AddressesRise, IsValidGroup, group_numbers}
 use Rattle.pel_model.specs.Spelling.{GroupForm, LeftOut, Sent, GroupsFit, spare_text, stuffing_text, stuffed_text, group_header_text, sent_group_text, sent_groups_text}
 use Rattle.pel_model.specs.Walk.{after}
-use Rattle.pel_model.specs.Grammar.{Element, Pei, Pspare, Gbsc, Gn, Gquant, Gei, Gspare, Stuffing, Slot, AtPei, AtGroup, AtGei, AtMacroblock, slot, group, vector, is_group}
+use Rattle.pel_model.specs.Grammar.{Element, Pei, Pspare, Gbsc, Gn, Gquant, Gei, Gspare, Stuffing, Slot, AtPei, AtGroup, AtGei, AtMacroblock, slot, group, vector_component, is_group}
 use Rattle.pel_model.proofs.Walks.{after-append}
 use Rattle.picture_laws.specs.SoFar.{IsBehind, last_component}
 use Rattle.picture_laws.specs.Elements.{macroblock_elements, macroblocks_elements, spare_elements, group_elements, groups_elements}
-use Rattle.picture_laws.proofs.Rows.{Among, among-all}
+use Rattle.vlc_codes.proofs.FoundRows.{Among, among-all}
 use Rattle.picture_laws.proofs.Slots.{Takes, gbsc}
 use Rattle.picture_laws.proofs.Words.{field-mod}
 use Rattle.picture_laws.proofs.Chains.{Stands}
@@ -33,7 +33,7 @@ stuffed_behind number last before place = record {
   at = refl;
   group_is = place.group_is;
   address_is = place.address_is;
-  vector_is = both_axes (λ axis. vector axis (Stuffing ∷ before) ≡ last_component axis last) (place.vector_is Across) (place.vector_is Down);
+  vector_is = both_axes (λ axis. vector_component axis (Stuffing ∷ before) ≡ last_component axis last) (place.vector_is Across) (place.vector_is Down);
   last_is = place.last_is;
 }
 
@@ -131,7 +131,7 @@ says-sent format before low g spares stuffings behind place is rise valid =
       at = s.1;
       group_is = ap (λ (s : MbKind × ℕ × ℕ × ℤ × ℤ). s.1) same;
       address_is = ap (λ (s : MbKind × ℕ × ℕ × ℤ × ℤ). s.2) same;
-      vector_is = both_axes (λ axis. vector axis (after (Gquant g.quant ∷ Gn g.number ∷ Gbsc ∷ before) (spare_elements Gei Gspare spares)) ≡ pos 0) (ap (λ (s : MbKind × ℕ × ℕ × ℤ × ℤ). s.3) same) (ap (λ (s : MbKind × ℕ × ℕ × ℤ × ℤ). s.4) same);
+      vector_is = both_axes (λ axis. vector_component axis (after (Gquant g.quant ∷ Gn g.number ∷ Gbsc ∷ before) (spare_elements Gei Gspare spares)) ≡ pos 0) (ap (λ (s : MbKind × ℕ × ℕ × ℤ × ℤ). s.3) same) (ap (λ (s : MbKind × ℕ × ℕ × ℤ × ℤ). s.4) same);
       last_is = tt;
     } in
     let t = says-stuffing format g.number None (after (Gquant g.quant ∷ Gn g.number ∷ Gbsc ∷ before) (spare_elements Gei Gspare spares)) stuffings behind_spares in

@@ -7,21 +7,20 @@ use Rattle.pel_model.specs.declared.Format.{Format}
 use Rattle.pel_model.specs.declared.MbKind.{MbKind}
 use Rattle.pel_model.specs.declared.Why.TheVariants.{BadQuant}
 use Rattle.pel_model.specs.Codes.{has_vector, has_cbp}
-use Rattle.pel_model.specs.Records.{Across, Down, Block, Macroblock, Group, Picture, with_group}
+use Rattle.pel_model.specs.Records.{Across, Down, Block, Macroblock, Group, Picture, with_group, quantiser_after, quantiser_behind}
 use Rattle.pel_model.specs.Text.{coded_block_pattern, address_of, macroblock_text, macroblocks_text}
 use Rattle.pel_model.specs.Valid.{IsQuantiser, IsValidMacroblock, AddressesRise, IsValidGroup, IsValidSoFar, group_numbers, group_count}
 use Rattle.pel_model.specs.Spelling.{GroupForm, LeftOut, Sent, GroupFits, GroupsFit}
 use Rattle.pel_model.specs.Accepts.{Accepts}
 use Rattle.pel_model.specs.Walk.{after, Goes}
 use Rattle.pel_model.specs.Grammar as grammar
-use Rattle.pel_model.specs.Grammar.{address, vector, Eob, Slot, quant, Cbp, Tcoeff, Element, Psc, Tr, Ptype, Gbsc, Gn, Gquant, Gei, Gspare, Stuffing, Mba, Mtype, AtGroup, AtGquant, AtMacroblock, slot, may_end, next}
+use Rattle.pel_model.specs.Grammar.{address, vector_component, Eob, Slot, quantiser, Cbp, Tcoeff, Element, Psc, Tr, Ptype, Gbsc, Gn, Gquant, Gei, Gspare, Stuffing, Mba, Mtype, AtGroup, AtGquant, AtMacroblock, slot, may_end, next}
 use Rattle.pel_model.proofs.Walks.{after-append}
 use Rattle.pel_model.proofs.InsideElements.{inside-right}
 use Rattle.picture_laws.specs.Laws.{StandInside}
 use Rattle.pel_model.specs.Elements.{block_elements, blocks_elements, mquant_elements, AreInside}
 use Rattle.picture_laws.specs.Elements.{mvd_element, vector_elements, cbp_elements, macroblock_elements, macroblocks_elements, spare_elements, group_elements, groups_elements, header_elements}
-use Rattle.picture_laws.specs.SoFar.{IsBehind, last_of, group_of, IsGroupSoFar, GroupBegins, StuffingJoins, IsJoined, MacroblockJoins, IsPictureSoFar, next_number, HeaderBegins, GroupIsLeftOut, GroupIsSent, PictureIsTold, PictureIsAccepted, InsideStands, in_effect}
-use Rattle.pel_model.specs.Marks.{quant_behind}
+use Rattle.picture_laws.specs.SoFar.{IsBehind, last_of, group_of, IsGroupSoFar, GroupBegins, StuffingJoins, IsJoined, MacroblockJoins, IsPictureSoFar, next_number, HeaderBegins, GroupIsLeftOut, GroupIsSent, PictureIsTold, PictureIsAccepted, InsideStands}
 use Rattle.picture_laws.proofs.Slots.{Takes, IsStep}
 use Rattle.picture_laws.proofs.Chains.{Chain, words, goes-walk}
 use Rattle.picture_laws.proofs.Blocks.{one_passed}
@@ -115,45 +114,45 @@ bump-elements last (n ∷ b ∷ bs) m (x ∷ ms) each =
 
 -- ---- the quantiser in effect
 
-gspares-quant : (before : List Element) (spares : List ℕ) → quant (after before (spare_elements Gei Gspare spares)) ≡ quant before
+gspares-quant : (before : List Element) (spares : List ℕ) → quantiser (after before (spare_elements Gei Gspare spares)) ≡ quantiser before
 gspares-quant before [] = refl
 gspares-quant before (n ∷ ns) = gspares-quant (Gspare (n % 256) ∷ Gei true ∷ before) ns
 
-block-quant : (before : List Element) (b : Block) → quant (after before (block_elements b)) ≡ quant before
+block-quant : (before : List Element) (b : Block) → quantiser (after before (block_elements b)) ≡ quantiser before
 block-quant before b = ap (λ (s : MbKind × ℕ × ℕ × ℕ × ℤ × ℤ). s.3) (pass_block before b)
 
-blocks-quant : (before : List Element) (bs : List (Option Block)) → quant (after before (blocks_elements bs)) ≡ quant before
+blocks-quant : (before : List Element) (bs : List (Option Block)) → quantiser (after before (blocks_elements bs)) ≡ quantiser before
 blocks-quant before [] = refl
 blocks-quant before (None ∷ bs) = blocks-quant before bs
-blocks-quant before (Some b ∷ bs) = ap quant (after-append before (block_elements b) (blocks_elements bs)) ∙ (blocks-quant (after before (block_elements b)) bs ∙ block-quant before b)
+blocks-quant before (Some b ∷ bs) = ap quantiser (after-append before (block_elements b) (blocks_elements bs)) ∙ (blocks-quant (after before (block_elements b)) bs ∙ block-quant before b)
 
-mquant-quant : (before : List Element) (q : Option ℕ) → quant (after before (mquant_elements q)) ≡ quant_behind (quant before) q
+mquant-quant : (before : List Element) (q : Option ℕ) → quantiser (after before (mquant_elements q)) ≡ quantiser_after (quantiser before) q
 mquant-quant before None = refl
 mquant-quant before (Some q) = refl
 
-vector-quant : (before : List Element) (last : Option Macroblock) (m : Macroblock) → quant (after before (vector_elements last m)) ≡ quant before
+vector-quant : (before : List Element) (last : Option Macroblock) (m : Macroblock) → quantiser (after before (vector_elements last m)) ≡ quantiser before
 vector-quant before last m = elim (cases_Bool (has_vector m.kind)) [
-  | inl has ↦ ap (λ es. quant (after before es)) (cond-true (has_vector m.kind) (mvd_element Across last m ∷ mvd_element Down last m ∷ []) [] has)
-  | inr none ↦ ap (λ es. quant (after before es)) (cond-false (has_vector m.kind) (mvd_element Across last m ∷ mvd_element Down last m ∷ []) [] none)
+  | inl has ↦ ap (λ es. quantiser (after before es)) (cond-true (has_vector m.kind) (mvd_element Across last m ∷ mvd_element Down last m ∷ []) [] has)
+  | inr none ↦ ap (λ es. quantiser (after before es)) (cond-false (has_vector m.kind) (mvd_element Across last m ∷ mvd_element Down last m ∷ []) [] none)
 ]
 
-cbp-quant : (before : List Element) (m : Macroblock) → quant (after before (cbp_elements m)) ≡ quant before
+cbp-quant : (before : List Element) (m : Macroblock) → quantiser (after before (cbp_elements m)) ≡ quantiser before
 cbp-quant before m = elim (cases_Bool (has_cbp m.kind)) [
-  | inl has ↦ ap (λ es. quant (after before es)) (cond-true (has_cbp m.kind) (Cbp (coded_block_pattern m.blocks) ∷ []) [] has)
-  | inr none ↦ ap (λ es. quant (after before es)) (cond-false (has_cbp m.kind) (Cbp (coded_block_pattern m.blocks) ∷ []) [] none)
+  | inl has ↦ ap (λ es. quantiser (after before es)) (cond-true (has_cbp m.kind) (Cbp (coded_block_pattern m.blocks) ∷ []) [] has)
+  | inr none ↦ ap (λ es. quantiser (after before es)) (cond-false (has_cbp m.kind) (Cbp (coded_block_pattern m.blocks) ∷ []) [] none)
 ]
 
-macroblock-quant : (before : List Element) (last : Option Macroblock) (m : Macroblock) → quant (after before (macroblock_elements last m)) ≡ quant_behind (quant before) m.mquant
+macroblock-quant : (before : List Element) (last : Option Macroblock) (m : Macroblock) → quantiser (after before (macroblock_elements last m)) ≡ quantiser_after (quantiser before) m.mquant
 macroblock-quant before last m =
-    ap quant (after-body (headed before last m) last m)
-    ∙ (ap quant (after-append (after (after (headed before last m) (mquant_elements m.mquant)) (vector_elements last m)) (cbp_elements m) (blocks_elements m.blocks))
+    ap quantiser (after-body (headed before last m) last m)
+    ∙ (ap quantiser (after-append (after (after (headed before last m) (mquant_elements m.mquant)) (vector_elements last m)) (cbp_elements m) (blocks_elements m.blocks))
     ∙ (blocks-quant (after (after (after (headed before last m) (mquant_elements m.mquant)) (vector_elements last m)) (cbp_elements m)) m.blocks
     ∙ (cbp-quant (after (after (headed before last m) (mquant_elements m.mquant)) (vector_elements last m)) m
     ∙ (vector-quant (after (headed before last m) (mquant_elements m.mquant)) last m ∙ mquant-quant (headed before last m) m.mquant))))
 
-effect-snoc : (q : ℕ) (ms : List Macroblock) (m : Macroblock) → in_effect q (ms ++ m ∷ []) ≡ quant_behind (in_effect q ms) m.mquant
+effect-snoc : (q : ℕ) (ms : List Macroblock) (m : Macroblock) → quantiser_behind q (ms ++ m ∷ []) ≡ quantiser_after (quantiser_behind q ms) m.mquant
 effect-snoc q [] m = refl
-effect-snoc q (x ∷ ms) m = effect-snoc (quant_behind q x.mquant) ms m
+effect-snoc q (x ∷ ms) m = effect-snoc (quantiser_after q x.mquant) ms m
 
 -- ---- a group so far
 
@@ -175,7 +174,7 @@ group_begun format before es number q ok s none =
       elements = ap (λ t. Gbsc ∷ (Gn number ∷ (Gquant q ∷ t))) (is ∙ sym (append-nil (spare_elements Gei Gspare s.spares)));
       valid = record { quant = ok; addresses = tt; macroblocks = All-nil (IsValidMacroblock format number) };
       place = subst (λ t. IsBehind number None (after (Gquant q ∷ Gn number ∷ Gbsc ∷ before) t)) (sym is) (behind_header format number q before s.spares);
-      quant_is = ap (λ t. quant (after (Gquant q ∷ Gn number ∷ Gbsc ∷ before) t)) is ∙ gspares-quant (Gquant q ∷ Gn number ∷ Gbsc ∷ before) s.spares;
+      quant_is = ap (λ t. quantiser (after (Gquant q ∷ Gn number ∷ Gbsc ∷ before) t)) is ∙ gspares-quant (Gquant q ∷ Gn number ∷ Gbsc ∷ before) s.spares;
     }
 
 pub group-begins : GroupBegins
@@ -205,7 +204,7 @@ stuffing-joins format before number quant [] es g = record {
       ∙ ap (λ t. Gbsc ∷ (Gn number ∷ (Gquant quant ∷ (spare_elements Gei Gspare g.spares ++ t)))) (stuffing-snoc g.stuffings ∙ sym (append-nil (replicate (suc g.stuffings) Stuffing))));
   valid = g.valid;
   place = stuffing_place format before number quant [] es g;
-  quant_is = ap grammar.quant (after-append before es (Stuffing ∷ [])) ∙ g.quant_is;
+  quant_is = ap quantiser (after-append before es (Stuffing ∷ [])) ∙ g.quant_is;
 }
 stuffing-joins format before number quant (m ∷ ms) es g = record {
   spares = g.spares;
@@ -216,7 +215,7 @@ stuffing-joins format before number quant (m ∷ ms) es g = record {
       ∙ ap (λ t. Gbsc ∷ (Gn number ∷ (Gquant quant ∷ (spare_elements Gei Gspare g.spares ++ (replicate g.stuffings Stuffing ++ t))))) (sym (bump-elements None g.behind m ms g.each)));
   valid = g.valid;
   place = stuffing_place format before number quant (m ∷ ms) es g;
-  quant_is = ap grammar.quant (after-append before es (Stuffing ∷ [])) ∙ g.quant_is;
+  quant_is = ap quantiser (after-append before es (Stuffing ∷ [])) ∙ g.quant_is;
 }
 
 same_tail : (x y : Element) (xs ys : List Element) → x ∷ xs ≡ y ∷ ys → xs ≡ ys
@@ -250,8 +249,8 @@ joined format before number quant ms es more r end g goes m none =
       bits = walk.bits ∙ ap (λ t. t ++ end.0) text;
       text = text-snoc None ms m.m;
       address_is = ap (λ t. address (after (after before es) t)) is ∙ says.1.address_is;
-      vector_is = λ axis. ap (λ t. vector axis (after (after before es) t)) is ∙ says.1.vector_is axis;
-      quant_is = ap (λ t. grammar.quant (after (after before es) t)) is ∙ macroblock-quant (after before es) (last_of None ms) m.m;
+      vector_is = λ axis. ap (λ t. vector_component axis (after (after before es) t)) is ∙ says.1.vector_is axis;
+      quant_is = ap (λ t. quantiser (after (after before es) t)) is ∙ macroblock-quant (after before es) (last_of None ms) m.m;
       so_far = record {
         spares = g.spares;
         stuffings = g.stuffings;
@@ -261,8 +260,8 @@ joined format before number quant ms es more r end g goes m none =
             ∙ ap (λ t. Gbsc ∷ (Gn number ∷ (Gquant quant ∷ (spare_elements Gei Gspare g.spares ++ (replicate g.stuffings Stuffing ++ t))))) (ap (λ t. macroblocks_elements None g.behind ms ++ t) is ∙ sym (elements-snoc None g.behind ms m.m g.each)));
         valid = record { quant = g.valid.quant; addresses = rise-snoc None ms m.m g.valid.addresses m.rise m.most; macroblocks = All-push (IsValidMacroblock format number) ms m.m g.valid.macroblocks m.valid };
         place = subst (λ l. IsBehind number l (after before (es ++ more))) (sym (last-snoc None ms m.m)) here;
-        quant_is = ap grammar.quant (after-append before es more) ∙ (ap (λ t. grammar.quant (after (after before es) t)) is
-            ∙ (macroblock-quant (after before es) (last_of None ms) m.m ∙ (ap (λ q. quant_behind q m.m.mquant) g.quant_is ∙ sym (effect-snoc quant ms m.m))));
+        quant_is = ap quantiser (after-append before es more) ∙ (ap (λ t. quantiser (after (after before es) t)) is
+            ∙ (macroblock-quant (after before es) (last_of None ms) m.m ∙ (ap (λ q. quantiser_after q m.m.mquant) g.quant_is ∙ sym (effect-snoc quant ms m.m))));
       };
     }
 

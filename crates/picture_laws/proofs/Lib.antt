@@ -14,7 +14,6 @@ pub mod ReadBlocks
 pub mod ReadGroups
 pub mod ReadMacroblocks
 pub mod ReadPictures
-pub mod Rows
 pub mod Slots
 pub mod Strict
 pub mod Told

@@ -5,8 +5,8 @@ use Rattle.pel_model.specs.declared.Format.{Format}
 use Rattle.pel_model.specs.declared.Why.{Why}
 use Rattle.pel_model.specs.declared.Why.TheVariants.{TooLong}
 use Rattle.pel_model.specs.Valid.{limit, group_count}
-use Rattle.pel_model.specs.Walk.{Step, Good, Stop, Bad, skipped, after, Goes, judged, verdict}
-use Rattle.pel_model.specs.Grammar.{Element, Gbsc, Slot, AtPsc, AtTr, AtPtype, AtPei, AtPspare, AtGroup, AtGn, AtGquant, AtGei, AtGspare, AtMacroblock, AtMtype, AtMquant, AtMvd, AtCbp, AtDc, AtFirst, AtCoefficient, slot, next, picture, counted, begun}
+use Rattle.pel_model.specs.Walk.{Standing, Good, Stop, Bad, skipped, after, Goes, judged, verdict}
+use Rattle.pel_model.specs.Grammar.{Element, Gbsc, Slot, AtPsc, AtTr, AtPtype, AtPei, AtPspare, AtGroup, AtGn, AtGquant, AtGei, AtGspare, AtMacroblock, AtMtype, AtMquant, AtMvd, AtCbp, AtDc, AtFirst, AtCoefficient, slot, next, next_within_limit, counted, begun}
 use Rattle.picture_laws.proofs.Slots.{word_at, Takes}
 use Rattle.picture_laws.proofs.Words.{length-field}
 use Rattle.picture_laws.proofs.Chains.{next-is, judged_good, judged_here}
@@ -78,8 +78,8 @@ claimed_walk format before r (e ∷ es) end h =
     omega (arith, here, later)
 
 -- an element that ends within the limit
-pub picture-good : (format : Format) (before : List Element) (r : List Bool × ℕ) (e : Element) (n : ℕ) → next format before r ≡ Good e n → counted format (e ∷ before) (r.1 + n) ≤ limit format → picture format before r ≡ Good e n
-unfolding picture
+pub picture-good : (format : Format) (before : List Element) (r : List Bool × ℕ) (e : Element) (n : ℕ) → next format before r ≡ Good e n → counted format (e ∷ before) (r.1 + n) ≤ limit format → next_within_limit format before r ≡ Good e n
+unfolding next_within_limit
 picture-good format before r e n h fits =
     judged_here (λ e n. cond (nat_lt (limit format) (counted format (e ∷ before) (r.1 + n))) (Some TooLong) None) (next format before r) e n h
     (cond-false (nat_lt (limit format) (counted format (e ∷ before) (r.1 + n))) (Some TooLong) None (le-ltb (limit format) (counted format (e ∷ before) (r.1 + n)) fits))
@@ -87,8 +87,8 @@ picture-good format before r e n h fits =
 some_none : {A : Type 0} (x : A) → Some x ≡ None → ⊥
 some_none x h = cc
 
-pub picture-next : (format : Format) (before : List Element) (r : List Bool × ℕ) (e : Element) (n : ℕ) → picture format before r ≡ Good e n → (next format before r ≡ Good e n) × (counted format (e ∷ before) (r.1 + n) ≤ limit format)
-unfolding picture
+pub picture-next : (format : Format) (before : List Element) (r : List Bool × ℕ) (e : Element) (n : ℕ) → next_within_limit format before r ≡ Good e n → (next format before r ≡ Good e n) × (counted format (e ∷ before) (r.1 + n) ≤ limit format)
+unfolding next_within_limit
 picture-next format before r e n h =
     let j = judged_good (λ e n. cond (nat_lt (limit format) (counted format (e ∷ before) (r.1 + n))) (Some TooLong) None) (next format before r) e n h in
     let past = nat_lt (limit format) (counted format (e ∷ before) (r.1 + n)) in (
@@ -99,8 +99,8 @@ picture-next format before r e n h =
       ],
     )
 
-pub picture-long : (format : Format) (before : List Element) (r : List Bool × ℕ) (e : Element) (n : ℕ) → next format before r ≡ Good e n → limit format < counted format (e ∷ before) (r.1 + n) → picture format before r ≡ Bad TooLong
-unfolding picture
+pub picture-long : (format : Format) (before : List Element) (r : List Bool × ℕ) (e : Element) (n : ℕ) → next format before r ≡ Good e n → limit format < counted format (e ∷ before) (r.1 + n) → next_within_limit format before r ≡ Bad TooLong
+unfolding next_within_limit
 picture-long format before r e n h long =
     ap (judged (λ e n. cond (nat_lt (limit format) (counted format (e ∷ before) (r.1 + n))) (Some TooLong) None)) h
     ∙ ap (verdict e n) (cond-true (nat_lt (limit format) (counted format (e ∷ before) (r.1 + n))) (Some TooLong) None (lt-ltb (limit format) (counted format (e ∷ before) (r.1 + n)) long))
@@ -109,36 +109,36 @@ verdict_stop : {E : Type 0} (e : E) (n : ℕ) (o : Option Why) → verdict e n o
 verdict_stop e n None h = h
 verdict_stop e n (Some why) h = absurd cc
 
-pub judged_stop : {E : Type 0} (judge : E → ℕ → Option Why) (s : Step E) → judged judge s ≡ Stop → s ≡ Stop
+pub judged_stop : {E : Type 0} (judge : E → ℕ → Option Why) (s : Standing E) → judged judge s ≡ Stop → s ≡ Stop
 judged_stop judge (Good e n) h = verdict_stop e n (judge e n) h
 judged_stop judge Stop h = refl
 judged_stop judge (Bad why) h = absurd cc
 
-pub picture-stop : (format : Format) (before : List Element) (r : List Bool × ℕ) → picture format before r ≡ Stop → next format before r ≡ Stop
-unfolding picture
+pub picture-stop : (format : Format) (before : List Element) (r : List Bool × ℕ) → next_within_limit format before r ≡ Stop → next format before r ≡ Stop
+unfolding next_within_limit
 picture-stop format before r h = judged_stop (λ e n. cond (nat_lt (limit format) (counted format (e ∷ before) (r.1 + n))) (Some TooLong) None) (next format before r) h
 
-pub picture-stops : (format : Format) (before : List Element) (r : List Bool × ℕ) → next format before r ≡ Stop → picture format before r ≡ Stop
-unfolding picture
+pub picture-stops : (format : Format) (before : List Element) (r : List Bool × ℕ) → next format before r ≡ Stop → next_within_limit format before r ≡ Stop
+unfolding next_within_limit
 picture-stops format before r h = ap (judged (λ e n. cond (nat_lt (limit format) (counted format (e ∷ before) (r.1 + n))) (Some TooLong) None)) h
 
-pub picture-bad : (format : Format) (before : List Element) (r : List Bool × ℕ) (why : Why) → next format before r ≡ Bad why → picture format before r ≡ Bad why
-unfolding picture
+pub picture-bad : (format : Format) (before : List Element) (r : List Bool × ℕ) (why : Why) → next format before r ≡ Bad why → next_within_limit format before r ≡ Bad why
+unfolding next_within_limit
 picture-bad format before r why h = ap (judged (λ e n. cond (nat_lt (limit format) (counted format (e ∷ before) (r.1 + n))) (Some TooLong) None)) h
 
 -- ---- walks
 
-pub goes-picture : (format : Format) (before : List Element) (r : List Bool × ℕ) (es : List Element) (end : List Bool × ℕ) → Goes (next format) before r es end → claimed format (after before es) end.1 ≤ limit format → Goes (picture format) before r es end
+pub goes-picture : (format : Format) (before : List Element) (r : List Bool × ℕ) (es : List Element) (end : List Bool × ℕ) → Goes (next format) before r es end → claimed format (after before es) end.1 ≤ limit format → Goes (next_within_limit format) before r es end
 goes-picture format before r [] end h fits = h
 goes-picture format before r (e ∷ es) end h fits =
     let later = claimed_walk format (e ∷ before) (skipped h.0 r) es end h.2 in
     (h.0, picture-good format before r e h.0 h.1 (omega (arith, later, fits)), goes-picture format (e ∷ before) (skipped h.0 r) es end h.2 fits)
 
-pub goes-next : (format : Format) (before : List Element) (r : List Bool × ℕ) (es : List Element) (end : List Bool × ℕ) → Goes (picture format) before r es end → Goes (next format) before r es end
+pub goes-next : (format : Format) (before : List Element) (r : List Bool × ℕ) (es : List Element) (end : List Bool × ℕ) → Goes (next_within_limit format) before r es end → Goes (next format) before r es end
 goes-next format before r [] end h = h
 goes-next format before r (e ∷ es) end h = (h.0, (picture-next format before r e h.0 h.1).0, goes-next format (e ∷ before) (skipped h.0 r) es end h.2)
 
 -- the last element of a walk ends within the limit
-pub goes-within : (format : Format) (before : List Element) (r : List Bool × ℕ) (es : List Element) (end : List Bool × ℕ) → Goes (picture format) before r es end → counted format before r.1 ≤ limit format → counted format (after before es) end.1 ≤ limit format
+pub goes-within : (format : Format) (before : List Element) (r : List Bool × ℕ) (es : List Element) (end : List Bool × ℕ) → Goes (next_within_limit format) before r es end → counted format before r.1 ≤ limit format → counted format (after before es) end.1 ≤ limit format
 goes-within format before r [] end h fits = let e : end.1 ≡ r.1 = ap (λ (x : List Bool × ℕ). x.1) h in omega (arith, e, fits)
 goes-within format before r (e ∷ es) end h fits = goes-within format (e ∷ before) (skipped h.0 r) es end h.2 (picture-next format before r e h.0 h.1).1

@@ -9,7 +9,7 @@ use Rattle.pel_model.specs.Codes.{mba_table, mtype_table, mvd_table, cbp_table, 
 use Rattle.pel_model.specs.Bits.{field}
 use Rattle.pel_model.specs.Text.{word_of, coefficient_word, mtype_word, pair_word, is_negative, twos_complement}
 use Rattle.pel_model.specs.Grammar.{Element, Slot, AtPsc, AtTr, AtPtype, AtPei, AtPspare, AtGroup, AtGn, AtGquant, AtGei, AtGspare, AtMacroblock, AtMtype, AtMquant, AtMvd, AtCbp, AtDc, AtFirst, AtCoefficient}
-use Rattle.picture_laws.proofs.Rows.{among-all}
+use Rattle.vlc_codes.proofs.FoundRows.{among-all}
 use Rattle.picture_laws.proofs.Slots.{word_at, Takes, same_pair, same_bits-true, mvd_words}
 use Rattle.picture_laws.proofs.Words.{length-field}
 use Rattle.picture_laws.proofs.Written.{found_step, found_pattern}

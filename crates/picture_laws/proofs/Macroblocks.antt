@@ -13,7 +13,7 @@ use Rattle.pel_model.specs.Text.{address_of, predictor, mba_word, mtype_word, mq
 use Rattle.pel_model.specs.Valid.{IsQuantiser, side, corner, StaysWithin, ComponentFits, IsIntraBlock, IsCodedBlock, BlocksFit, IsValidMacroblock}
 use Rattle.pel_model.specs.Walk.{after}
 use Rattle.pel_model.specs.Grammar as grammar
-use Rattle.pel_model.specs.Grammar.{Element, Mba, Mtype, Mquant, Mvd, Cbp, Slot, AtMacroblock, AtMtype, AtMquant, AtMvd, AtCbp, slot, kind, blocks, group, address, vector, faults, first_why, block_slot, cbp_slot, vector_slot, ones, component_from, in_range, stays_within}
+use Rattle.pel_model.specs.Grammar.{Element, Mba, Mtype, Mquant, Mvd, Cbp, Slot, AtMacroblock, AtMtype, AtMquant, AtMvd, AtCbp, slot, kind, blocks, group, address, vector_component, faults, first_why, block_slot, cbp_slot, vector_slot, ones, component_from, in_range, stays_within}
 use Rattle.pel_model.proofs.Walks.{after-append}
 use Rattle.pel_model.specs.Elements.{mquant_elements, blocks_elements}
 use Rattle.picture_laws.specs.SoFar.{IsBehind, IsLast}
@@ -58,7 +58,7 @@ pub record IsAtVector (number : ℕ) (last : Option Macroblock) (m : Macroblock)
   pub kind_is : kind before ≡ m.kind
   pub group_is : group before ≡ number
   pub address_is : address before ≡ m.address
-  pub vector_is : (axis : Axis) → vector axis before ≡ cond (has_vector m.kind) (predictor axis last m) (pos 0)
+  pub vector_is : (axis : Axis) → vector_component axis before ≡ cond (has_vector m.kind) (predictor axis last m) (pos 0)
 
 -- a place behind MVD, or where that would stand
 pub record IsBehindVector (number : ℕ) (m : Macroblock) (before : List Element) : Type 0 where
@@ -66,7 +66,7 @@ pub record IsBehindVector (number : ℕ) (m : Macroblock) (before : List Element
   pub kind_is : kind before ≡ m.kind
   pub group_is : group before ≡ number
   pub address_is : address before ≡ m.address
-  pub vector_is : (axis : Axis) → vector axis before ≡ component axis m
+  pub vector_is : (axis : Axis) → vector_component axis before ≡ component axis m
 
 pub both_axes : (P : Axis → Type 0) → P Across → P Down → (axis : Axis) → P axis
 both_axes P a d Across = a
@@ -75,15 +75,15 @@ both_axes P a d Down = d
 abbrev IsFit : Format → ℕ → Axis → Macroblock → Type 0
 IsFit format number axis m = (nat_abs (component axis m) ≤ 15) × StaysWithin (side format axis) (corner axis number m.address) (component axis m)
 
-stands_mvd : (format : Format) (before : List Element) (number : ℕ) (axis : Axis) (last : Option Macroblock) (m : Macroblock) → IsLast last → slot before ≡ AtMvd axis → group before ≡ number → address before ≡ m.address → vector axis before ≡ predictor axis last m → IsFit format number axis m → Stands format before (mvd_element axis last m) × (word_in before (mvd_element axis last m) ≡ mvd_word axis last m) × (component_from (vector axis before) (pair_in (component axis m -ℤ predictor axis last m) mvd_table) ≡ component axis m)
+stands_mvd : (format : Format) (before : List Element) (number : ℕ) (axis : Axis) (last : Option Macroblock) (m : Macroblock) → IsLast last → slot before ≡ AtMvd axis → group before ≡ number → address before ≡ m.address → vector_component axis before ≡ predictor axis last m → IsFit format number axis m → Stands format before (mvd_element axis last m) × (word_in before (mvd_element axis last m) ≡ mvd_word axis last m) × (component_from (vector_component axis before) (pair_in (component axis m -ℤ predictor axis last m) mvd_table) ≡ component axis m)
 stands_mvd format before number axis last m is at group_is address_is vector_is fit =
     let p : ℤ = predictor axis last m in
     let pair = pair-of axis (predictor axis last m) (component axis m) (predictor-small axis last m is) fit.0 in
-    let gives : component_from (vector axis before) (pair_in (component axis m -ℤ predictor axis last m) mvd_table) ≡ component axis m = ap (λ p. component_from p (pair_in (component axis m -ℤ predictor axis last m) mvd_table)) vector_is ∙ pair.gives in
-    let inside : in_range (component_from (vector axis before) (pair_in (component axis m -ℤ predictor axis last m) mvd_table)) ≡ true = ap in_range gives ∙ in-range (component axis m) fit.0 in
-    let within : stays_within (side format axis) (corner axis (group before) (address before)) (component_from (vector axis before) (pair_in (component axis m -ℤ predictor axis last m) mvd_table)) ≡ true =
-    ap (λ g. stays_within (side format axis) (corner axis g (address before)) (component_from (vector axis before) (pair_in (component axis m -ℤ predictor axis last m) mvd_table))) group_is
-    ∙ (ap (λ a. stays_within (side format axis) (corner axis number a) (component_from (vector axis before) (pair_in (component axis m -ℤ predictor axis last m) mvd_table))) address_is
+    let gives : component_from (vector_component axis before) (pair_in (component axis m -ℤ predictor axis last m) mvd_table) ≡ component axis m = ap (λ p. component_from p (pair_in (component axis m -ℤ predictor axis last m) mvd_table)) vector_is ∙ pair.gives in
+    let inside : in_range (component_from (vector_component axis before) (pair_in (component axis m -ℤ predictor axis last m) mvd_table)) ≡ true = ap in_range gives ∙ in-range (component axis m) fit.0 in
+    let within : stays_within (side format axis) (corner axis (group before) (address before)) (component_from (vector_component axis before) (pair_in (component axis m -ℤ predictor axis last m) mvd_table)) ≡ true =
+    ap (λ g. stays_within (side format axis) (corner axis g (address before)) (component_from (vector_component axis before) (pair_in (component axis m -ℤ predictor axis last m) mvd_table))) group_is
+    ∙ (ap (λ a. stays_within (side format axis) (corner axis number a) (component_from (vector_component axis before) (pair_in (component axis m -ℤ predictor axis last m) mvd_table))) address_is
     ∙ (ap (stays_within (side format axis) (corner axis number m.address)) gives ∙ stays (side format axis) (corner axis number m.address) (component axis m) fit.1)) in (
       record {
         takes = subst (λ s. Takes s (mvd_element axis last m)) (sym at) (pair.row, pair.among, ap (Mvd axis) (sym pair.is));
@@ -94,7 +94,7 @@ stands_mvd format before number axis last m is at group_is address_is vector_is 
     )
 
 -- with a vector
-has_vector_says : (format : Format) (before : List Element) (number : ℕ) (last : Option Macroblock) (m : Macroblock) → IsLast last → slot before ≡ AtMvd Across → kind before ≡ m.kind → group before ≡ number → address before ≡ m.address → ((axis : Axis) → vector axis before ≡ predictor axis last m) → IsFit format number Across m → IsFit format number Down m → Says format before (mvd_element Across last m ∷ mvd_element Down last m ∷ []) (mvd_word Across last m ++ mvd_word Down last m) × IsBehindVector number m (mvd_element Down last m ∷ mvd_element Across last m ∷ before)
+has_vector_says : (format : Format) (before : List Element) (number : ℕ) (last : Option Macroblock) (m : Macroblock) → IsLast last → slot before ≡ AtMvd Across → kind before ≡ m.kind → group before ≡ number → address before ≡ m.address → ((axis : Axis) → vector_component axis before ≡ predictor axis last m) → IsFit format number Across m → IsFit format number Down m → Says format before (mvd_element Across last m ∷ mvd_element Down last m ∷ []) (mvd_word Across last m ++ mvd_word Down last m) × IsBehindVector number m (mvd_element Down last m ∷ mvd_element Across last m ∷ before)
 has_vector_says format before number last m is at kind_is group_is address_is vector_is across down =
     let a = stands_mvd format before number Across last m is at group_is address_is (vector_is Across) across in
     let d = stands_mvd format (mvd_element Across last m ∷ before) number Down last m is refl group_is address_is (vector_is Down) down in
@@ -105,7 +105,7 @@ has_vector_says format before number last m is at kind_is group_is address_is ve
         kind_is = kind_is;
         group_is = group_is;
         address_is = address_is;
-        vector_is = both_axes (λ axis. vector axis (mvd_element Down last m ∷ mvd_element Across last m ∷ before) ≡ component axis m) a.2 d.2;
+        vector_is = both_axes (λ axis. vector_component axis (mvd_element Down last m ∷ mvd_element Across last m ∷ before) ≡ component axis m) a.2 d.2;
       },
     )
 
@@ -144,16 +144,16 @@ pub record IsDone (number : ℕ) (m : Macroblock) (before : List Element) : Type
   pub at : slot before ≡ AtMacroblock
   pub group_is : group before ≡ number
   pub address_is : address before ≡ m.address
-  pub vector_is : (axis : Axis) → vector axis before ≡ component axis m
+  pub vector_is : (axis : Axis) → vector_component axis before ≡ component axis m
 
-done_blocks : (number : ℕ) (m : Macroblock) (before : List Element) (bs : List (Option Block)) → group before ≡ number → address before ≡ m.address → ((axis : Axis) → vector axis before ≡ component axis m) → slot before ≡ block_slot (kind before) (sent bs) → blocks before ≡ sent bs → IsDone number m (after before (blocks_elements bs))
+done_blocks : (number : ℕ) (m : Macroblock) (before : List Element) (bs : List (Option Block)) → group before ≡ number → address before ≡ m.address → ((axis : Axis) → vector_component axis before ≡ component axis m) → slot before ≡ block_slot (kind before) (sent bs) → blocks before ≡ sent bs → IsDone number m (after before (blocks_elements bs))
 done_blocks number m before bs group_is address_is vector_is at count =
     let same = blocks-state before bs in
     record {
       at = blocks-slot before bs at count;
       group_is = ap (λ (s : MbKind × ℕ × ℕ × ℤ × ℤ). s.1) same ∙ group_is;
       address_is = ap (λ (s : MbKind × ℕ × ℕ × ℤ × ℤ). s.2) same ∙ address_is;
-      vector_is = both_axes (λ axis. vector axis (after before (blocks_elements bs)) ≡ component axis m) (ap (λ (s : MbKind × ℕ × ℕ × ℤ × ℤ). s.3) same ∙ vector_is Across) (ap (λ (s : MbKind × ℕ × ℕ × ℤ × ℤ). s.4) same ∙ vector_is Down);
+      vector_is = both_axes (λ axis. vector_component axis (after before (blocks_elements bs)) ≡ component axis m) (ap (λ (s : MbKind × ℕ × ℕ × ℤ × ℤ). s.3) same ∙ vector_is Across) (ap (λ (s : MbKind × ℕ × ℕ × ℤ × ℤ). s.4) same ∙ vector_is Down);
     }
 
 -- behind the vector, all blocks or none where there is no CBP
@@ -188,7 +188,7 @@ says-rest format before number m place count six fit = elim (cases_Bool (has_cbp
       let t : word_in before (Cbp (coded_block_pattern m.blocks)) ≡ cbp_text m = sym (cond-true (has_cbp m.kind) (word_in before (Cbp (coded_block_pattern m.blocks))) [] has) in
       let blocks_say = says-blocks format (Cbp (coded_block_pattern m.blocks) ∷ before) m.blocks next_at ones_are valid in (
         says-same format before (Cbp (coded_block_pattern m.blocks) ∷ blocks_elements m.blocks) (cbp_elements m ++ blocks_elements m.blocks) (cbp_text m ++ flat_map sent_block_text m.blocks) (cbp_text m ++ flat_map sent_block_text m.blocks) (ap (λ es. es ++ blocks_elements m.blocks) e) refl (says-cons format before (Cbp (coded_block_pattern m.blocks)) (blocks_elements m.blocks) (cbp_text m) (flat_map sent_block_text m.blocks) stands t blocks_say),
-        subst (λ es. IsDone number m (after before (es ++ blocks_elements m.blocks))) e (done_blocks number m (Cbp (coded_block_pattern m.blocks) ∷ before) m.blocks place.group_is place.address_is (both_axes (λ axis. vector axis (Cbp (coded_block_pattern m.blocks) ∷ before) ≡ component axis m) (place.vector_is Across) (place.vector_is Down)) next_at ones_are),
+        subst (λ es. IsDone number m (after before (es ++ blocks_elements m.blocks))) e (done_blocks number m (Cbp (coded_block_pattern m.blocks) ∷ before) m.blocks place.group_is place.address_is (both_axes (λ axis. vector_component axis (Cbp (coded_block_pattern m.blocks) ∷ before) ≡ component axis m) (place.vector_is Across) (place.vector_is Down)) next_at ones_are),
       )
   | inr none ↦
       let r = says_blocks_alone format before number m place none count six fit in
@@ -215,7 +215,7 @@ at-vector number last m before place rise at =
     let sum : address before + (m.address - address_of last) ≡ m.address = omega (arith, place.address_is, rise) in
     let predicts = λ (axis : Axis).
     ap (λ b. cond (has_vector m.kind) b (pos 0))
-    (ap (λ a. cond (grammar.resets_predictor (m.address - address_of last) a) (pos 0) (vector axis before)) sum
+    (ap (λ a. cond (grammar.resets_predictor (m.address - address_of last) a) (pos 0) (vector_component axis before)) sum
     ∙ (ap (λ z. cond (grammar.resets_predictor (m.address - address_of last) m.address) (pos 0) z) (place.vector_is axis)
     ∙ sym (predicted axis last m place.last_is rise))) in
     record {
@@ -223,7 +223,7 @@ at-vector number last m before place rise at =
       kind_is = ap (λ (s : MbKind × ℕ × ℕ × ℤ × ℤ). s.0) same;
       group_is = ap (λ (s : MbKind × ℕ × ℕ × ℤ × ℤ). s.1) same ∙ place.group_is;
       address_is = ap (λ (s : MbKind × ℕ × ℕ × ℤ × ℤ). s.2) same ∙ sum;
-      vector_is = both_axes (λ axis. vector axis (after (headed before last m) (mquant_elements m.mquant)) ≡ cond (has_vector m.kind) (predictor axis last m) (pos 0))
+      vector_is = both_axes (λ axis. vector_component axis (after (headed before last m) (mquant_elements m.mquant)) ≡ cond (has_vector m.kind) (predictor axis last m) (pos 0))
           (ap (λ (s : MbKind × ℕ × ℕ × ℤ × ℤ). s.3) same ∙ predicts Across)
           (ap (λ (s : MbKind × ℕ × ℕ × ℤ × ℤ). s.4) same ∙ predicts Down);
     }

@@ -11,10 +11,10 @@ use Rattle.pel_model.specs.Text.{address_of}
 use Rattle.pel_model.specs.Valid.{IsQuantiser, IsValidMacroblock, AddressesRise, IsValidGroup}
 use Rattle.pel_model.specs.Spelling.{GroupForm, LeftOut, Sent, GroupsFit}
 use Rattle.pel_model.specs.Walk.{after}
-use Rattle.pel_model.specs.Grammar.{Element, Pei, Pspare, Gbsc, Gn, Gquant, Gei, Gspare, Stuffing, Mba, AtPei, AtPspare, AtGn, AtGquant, AtGei, AtGspare, AtMacroblock, slot, group, vector, is_group, may_end}
+use Rattle.pel_model.specs.Grammar.{Element, Pei, Pspare, Gbsc, Gn, Gquant, Gei, Gspare, Stuffing, Mba, AtPei, AtPspare, AtGn, AtGquant, AtGei, AtGspare, AtMacroblock, slot, group, vector_component, is_group, may_end}
 use Rattle.picture_laws.specs.SoFar.{IsBehind}
 use Rattle.picture_laws.specs.Elements.{macroblock_elements, macroblocks_elements, spare_elements, group_elements, groups_elements}
-use Rattle.picture_laws.proofs.Rows.{Among}
+use Rattle.vlc_codes.proofs.FoundRows.{Among}
 use Rattle.picture_laws.proofs.Slots.{Takes}
 use Rattle.picture_laws.proofs.Blocks.{one_passed}
 use Rattle.picture_laws.proofs.Macroblocks.{says-macroblock, both_axes}
@@ -199,7 +199,7 @@ behind_header format number quant before spares =
       at = s.1;
       group_is = ap (λ (s : MbKind × ℕ × ℕ × ℤ × ℤ). s.1) same;
       address_is = ap (λ (s : MbKind × ℕ × ℕ × ℤ × ℤ). s.2) same;
-      vector_is = both_axes (λ axis. vector axis (after (Gquant quant ∷ Gn number ∷ Gbsc ∷ before) (spare_elements Gei Gspare spares)) ≡ pos 0) (ap (λ (s : MbKind × ℕ × ℕ × ℤ × ℤ). s.3) same) (ap (λ (s : MbKind × ℕ × ℕ × ℤ × ℤ). s.4) same);
+      vector_is = both_axes (λ axis. vector_component axis (after (Gquant quant ∷ Gn number ∷ Gbsc ∷ before) (spare_elements Gei Gspare spares)) ≡ pos 0) (ap (λ (s : MbKind × ℕ × ℕ × ℤ × ℤ). s.3) same) (ap (λ (s : MbKind × ℕ × ℕ × ℤ × ℤ). s.4) same);
       last_is = tt;
     }
 

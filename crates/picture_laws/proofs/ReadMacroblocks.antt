@@ -11,11 +11,11 @@ use Rattle.pel_model.specs.Records.{Axis, Across, Down, Block, Macroblock, compo
 use Rattle.pel_model.specs.Text.{address_of, predictor, coded_block_pattern}
 use Rattle.pel_model.specs.Valid.{IsQuantiser, MquantFits, side, corner, StaysWithin, ComponentFits, IsIntraBlock, IsCodedBlock, BlocksFit, IsValidMacroblock}
 use Rattle.pel_model.specs.Walk.{after}
-use Rattle.pel_model.specs.Grammar.{Element, Mba, Mtype, Mquant, Mvd, Cbp, AtMtype, AtMquant, AtMvd, AtCbp, slot, kind, blocks, group, address, vector, block_slot, cbp_slot, vector_slot, ones, component_from, in_range, stays_within}
+use Rattle.pel_model.specs.Grammar.{Element, Mba, Mtype, Mquant, Mvd, Cbp, AtMtype, AtMquant, AtMvd, AtCbp, slot, kind, blocks, group, address, vector_component, block_slot, cbp_slot, vector_slot, ones, component_from, in_range, stays_within}
 use Rattle.pel_model.specs.Elements.{mquant_elements, blocks_elements}
 use Rattle.picture_laws.specs.SoFar.{IsBehind, IsLast}
 use Rattle.picture_laws.specs.Elements.{pair_in, mvd_element, vector_elements, cbp_elements, macroblock_elements}
-use Rattle.picture_laws.proofs.Rows.{Among}
+use Rattle.vlc_codes.proofs.FoundRows.{Among}
 use Rattle.picture_laws.proofs.Slots.{IsStep, IsPattern}
 use Rattle.picture_laws.proofs.Words.{number-fits, length-field}
 use Rattle.picture_laws.proofs.Chains.{Stands}
@@ -56,15 +56,15 @@ pub record ReadsComponent (format : Format) (number : ℕ) (axis : Axis) (last :
   pub is : es ≡ Mvd axis (pair_in (c -ℤ predictor axis last m) mvd_table) ∷ rest
   pub fit : IsFit format number axis m.address c
 
-read_component : (format : Format) (before es : List Element) (number : ℕ) (axis : Axis) (last : Option Macroblock) (m : Macroblock) → IsLast last → group before ≡ number → address before ≡ m.address → vector axis before ≡ predictor axis last m → (row : List Bool × (ℤ × ℤ)) → Among row mvd_table → Stands format before (Mvd axis row.1) → es ≡ es → (all : List Element) → all ≡ Mvd axis row.1 ∷ es → ReadsComponent format number axis last m all
+read_component : (format : Format) (before es : List Element) (number : ℕ) (axis : Axis) (last : Option Macroblock) (m : Macroblock) → IsLast last → group before ≡ number → address before ≡ m.address → vector_component axis before ≡ predictor axis last m → (row : List Bool × (ℤ × ℤ)) → Among row mvd_table → Stands format before (Mvd axis row.1) → es ≡ es → (all : List Element) → all ≡ Mvd axis row.1 ∷ es → ReadsComponent format number axis last m all
 read_component format before es number axis last m is group_is address_is vector_is row among stands same all all_is =
-    let both = two_passed (not (in_range (component_from (vector axis before) row.1))) (not (stays_within (side format axis) (corner axis (group before) (address before)) (component_from (vector axis before) row.1))) BadVector VectorOutside stands.good in
-    let inside : in_range (component_from (predictor axis last m) row.1) ≡ true = ap (λ v. in_range (component_from v row.1)) (sym vector_is) ∙ not-false (in_range (component_from (vector axis before) row.1)) both.0 in
+    let both = two_passed (not (in_range (component_from (vector_component axis before) row.1))) (not (stays_within (side format axis) (corner axis (group before) (address before)) (component_from (vector_component axis before) row.1))) BadVector VectorOutside stands.good in
+    let inside : in_range (component_from (predictor axis last m) row.1) ≡ true = ap (λ v. in_range (component_from v row.1)) (sym vector_is) ∙ not-false (in_range (component_from (vector_component axis before) row.1)) both.0 in
     let within : stays_within (side format axis) (corner axis number m.address) (component_from (predictor axis last m) row.1) ≡ true =
     ap (λ v. stays_within (side format axis) (corner axis number m.address) (component_from v row.1)) (sym vector_is)
-    ∙ (ap (λ a. stays_within (side format axis) (corner axis number a) (component_from (vector axis before) row.1)) (sym address_is)
-    ∙ (ap (λ g. stays_within (side format axis) (corner axis g (address before)) (component_from (vector axis before) row.1)) (sym group_is)
-    ∙ not-false (stays_within (side format axis) (corner axis (group before) (address before)) (component_from (vector axis before) row.1)) both.1)) in
+    ∙ (ap (λ a. stays_within (side format axis) (corner axis number a) (component_from (vector_component axis before) row.1)) (sym address_is)
+    ∙ (ap (λ g. stays_within (side format axis) (corner axis g (address before)) (component_from (vector_component axis before) row.1)) (sym group_is)
+    ∙ not-false (stays_within (side format axis) (corner axis (group before) (address before)) (component_from (vector_component axis before) row.1)) both.1)) in
     record {
       c = component_from (predictor axis last m) row.1;
       rest = es;
@@ -72,7 +72,7 @@ read_component format before es number axis last m is group_is address_is vector
       fit = (range-in (component_from (predictor axis last m) row.1) inside, stays-back (side format axis) (corner axis number m.address) (component_from (predictor axis last m) row.1) within);
     }
 
-read-component : (format : Format) (before es : List Element) (number : ℕ) (axis : Axis) (last : Option Macroblock) (m : Macroblock) → IsLast last → slot before ≡ AtMvd axis → group before ≡ number → address before ≡ m.address → vector axis before ≡ predictor axis last m → IsRest format before es → ReadsComponent format number axis last m es
+read-component : (format : Format) (before es : List Element) (number : ℕ) (axis : Axis) (last : Option Macroblock) (m : Macroblock) → IsLast last → slot before ≡ AtMvd axis → group before ≡ number → address before ≡ m.address → vector_component axis before ≡ predictor axis last m → IsRest format before es → ReadsComponent format number axis last m es
 read-component format before es number axis last m is at group_is address_is vector_is r =
     let more = rest-more format before es (AtMvd axis) at refl r in
     let s = rest-step format before more.first (Mvd axis more.takes.0.1) more.rest more.left more.takes.2 in

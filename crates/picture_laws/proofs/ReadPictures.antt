@@ -8,12 +8,12 @@ use Rattle.pel_model.specs.declared.Format.TheVariants.{Qcif, Cif}
 use Rattle.pel_model.specs.declared.Why.{Why}
 use Rattle.pel_model.specs.declared.Why.TheVariants.{NoCode, WrongFormat, StillImage, Cut}
 use Rattle.pel_model.specs.Bits.{number}
-use Rattle.pel_model.specs.Codes.{begins}
+use Rattle.pel_model.specs.Codes.{is_prefix}
 use Rattle.pel_model.specs.Records.{Group, Picture}
 use Rattle.pel_model.specs.Valid.{group_numbers, group_count, limit, IsValid}
 use Rattle.pel_model.specs.Spelling.{FreeBits, Form, GroupsFit, type_text, sent_text}
 use Rattle.pel_model.specs.Accepts.{Accepts}
-use Rattle.pel_model.specs.Walk.{Step, Good, Stop, Bad, Row, start, after, read, word_at, whole_word}
+use Rattle.pel_model.specs.Walk.{Standing, Good, Stop, Bad, Row, start, after, read, word_at, whole_word}
 use Rattle.pel_model.specs.Grammar.{Element, Psc, Tr, Ptype, Pei, Pspare, Slot, AtPsc, AtTr, AtPtype, AtGroup, slot, begun, rows, faults, first_why, names_format, may_end, is_end, or_no_start, at_slot, next, counted}
 use Rattle.picture_laws.specs.Elements.{header_elements, elements, Tells}
 use Rattle.picture_laws.specs.Laws.{WalkHasRecord}
@@ -122,10 +122,10 @@ read_picture format es zeros r =
 
 -- ---- the end
 
-bad_stop : {E : Type 0} (s : Step E) (why : Why) → s ≡ Bad why → s ≡ Stop → ⊥
+bad_stop : {E : Type 0} (s : Standing E) (why : Why) → s ≡ Bad why → s ≡ Stop → ⊥
 bad_stop s why bad stop = cc
 
-good_stop : {E : Type 0} (s : Step E) (e : E) (n : ℕ) → s ≡ Good e n → s ≡ Stop → ⊥
+good_stop : {E : Type 0} (s : Standing E) (e : E) (n : ℕ) → s ≡ Good e n → s ≡ Stop → ⊥
 good_stop s e n good stop = cc
 
 whole_stop : {E : Type 0} (row : Row E) (bits : List Bool) → whole_word row bits ≡ Stop → ⊥
@@ -138,14 +138,14 @@ word_stop : {E : Type 0} (rows : List (Row E)) (bits : List Bool) (row : Option 
 word_stop rows bits None h = cc
 word_stop rows bits (Some row) h = whole_stop row bits h
 
-or_stop : (s : Slot) (found : Step Element) → or_no_start s found ≡ Stop → found ≡ Stop
+or_stop : (s : Slot) (found : Standing Element) → or_no_start s found ≡ Stop → found ≡ Stop
 or_stop AtPsc (Bad NoCode) h = absurd cc
 or_stop _ found h = h
 
 slot_stop : (s : Slot) (left : List Bool) → at_slot s left ≡ Stop → (may_end s && is_end left) ≡ true
 slot_stop s left h = elim (cases_Bool (may_end s && is_end left)) [
   | inl end ↦ end
-  | inr on ↦ absurd (word_stop (rows s) left (find (λ row. begins row.code left) (rows s)) (or_stop s (read (rows s) left) (sym (cond-false (may_end s && is_end left) Stop (or_no_start s (read (rows s) left)) on) ∙ h)))
+  | inr on ↦ absurd (word_stop (rows s) left (find (λ row. is_prefix row.code left) (rows s)) (or_stop s (read (rows s) left) (sym (cond-false (may_end s && is_end left) Stop (or_no_start s (read (rows s) left)) on) ∙ h)))
 ]
 
 pub stopped : (format : Format) (before : List Element) (r : List Bool × ℕ) → next format before r ≡ Stop → (may_end (slot before) ≡ true) × (is_end r.0 ≡ true)

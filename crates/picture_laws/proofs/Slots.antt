@@ -10,7 +10,7 @@ use Rattle.pel_model.specs.Records.{Coefficient}
 use Rattle.pel_model.specs.Text.{word_of, coefficient_word, mtype_word}
 use Rattle.pel_model.specs.Valid.{has_code}
 use Rattle.pel_model.specs.Grammar.{Element, Psc, Tr, Ptype, Pei, Pspare, Gbsc, Gn, Gquant, Gei, Gspare, Stuffing, Mba, Mtype, Mquant, Mvd, Cbp, Dc, Tcoeff, Eob, Slot, AtPsc, AtTr, AtPtype, AtPei, AtPspare, AtGroup, AtGn, AtGquant, AtGei, AtGspare, AtMacroblock, AtMtype, AtMquant, AtMvd, AtCbp, AtDc, AtFirst, AtCoefficient, rows, signed}
-use Rattle.picture_laws.proofs.Rows.{Among}
+use Rattle.vlc_codes.proofs.FoundRows.{Among}
 
 -- ---- words of elements
 

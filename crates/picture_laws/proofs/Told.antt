@@ -285,21 +285,21 @@ BeginsAbove low [] = Unit {0}
 BeginsAbove low (Gbsc ∷ Gn g ∷ Gquant q ∷ es) = low < g
 BeginsAbove low _ = ⊥
 
-begins_lower : (low high : ℕ) (es : List Element) → low ≤ high → BeginsAbove high es → BeginsAbove low es
-begins_lower low high [] h b = tt
-begins_lower low high (Gbsc ∷ Gn g ∷ Gquant q ∷ es) h b = omega (arith, h, b)
-begins_lower low high _ h b = absurd b
+is_prefix_lower : (low high : ℕ) (es : List Element) → low ≤ high → BeginsAbove high es → BeginsAbove low es
+is_prefix_lower low high [] h b = tt
+is_prefix_lower low high (Gbsc ∷ Gn g ∷ Gquant q ∷ es) h b = omega (arith, h, b)
+is_prefix_lower low high _ h b = absurd b
 
-begins_above : (format : Format) (low : ℕ) (forms : List GroupForm) (gs : List Group) → GroupsFit forms gs → RiseFrom format low gs → BeginsAbove low (groups_elements forms gs)
-begins_above format low [] gs fit rise = tt
-begins_above format low (f ∷ forms) [] fit rise = tt
-begins_above format low (LeftOut ∷ forms) (g ∷ gs) fit rise = begins_lower low g.number (groups_elements forms gs) (omega (arith, rise.1)) (begins_above format g.number forms gs fit.1 rise.2)
-begins_above format low (Sent spares stuffings behind ∷ forms) (g ∷ gs) fit rise = rise.1
+is_prefix_above : (format : Format) (low : ℕ) (forms : List GroupForm) (gs : List Group) → GroupsFit forms gs → RiseFrom format low gs → BeginsAbove low (groups_elements forms gs)
+is_prefix_above format low [] gs fit rise = tt
+is_prefix_above format low (f ∷ forms) [] fit rise = tt
+is_prefix_above format low (LeftOut ∷ forms) (g ∷ gs) fit rise = is_prefix_lower low g.number (groups_elements forms gs) (omega (arith, rise.1)) (is_prefix_above format g.number forms gs fit.1 rise.2)
+is_prefix_above format low (Sent spares stuffings behind ∷ forms) (g ∷ gs) fit rise = rise.1
 
-begins_opens : (low : ℕ) (es : List Element) → BeginsAbove low es → Opens es
-begins_opens low [] b = tt
-begins_opens low (Gbsc ∷ es) b = tt
-begins_opens low _ b = absurd b
+is_prefix_opens : (low : ℕ) (es : List Element) → BeginsAbove low es → Opens es
+is_prefix_opens low [] b = tt
+is_prefix_opens low (Gbsc ∷ es) b = tt
+is_prefix_opens low _ b = absurd b
 
 not_number : (g n : ℕ) → n < g → (g == n) ≡ false
 not_number g n h = elim (cases_Bool (g == n)) [ inl same ↦ absurd (omega (arith, h, eqb-true g n same)) | inr no_ ↦ no_ ]
@@ -335,11 +335,11 @@ groups_again format low [] [] fit rise valid = none_again
 groups_again format low [] (g ∷ gs) fit rise valid = absurd fit
 groups_again format low (f ∷ forms) [] fit rise valid = absurd fit
 groups_again format low (LeftOut ∷ forms) (g ∷ gs) fit rise valid =
-    left_again g.number (map (λ (g : Group). g.number) gs) (groups_elements forms gs) (begins_above format g.number forms gs fit.1 rise.2)
+    left_again g.number (map (λ (g : Group). g.number) gs) (groups_elements forms gs) (is_prefix_above format g.number forms gs fit.1 rise.2)
     ∙ (ap (λ (x : Group). x ∷ told_groups (map (λ (g : Group). g.number) gs) (groups_elements forms gs)) (left_out_is g fit.0.0 fit.0.1)
     ∙ ap (λ t. g ∷ t) (groups_again format g.number forms gs fit.1 rise.2 (All-tail (IsValidGroup format) g gs valid)))
 groups_again format low (Sent spares stuffings behind ∷ forms) (g ∷ gs) fit rise valid =
-    sent_again format g spares stuffings behind (map (λ (g : Group). g.number) gs) (groups_elements forms gs) (All-head (IsValidGroup format) g gs valid) (begins_opens g.number (groups_elements forms gs) (begins_above format g.number forms gs fit.1 rise.2))
+    sent_again format g spares stuffings behind (map (λ (g : Group). g.number) gs) (groups_elements forms gs) (All-head (IsValidGroup format) g gs valid) (is_prefix_opens g.number (groups_elements forms gs) (is_prefix_above format g.number forms gs fit.1 rise.2))
     ∙ ap (λ t. g ∷ t) (groups_again format g.number forms gs fit.1 rise.2 (All-tail (IsValidGroup format) g gs valid))
 
 -- ---- the picture

@@ -12,7 +12,7 @@ use Rattle.pel_model.specs.Grammar as grammar
 use Rattle.pel_model.specs.Grammar.{Mvd, AtMvd, in_range, component_from, stays_within}
 use Rattle.picture_laws.specs.SoFar.{IsLast, last_component}
 use Rattle.picture_laws.specs.Elements.{pair_in}
-use Rattle.picture_laws.proofs.Rows.{Among, among-all, among-left, among-right, among-mapped}
+use Rattle.vlc_codes.proofs.FoundRows.{Among, among-all, among-left, among-right, among-mapped}
 use Rattle.picture_laws.proofs.Slots.{word_at, same_pair, same_bits-true, mvd_words}
 use Rattle.picture_laws.proofs.Written.{below}
 

@@ -11,7 +11,7 @@ use Rattle.pel_model.specs.Records.{Coefficient}
 use Rattle.pel_model.specs.Text.{coefficient_word, twos_complement}
 use Rattle.pel_model.specs.Walk.{Good, Row, read}
 use Rattle.pel_model.specs.Grammar.{Element, Psc, Tr, Ptype, Pei, Pspare, Gbsc, Gn, Gquant, Gei, Gspare, Stuffing, Mba, Mtype, Mquant, Mvd, Cbp, Dc, Tcoeff, Eob, Slot, AtPsc, AtTr, AtPtype, AtPei, AtPspare, AtGroup, AtGn, AtGquant, AtGei, AtGspare, AtMacroblock, AtMtype, AtMquant, AtMvd, AtCbp, AtDc, AtFirst, AtCoefficient, word_row, field_rows, table_rows, coefficient_row, escape_row, mba_rows, gbsc_row, rows, signed, from_twos_complement}
-use Rattle.picture_laws.proofs.Rows.{Among, IsRead, read-is, among-all, among-map, among-either}
+use Rattle.vlc_codes.proofs.FoundRows.{Among, IsRead, read-is, among-all, among-map, among-either}
 use Rattle.picture_laws.proofs.Slots.{word_at, one_at, Takes, IsSent, IsByteLevel, same_bits-true, mba_words, mtype_words, mvd_words, cbp_words, pair, pair_is_sent, pair_words, pair_words_later}
 
 -- ---- fields

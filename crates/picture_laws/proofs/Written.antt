@@ -12,7 +12,7 @@ use Rattle.pel_model.specs.Records.{Coefficient}
 use Rattle.pel_model.specs.Text.{word_of, coefficient_word, mtype_word, twos_complement, is_negative}
 use Rattle.pel_model.specs.Walk.{Good, Row, read}
 use Rattle.pel_model.specs.Grammar.{Element, Psc, Tr, Ptype, Pei, Pspare, Gbsc, Gn, Gquant, Gei, Gspare, Stuffing, Mba, Mtype, Mquant, Mvd, Cbp, Dc, Tcoeff, Eob, Slot, AtPsc, AtTr, AtPtype, AtPei, AtPspare, AtGroup, AtGn, AtGquant, AtGei, AtGspare, AtMacroblock, AtMtype, AtMquant, AtMvd, AtCbp, AtDc, AtFirst, AtCoefficient, word_row, field_rows, flag_rows, table_rows, escape_row, mba_rows, gbsc_row, rows, signed, from_twos_complement}
-use Rattle.picture_laws.proofs.Rows.{Among, read-row, among-all, among-mapped, among-left, among-right}
+use Rattle.vlc_codes.proofs.FoundRows.{Among, read-row, among-all, among-mapped, among-left, among-right}
 use Rattle.picture_laws.proofs.Slots.{word_at, Takes, IsSent, IsByteLevel, IsStep, IsPattern, same_bits-true, mvd_words, pair, pair_is_sent, pair_words, pair_words_later, rows_free}
 use Rattle.picture_laws.proofs.Words.{number-fits, length-field, field-join, pair_row}
 

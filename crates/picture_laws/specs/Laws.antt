@@ -10,7 +10,7 @@ use Rattle.pel_model.specs.Valid.{IsValid, group_count, limit}
 use Rattle.pel_model.specs.Spelling.{Spells}
 use Rattle.pel_model.specs.Accepts.{Accepts}
 use Rattle.pel_model.specs.Walk.{Good, Stop, Bad, after, Goes, FirstFault, Reads}
-use Rattle.pel_model.specs.Grammar.{Element, slot, may_end, begun, counted, next, picture}
+use Rattle.pel_model.specs.Grammar.{Element, slot, may_end, begun, counted, next, next_within_limit}
 use Rattle.picture_laws.specs.Elements.{Tells}
 
 -- the strict text of a valid picture is accepted with that picture, where it is no longer than the format allows
@@ -23,12 +23,12 @@ TextIsAccepted =
 abbrev pub AcceptedIsRead : Type 0
 AcceptedIsRead =
     (format : Format) (bits : List Bool) (pic : Picture) → Accepts format bits pic
-    → (es : List Element) × Reads (picture format) bits es × Tells format es pic
+    → (es : List Element) × Reads (next_within_limit format) bits es × Tells format es pic
 
 -- good elements up to the lawful end tell a picture, and with it the bits are accepted
 abbrev pub WalkHasRecord : Type 0
 WalkHasRecord =
-    (format : Format) (bits : List Bool) (es : List Element) → Reads (picture format) bits es
+    (format : Format) (bits : List Bool) (es : List Element) → Reads (next_within_limit format) bits es
     → (pic : Picture) × Tells format es pic × Accepts format bits pic
 
 -- ---- one record or one fault
@@ -37,13 +37,13 @@ WalkHasRecord =
 abbrev pub HasRecordOrFault : Type 0
 HasRecordOrFault =
     (format : Format) (bits : List Bool)
-    → ((pic : Picture) × Accepts format bits pic) ⊎ ((place : ℕ) × (why : Why) × FirstFault (picture format) bits place why)
+    → ((pic : Picture) × Accepts format bits pic) ⊎ ((place : ℕ) × (why : Why) × FirstFault (next_within_limit format) bits place why)
 
 -- never both
 abbrev pub NeverBoth : Type 0
 NeverBoth =
     (format : Format) (bits : List Bool) (pic : Picture) (place : ℕ) (why : Why) → Accepts format bits pic
-    → FirstFault (picture format) bits place why → ⊥
+    → FirstFault (next_within_limit format) bits place why → ⊥
 
 -- bits spell one valid picture
 abbrev pub OneSpelling : Type 0
@@ -59,18 +59,18 @@ OneRecord =
 -- one fault, with one place and reason
 abbrev pub OneFault : Type 0
 OneFault =
-    (format : Format) (bits : List Bool) (p q : ℕ) (why other : Why) → FirstFault (picture format) bits p why
-    → FirstFault (picture format) bits q other → (p ≡ q) × (why ≡ other)
+    (format : Format) (bits : List Bool) (p q : ℕ) (why other : Why) → FirstFault (next_within_limit format) bits p why
+    → FirstFault (next_within_limit format) bits q other → (p ≡ q) × (why ≡ other)
 
 -- ---- the limit
 
 -- an element of a picture is what stands there whatever the picture's length, or is too long; a lawful end and another
 -- fault are as they were
 pub record IsJudged (format : Format) (before : List Element) (r : List Bool × ℕ) : Type 0 where
-  pub good : (e : Element) (n : ℕ) → next format before r ≡ Good e n → counted format (e ∷ before) (r.1 + n) ≤ limit format → picture format before r ≡ Good e n
-  pub long : (e : Element) (n : ℕ) → next format before r ≡ Good e n → limit format < counted format (e ∷ before) (r.1 + n) → picture format before r ≡ Bad TooLong
-  pub end : next format before r ≡ Stop → picture format before r ≡ Stop
-  pub bad : (why : Why) → next format before r ≡ Bad why → picture format before r ≡ Bad why
+  pub good : (e : Element) (n : ℕ) → next format before r ≡ Good e n → counted format (e ∷ before) (r.1 + n) ≤ limit format → next_within_limit format before r ≡ Good e n
+  pub long : (e : Element) (n : ℕ) → next format before r ≡ Good e n → limit format < counted format (e ∷ before) (r.1 + n) → next_within_limit format before r ≡ Bad TooLong
+  pub end : next format before r ≡ Stop → next_within_limit format before r ≡ Stop
+  pub bad : (why : Why) → next format before r ≡ Bad why → next_within_limit format before r ≡ Bad why
 
 abbrev pub JudgedByTheLimit : Type 0
 JudgedByTheLimit = (format : Format) (before : List Element) (r : List Bool × ℕ) → IsJudged format before r
@@ -79,7 +79,7 @@ JudgedByTheLimit = (format : Format) (before : List Element) (r : List Bool × �
 abbrev pub WithoutTheLimit : Type 0
 WithoutTheLimit =
     (format : Format) (before : List Element) (r end : List Bool × ℕ) (es : List Element)
-    → Goes (picture format) before r es end → Goes (next format) before r es end
+    → Goes (next_within_limit format) before r es end → Goes (next format) before r es end
 
 -- elements none of which stands where a lawful end can be
 abbrev pub StandInside : List Element → List Element → Type 0
@@ -108,15 +108,15 @@ abbrev pub WithinTheLimit : Type 0
 WithinTheLimit =
     (format : Format) (before : List Element) (r end : List Bool × ℕ) (es : List Element) (k : ℕ)
     → Leaves format before r.1 k → StandInside before es → Goes (next format) before r es end → end.1 ≤ r.1 + k
-    → Goes (picture format) before r es end
+    → Goes (next_within_limit format) before r es end
 
 -- where they end past it, one of them is too long; it is the one that is cut in a reading of the bits that the limit
 -- leaves, and that reading gets to no place where an end can be
 pub record TooLongAt (format : Format) (before : List Element) (r : List Bool × ℕ) (k : ℕ) : Type 0 where
   pub good : List Element
   pub mid : List Bool × ℕ
-  pub walk : Goes (picture format) before r good mid
-  pub too_long : picture format (after before good) mid ≡ Bad TooLong
+  pub walk : Goes (next_within_limit format) before r good mid
+  pub too_long : next_within_limit format (after before good) mid ≡ Bad TooLong
   pub cut : List Bool × ℕ
   pub cut_walk : Goes (next format) before (take k r.0, r.1) good cut
   pub is_cut : next format (after before good) cut ≡ Bad Cut
@@ -139,5 +139,5 @@ KeptLength =
     (format : Format) (bits : List Bool)
     → ((pic : Picture) → Accepts format bits pic → Accepts format (take (kept_length format) bits) pic)
     × ((pic : Picture) → Accepts format (take (kept_length format) bits) pic → Accepts format bits pic)
-    × ((place : ℕ) (why : Why) → FirstFault (picture format) bits place why → FirstFault (picture format) (take (kept_length format) bits) place why)
-    × ((place : ℕ) (why : Why) → FirstFault (picture format) (take (kept_length format) bits) place why → FirstFault (picture format) bits place why)
+    × ((place : ℕ) (why : Why) → FirstFault (next_within_limit format) bits place why → FirstFault (next_within_limit format) (take (kept_length format) bits) place why)
+    × ((place : ℕ) (why : Why) → FirstFault (next_within_limit format) (take (kept_length format) bits) place why → FirstFault (next_within_limit format) bits place why)

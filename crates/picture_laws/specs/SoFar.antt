@@ -3,16 +3,14 @@
 use Rattle.std.specs.Prelude.{◌≡◌, ℕ, ◌<◌, ◌≤◌, Bool, false, ℤ, pos, nat_abs, List, [], ◌∷◌, ◌++◌, length, get_or, Option, Some, None}
 use Rattle.pel_model.specs.declared.Format.{Format}
 use Rattle.pel_model.specs.Codes.{has_vector}
-use Rattle.pel_model.specs.Records.{Axis, Macroblock, Group, Picture, component, with_group}
-use Rattle.pel_model.specs.Marks.{quant_behind}
+use Rattle.pel_model.specs.Records.{Axis, Macroblock, Group, Picture, component, with_group, quantiser_after, quantiser_behind}
 use Rattle.pel_model.specs.Text.{address_of, macroblock_text, macroblocks_text}
 use Rattle.pel_model.specs.Valid.{IsValidGroup, IsValidSoFar, IsValid, group_numbers, group_count}
 use Rattle.pel_model.specs.Spelling.{FreeBits, GroupForm, Sent, GroupsFit}
 use Rattle.pel_model.specs.Accepts.{Accepts}
 use Rattle.pel_model.specs.Walk.{after, Goes, Reads}
 use Rattle.pel_model.specs.Elements.{AreInside}
-use Rattle.pel_model.specs.Grammar as grammar
-use Rattle.pel_model.specs.Grammar.{Element, Psc, Tr, Ptype, Gbsc, Gn, Gquant, Stuffing, Mba, slot, AtGroup, AtMacroblock, group, address, vector, next}
+use Rattle.pel_model.specs.Grammar.{Element, Psc, Tr, Ptype, Gbsc, Gn, Gquant, Stuffing, Mba, slot, AtGroup, AtMacroblock, group, address, quantiser, vector_component, next, next_within_limit}
 use Rattle.picture_laws.specs.Laws.{StandInside}
 use Rattle.picture_laws.specs.Elements.{macroblock_elements, group_elements, groups_elements, header_elements, Tells}
 
@@ -36,18 +34,13 @@ pub record IsBehind (number : ℕ) (last : Option Macroblock) (before : List Ele
   pub at : slot before ≡ AtMacroblock
   pub group_is : group before ≡ number
   pub address_is : address before ≡ address_of last
-  pub vector_is : (axis : Axis) → vector axis before ≡ last_component axis last
+  pub vector_is : (axis : Axis) → vector_component axis before ≡ last_component axis last
   pub last_is : IsLast last
 
 -- the last of these macroblocks, or `last` where there is none
 abbrev pub last_of : Option Macroblock → List Macroblock → Option Macroblock
 last_of last [] = last
 last_of last (m ∷ ms) = last_of (Some m) ms
-
--- the quantiser in effect behind these, where it was `quant` before (4.2.3.3)
-abbrev pub in_effect : ℕ → List Macroblock → ℕ
-in_effect quant [] = quant
-in_effect quant (m ∷ ms) = in_effect (quant_behind quant m.mquant) ms
 
 -- ---- a group so far
 
@@ -63,7 +56,7 @@ pub record IsGroupSoFar (format : Format) (before : List Element) (number quant 
   pub elements : es ≡ group_elements (Sent spares stuffings behind) (group_of number quant ms)
   pub valid : IsValidGroup format (group_of number quant ms)
   pub place : IsBehind number (last_of None ms) (after before es)
-  pub quant_is : grammar.quant (after before es) ≡ in_effect quant ms
+  pub quant_is : quantiser (after before es) ≡ quantiser_behind quant ms
 
 -- good elements with none of which a group, stuffing or a macroblock begins stand at no place where an end can be
 abbrev pub InsideStands : Type 0
@@ -93,8 +86,8 @@ pub record IsJoined (format : Format) (before : List Element) (number quant : �
   pub bits : r.0 ≡ macroblock_text (last_of None ms) macroblock ++ end.0
   pub text : macroblocks_text None (ms ++ macroblock ∷ []) ≡ macroblocks_text None ms ++ macroblock_text (last_of None ms) macroblock
   pub address_is : address (after (after before es) more) ≡ macroblock.address
-  pub vector_is : (axis : Axis) → vector axis (after (after before es) more) ≡ component axis macroblock
-  pub quant_is : grammar.quant (after (after before es) more) ≡ quant_behind (grammar.quant (after before es)) macroblock.mquant
+  pub vector_is : (axis : Axis) → vector_component axis (after (after before es) more) ≡ component axis macroblock
+  pub quant_is : quantiser (after (after before es) more) ≡ quantiser_after (quantiser (after before es)) macroblock.mquant
   pub so_far : IsGroupSoFar format before number quant (ms ++ macroblock ∷ []) (es ++ more)
 
 abbrev pub MacroblockJoins : Type 0
@@ -155,4 +148,4 @@ abbrev pub PictureIsAccepted : Type 0
 PictureIsAccepted =
     (format : Format) (picture : Picture) (bits : List Bool) (es : List Element)
     → IsPictureSoFar format picture es → length picture.groups ≡ group_count format
-    → Reads (grammar.picture format) bits es → Accepts format bits picture
+    → Reads (next_within_limit format) bits es → Accepts format bits picture

@@ -7,7 +7,7 @@ use Rattle.std.proofs.lemmas.Nat.{leading_length, shr_below, le-div, pow-add, po
 use Rattle.pel_bits.specs.Bits.{field}
 use Rattle.pel_bits.specs.Reading.{zeros}
 use Rattle.pel_bits.proofs.Fields.{field-add, field-zero}
-use Rattle.pel_model.specs.Codes.{begins}
+use Rattle.pel_model.specs.Codes.{is_prefix}
 use Rattle.vlc_codes.specs.declared.lookup.Cell.{Cell}
 use Rattle.vlc_codes.specs.Lookup.{cell_of, no_cell}
 use Rattle.vlc_codes.specs.Inner.{cell_in}
@@ -40,20 +40,20 @@ abbrev pub all_settled : List (List Bool) → List Bool → Bool
 all_settled [] bits = true
 all_settled (w ∷ ws) bits = is_settled w bits && all_settled ws bits
 
-begins-settled : (w bits more : List Bool) → is_settled w bits ≡ true → begins w (bits ++ more) ≡ begins w bits
-begins-settled [] bits more h = refl
-begins-settled (b ∷ w) [] more h = absurd cc
-begins-settled (true ∷ w) (true ∷ bits) more h = begins-settled w bits more h
-begins-settled (false ∷ w) (false ∷ bits) more h = begins-settled w bits more h
-begins-settled (true ∷ w) (false ∷ bits) more h = refl
-begins-settled (false ∷ w) (true ∷ bits) more h = refl
+is_prefix-settled : (w bits more : List Bool) → is_settled w bits ≡ true → is_prefix w (bits ++ more) ≡ is_prefix w bits
+is_prefix-settled [] bits more h = refl
+is_prefix-settled (b ∷ w) [] more h = absurd cc
+is_prefix-settled (true ∷ w) (true ∷ bits) more h = is_prefix-settled w bits more h
+is_prefix-settled (false ∷ w) (false ∷ bits) more h = is_prefix-settled w bits more h
+is_prefix-settled (true ∷ w) (false ∷ bits) more h = refl
+is_prefix-settled (false ∷ w) (true ∷ bits) more h = refl
 
 pub cell-settled : (ws : List (List Bool)) (i : ℕ) (bits more : List Bool) → all_settled ws bits ≡ true → cell_of ws i (bits ++ more) ≡ cell_of ws i bits
 cell-settled [] i bits more h = refl
 cell-settled (w ∷ ws) i bits more h =
     let both = and_parts (is_settled w bits) (all_settled ws bits) h in
-    ap (λ (b : Bool). if b then record { len = length w; value = i } else cell_of ws (i + 1) (bits ++ more)) (begins-settled w bits more both.0)
-    ∙ ap (λ (c : Cell). if begins w bits then record { len = length w; value = i } else c) (cell-settled ws (i + 1) bits more both.1)
+    ap (λ (b : Bool). if b then record { len = length w; value = i } else cell_of ws (i + 1) (bits ++ more)) (is_prefix-settled w bits more both.0)
+    ∙ ap (λ (c : Cell). if is_prefix w bits then record { len = length w; value = i } else c) (cell-settled ws (i + 1) bits more both.1)
 
 -- ---- the index of 32 bits
 

@@ -191,7 +191,7 @@ unfolding words mba_table mtype_table mvd_table cbp_table tcoeff_table
 mba_tails = refl
 
 abbrev pub mba_meanings : List MbaRow
-mba_meanings = listed (λ k. mba_row.Step (k + 1)) 0 33 ++ mba_row.Stuffing ∷ []
+mba_meanings = listed (λ k. mba_row.Difference (k + 1)) 0 33 ++ mba_row.Stuffing ∷ []
 
 pub mba_makes : map (λ row. row.make 0) mba_rows ≡ map mba_element mba_meanings
 unfolding words mba_table mtype_table mvd_table cbp_table tcoeff_table
@@ -293,9 +293,9 @@ pub level_bound : (k : ℕ) (d : ℕ × ℕ) → k < 63 → (get_or codes.PAIRS 
 level_bound k d inside =
     leb-true (get_or codes.PAIRS k d).1 15 (all_at (λ pair. nat_le pair.1 15) codes.PAIRS k d levels_small inside)
 
-pub mba_step : (k : ℕ) (d : MbaRow) → k < 33 → get_or mba_meanings k d ≡ mba_row.Step (k + 1)
+pub mba_step : (k : ℕ) (d : MbaRow) → k < 33 → get_or mba_meanings k d ≡ mba_row.Difference (k + 1)
 mba_step k d inside =
-    get_or_append_left (listed (λ k. mba_row.Step (k + 1)) 0 33) (mba_row.Stuffing ∷ []) d k inside ∙ listed_at (λ k. mba_row.Step (k + 1)) 33 k d inside
+    get_or_append_left (listed (λ k. mba_row.Difference (k + 1)) 0 33) (mba_row.Stuffing ∷ []) d k inside ∙ listed_at (λ k. mba_row.Difference (k + 1)) 33 k d inside
 
 pub mba_stuffing : (k : ℕ) (d : MbaRow) → k ≡ 33 → get_or mba_meanings k d ≡ mba_row.Stuffing
 mba_stuffing k d last = ap (λ (k : ℕ). get_or mba_meanings k d) last

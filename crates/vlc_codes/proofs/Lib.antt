@@ -1,4 +1,5 @@
 pub mod CellLaws
 pub mod CoefficientLaws
 pub mod Computed
+pub mod FoundRows
 pub mod WordLaws

@@ -6,69 +6,69 @@ use Rattle.std.proofs.lemmas.Nat.{one_shl}
 use Rattle.std.proofs.Math.Nat.{pow-le-pow_right, div-eq_of_lt, min-eq_left, min-eq_right}
 use Rattle.pel_bits.specs.Bits.{field, number}
 use Rattle.pel_bits.proofs.Fields.{length-field, field-add, field-mod, number-field, number-fits, field-number}
-use Rattle.pel_model.specs.Codes.{begins, is_prefix_free}
+use Rattle.pel_model.specs.Codes.{is_prefix, is_prefix_free}
 use Rattle.vlc_codes.specs.declared.lookup.Cell.{Cell}
 use Rattle.vlc_codes.specs.Lookup.{cell_of, no_cell, codes_of_rows}
 use Rattle.vlc_codes.specs.Inner.{code_word, cell_or_cause, place_of, TakesPlace}
 use Rattle.pel_model.specs.Bits as model
-use Rattle.pel_model.specs.Walk.{Step, Good, Bad, Row, cause, read, whole_word, word_at, TakesWord}
+use Rattle.pel_model.specs.Walk.{Standing, Good, Bad, Row, cause, read, whole_word, word_at, TakesWord}
 use Rattle.pel_model.specs.declared.Why.{Why}
 use Rattle.pel_model.specs.declared.Why.TheVariants.{Cut, NoCode}
 use Rattle.pel_bits.specs.Reading.{zeros}
 use Rattle.std.proofs.lemmas.List.{take_at, length-take-le, length-append, length-replicate, length-map, get_or-map}
 
-pub begins_length : (w bits : List Bool) → begins w bits ≡ true → length w ≤ length bits
-begins_length [] bits h = omega arith
-begins_length (b ∷ w) [] h = absurd cc
-begins_length (true ∷ w) (true ∷ bits) h = omega (arith, begins_length w bits h)
-begins_length (false ∷ w) (false ∷ bits) h = omega (arith, begins_length w bits h)
-begins_length (true ∷ w) (false ∷ bits) h = absurd cc
-begins_length (false ∷ w) (true ∷ bits) h = absurd cc
+pub is_prefix_length : (w bits : List Bool) → is_prefix w bits ≡ true → length w ≤ length bits
+is_prefix_length [] bits h = omega arith
+is_prefix_length (b ∷ w) [] h = absurd cc
+is_prefix_length (true ∷ w) (true ∷ bits) h = omega (arith, is_prefix_length w bits h)
+is_prefix_length (false ∷ w) (false ∷ bits) h = omega (arith, is_prefix_length w bits h)
+is_prefix_length (true ∷ w) (false ∷ bits) h = absurd cc
+is_prefix_length (false ∷ w) (true ∷ bits) h = absurd cc
 
 -- a longer list is no front
-pub begins_longer : (w bits : List Bool) → length bits < length w → begins w bits ≡ false
-begins_longer [] bits h = absurd (omega arith)
-begins_longer (b ∷ w) [] h = refl
-begins_longer (true ∷ w) (true ∷ bits) h = begins_longer w bits (omega arith)
-begins_longer (false ∷ w) (false ∷ bits) h = begins_longer w bits (omega arith)
-begins_longer (true ∷ w) (false ∷ bits) h = refl
-begins_longer (false ∷ w) (true ∷ bits) h = refl
+pub is_prefix_longer : (w bits : List Bool) → length bits < length w → is_prefix w bits ≡ false
+is_prefix_longer [] bits h = absurd (omega arith)
+is_prefix_longer (b ∷ w) [] h = refl
+is_prefix_longer (true ∷ w) (true ∷ bits) h = is_prefix_longer w bits (omega arith)
+is_prefix_longer (false ∷ w) (false ∷ bits) h = is_prefix_longer w bits (omega arith)
+is_prefix_longer (true ∷ w) (false ∷ bits) h = refl
+is_prefix_longer (false ∷ w) (true ∷ bits) h = refl
 
 -- what stands behind the bits, and where they are cut, is nothing to a word that is no longer
-pub begins-cut : (w bits more : List Bool) (n : ℕ) → length w ≤ n → length w ≤ length bits → begins w (take n (bits ++ more)) ≡ begins w bits
-begins-cut [] bits more n p q = refl
-begins-cut (b ∷ w) [] more n p q = absurd (omega arith)
-begins-cut (b ∷ w) (c ∷ bits) more zero p q = absurd (omega arith)
-begins-cut (true ∷ w) (true ∷ bits) more (suc n) p q = begins-cut w bits more n (omega arith) (omega arith)
-begins-cut (false ∷ w) (false ∷ bits) more (suc n) p q = begins-cut w bits more n (omega arith) (omega arith)
-begins-cut (true ∷ w) (false ∷ bits) more (suc n) p q = refl
-begins-cut (false ∷ w) (true ∷ bits) more (suc n) p q = refl
+pub is_prefix-cut : (w bits more : List Bool) (n : ℕ) → length w ≤ n → length w ≤ length bits → is_prefix w (take n (bits ++ more)) ≡ is_prefix w bits
+is_prefix-cut [] bits more n p q = refl
+is_prefix-cut (b ∷ w) [] more n p q = absurd (omega arith)
+is_prefix-cut (b ∷ w) (c ∷ bits) more zero p q = absurd (omega arith)
+is_prefix-cut (true ∷ w) (true ∷ bits) more (suc n) p q = is_prefix-cut w bits more n (omega arith) (omega arith)
+is_prefix-cut (false ∷ w) (false ∷ bits) more (suc n) p q = is_prefix-cut w bits more n (omega arith) (omega arith)
+is_prefix-cut (true ∷ w) (false ∷ bits) more (suc n) p q = refl
+is_prefix-cut (false ∷ w) (true ∷ bits) more (suc n) p q = refl
 
 -- of two fronts of the same bits the shorter is a front of the longer
-pub begins_both : (v w bits : List Bool) → begins v bits ≡ true → begins w bits ≡ true → length v ≤ length w → begins v w ≡ true
-begins_both [] w bits p q h = refl
-begins_both (b ∷ v) [] bits p q h = absurd (omega arith)
-begins_both (b ∷ v) (c ∷ w) [] p q h = absurd cc
-begins_both (true ∷ v) (true ∷ w) (true ∷ bits) p q h = begins_both v w bits p q (omega arith)
-begins_both (true ∷ v) (true ∷ w) (false ∷ bits) p q h = absurd cc
-begins_both (true ∷ v) (false ∷ w) (true ∷ bits) p q h = absurd cc
-begins_both (true ∷ v) (false ∷ w) (false ∷ bits) p q h = absurd cc
-begins_both (false ∷ v) (true ∷ w) (true ∷ bits) p q h = absurd cc
-begins_both (false ∷ v) (true ∷ w) (false ∷ bits) p q h = absurd cc
-begins_both (false ∷ v) (false ∷ w) (true ∷ bits) p q h = absurd cc
-begins_both (false ∷ v) (false ∷ w) (false ∷ bits) p q h = begins_both v w bits p q (omega arith)
+pub is_prefix_both : (v w bits : List Bool) → is_prefix v bits ≡ true → is_prefix w bits ≡ true → length v ≤ length w → is_prefix v w ≡ true
+is_prefix_both [] w bits p q h = refl
+is_prefix_both (b ∷ v) [] bits p q h = absurd (omega arith)
+is_prefix_both (b ∷ v) (c ∷ w) [] p q h = absurd cc
+is_prefix_both (true ∷ v) (true ∷ w) (true ∷ bits) p q h = is_prefix_both v w bits p q (omega arith)
+is_prefix_both (true ∷ v) (true ∷ w) (false ∷ bits) p q h = absurd cc
+is_prefix_both (true ∷ v) (false ∷ w) (true ∷ bits) p q h = absurd cc
+is_prefix_both (true ∷ v) (false ∷ w) (false ∷ bits) p q h = absurd cc
+is_prefix_both (false ∷ v) (true ∷ w) (true ∷ bits) p q h = absurd cc
+is_prefix_both (false ∷ v) (true ∷ w) (false ∷ bits) p q h = absurd cc
+is_prefix_both (false ∷ v) (false ∷ w) (true ∷ bits) p q h = absurd cc
+is_prefix_both (false ∷ v) (false ∷ w) (false ∷ bits) p q h = is_prefix_both v w bits p q (omega arith)
 
 -- no word of the list stands at the front of the bits: a word w that no other is a front of reaches past them
-none_left : (w : List Bool) (ws : List (List Bool)) (i : ℕ) (bits more : List Bool) (n : ℕ) → list_any (λ v. begins w v || begins v w) ws ≡ false → begins w (take n (bits ++ more)) ≡ true → length bits < length w → list_all (λ v. nat_le (length v) n) ws ≡ true → cell_of ws i bits ≡ no_cell
+none_left : (w : List Bool) (ws : List (List Bool)) (i : ℕ) (bits more : List Bool) (n : ℕ) → list_any (λ v. is_prefix w v || is_prefix v w) ws ≡ false → is_prefix w (take n (bits ++ more)) ≡ true → length bits < length w → list_all (λ v. nat_le (length v) n) ws ≡ true → cell_of ws i bits ≡ no_cell
 none_left w [] i bits more n free front longer short = refl
 none_left w (v ∷ ws) i bits more n free front longer short =
     let rest : cell_of ws (i + 1) bits ≡ no_cell = none_left w ws (i + 1) bits more n (or_parts _ _ free).1 front longer (and_parts _ _ short).1 in
     let fits : length v ≤ n = leb-true (length v) n (and_parts _ _ short).0 in
-    elim (cases_Bool (begins v bits)) [
+    elim (cases_Bool (is_prefix v bits)) [
       | inl here ↦
-          let seen : begins v (take n (bits ++ more)) ≡ true = begins-cut v bits more n fits (begins_length v bits here) ∙ here in
-          let inner : begins v w ≡ true = begins_both v w (take n (bits ++ more)) seen front (omega (arith, begins_length v bits here)) in
-          absurd (false≢true (sym (or_parts (begins w v) (begins v w) (or_parts _ _ free).0).1 ∙ inner))
+          let seen : is_prefix v (take n (bits ++ more)) ≡ true = is_prefix-cut v bits more n fits (is_prefix_length v bits here) ∙ here in
+          let inner : is_prefix v w ≡ true = is_prefix_both v w (take n (bits ++ more)) seen front (omega (arith, is_prefix_length v bits here)) in
+          absurd (false≢true (sym (or_parts (is_prefix w v) (is_prefix v w) (or_parts _ _ free).0).1 ∙ inner))
       | inr other ↦ subst (λ (b : Bool). (if b then record { len = length v; value = i } else cell_of ws (i + 1) bits) ≡ no_cell) (sym other) rest
     ]
 
@@ -79,10 +79,10 @@ within n cell = if nat_le cell.len n then cell else no_cell
 within-none : (n : ℕ) → within n no_cell ≡ no_cell
 within-none n = elim (cases_Bool (nat_le 0 n)) [ inl h ↦ cond-true (nat_le 0 n) no_cell no_cell h | inr h ↦ cond-false (nat_le 0 n) no_cell no_cell h ]
 
-no_front : (w bits more : List Bool) (n : ℕ) → length w ≤ n → begins w (take n (bits ++ more)) ≡ false → begins w bits ≡ false
+no_front : (w bits more : List Bool) (n : ℕ) → length w ≤ n → is_prefix w (take n (bits ++ more)) ≡ false → is_prefix w bits ≡ false
 no_front w bits more n fits other =
-    elim (cases_Bool (begins w bits)) [
-      | inl here ↦ absurd (false≢true (sym other ∙ (begins-cut w bits more n fits (begins_length w bits here) ∙ here)))
+    elim (cases_Bool (is_prefix w bits)) [
+      | inl here ↦ absurd (false≢true (sym other ∙ (is_prefix-cut w bits more n fits (is_prefix_length w bits here) ∙ here)))
       | inr h ↦ h
     ]
 
@@ -93,53 +93,53 @@ cell-cut (w ∷ ws) i bits more n free short =
     let fits : length w ≤ n = leb-true (length w) n (and_parts _ _ short).0 in
     let padded : List Bool = take n (bits ++ more) in
     let word : Cell = record { len = length w; value = i } in
-    let front = begins w padded in
+    let front = is_prefix w padded in
     let later = cell_of ws (i + 1) padded in
     let few = nat_le (length w) (length bits) in
-    elim (cases_Bool (begins w (take n (bits ++ more)))) [
+    elim (cases_Bool (is_prefix w (take n (bits ++ more)))) [
       | inl here ↦
           let seen : within (length bits) (if front then word else later) ≡ within (length bits) word = ap (within (length bits)) (cond-true front word later here) in
           elim (cases_Bool (nat_le (length w) (length bits))) [
             | inl whole ↦
-                let there : begins w bits ≡ true = sym (begins-cut w bits more n fits (leb-true (length w) (length bits) whole)) ∙ here in
-                cond-true (begins w bits) word (cell_of ws (i + 1) bits) there ∙ sym (seen ∙ cond-true few word no_cell whole)
+                let there : is_prefix w bits ≡ true = sym (is_prefix-cut w bits more n fits (leb-true (length w) (length bits) whole)) ∙ here in
+                cond-true (is_prefix w bits) word (cell_of ws (i + 1) bits) there ∙ sym (seen ∙ cond-true few word no_cell whole)
             | inr longer ↦
                 let long : length bits < length w = leb-false (length w) (length bits) longer in
-                cond-false (begins w bits) word (cell_of ws (i + 1) bits) (begins_longer w bits long)
+                cond-false (is_prefix w bits) word (cell_of ws (i + 1) bits) (is_prefix_longer w bits long)
                 ∙ (none_left w ws (i + 1) bits more n (not-true _ (and_parts _ _ free).0) here long (and_parts _ _ short).1 ∙ sym (seen ∙ cond-false few word no_cell longer))
           ]
       | inr other ↦
-          cond-false (begins w bits) word (cell_of ws (i + 1) bits) (no_front w bits more n fits other)
+          cond-false (is_prefix w bits) word (cell_of ws (i + 1) bits) (no_front w bits more n fits other)
           ∙ (cell-cut ws (i + 1) bits more n (and_parts _ _ free).1 (and_parts _ _ short).1 ∙ ap (within (length bits)) (sym (cond-false front word later other)))
     ]
 
 -- ---- words as their bits and the number of these
 
-pub begins_self : (w more : List Bool) → begins w (w ++ more) ≡ true
-begins_self [] more = refl
-begins_self (true ∷ w) more = begins_self w more
-begins_self (false ∷ w) more = begins_self w more
+pub is_prefix_self : (w more : List Bool) → is_prefix w (w ++ more) ≡ true
+is_prefix_self [] more = refl
+is_prefix_self (true ∷ w) more = is_prefix_self w more
+is_prefix_self (false ∷ w) more = is_prefix_self w more
 
-begins_same : (v w more : List Bool) → length v ≡ length w → begins v (w ++ more) ≡ true → v ≡ w
-begins_same [] [] more len h = refl
-begins_same [] (c ∷ w) more len h = absurd cc
-begins_same (b ∷ v) [] more len h = absurd cc
-begins_same (true ∷ v) (true ∷ w) more len h = ap (λ (t : List Bool). true ∷ t) (begins_same v w more (omega arith) h)
-begins_same (false ∷ v) (false ∷ w) more len h = ap (λ (t : List Bool). false ∷ t) (begins_same v w more (omega arith) h)
-begins_same (true ∷ v) (false ∷ w) more len h = absurd cc
-begins_same (false ∷ v) (true ∷ w) more len h = absurd cc
+is_prefix_same : (v w more : List Bool) → length v ≡ length w → is_prefix v (w ++ more) ≡ true → v ≡ w
+is_prefix_same [] [] more len h = refl
+is_prefix_same [] (c ∷ w) more len h = absurd cc
+is_prefix_same (b ∷ v) [] more len h = absurd cc
+is_prefix_same (true ∷ v) (true ∷ w) more len h = ap (λ (t : List Bool). true ∷ t) (is_prefix_same v w more (omega arith) h)
+is_prefix_same (false ∷ v) (false ∷ w) more len h = ap (λ (t : List Bool). false ∷ t) (is_prefix_same v w more (omega arith) h)
+is_prefix_same (true ∷ v) (false ∷ w) more len h = absurd cc
+is_prefix_same (false ∷ v) (true ∷ w) more len h = absurd cc
 
 -- a number's last bits are the front of bits exactly where they spell it
-begins-field : (front q len : ℕ) (more : List Bool) → front < 2 ^ len → (q % 2 ^ len == front) ≡ begins (field front len) (field q len ++ more)
-begins-field front q len more fits =
+is_prefix-field : (front q len : ℕ) (more : List Bool) → front < 2 ^ len → (q % 2 ^ len == front) ≡ is_prefix (field front len) (field q len ++ more)
+is_prefix-field front q len more fits =
     elim (cases_Bool (q % 2 ^ len == front)) [
       | inl same ↦
           let e : field q len ≡ field front len = sym (field-mod q 0 len) ∙ (ap (λ (k : ℕ). field (q % 2 ^ k) len) (zero-add len) ∙ ap (λ (n : ℕ). field n len) (eqb-true (q % 2 ^ len) front same)) in
-          same ∙ sym (ap (λ (t : List Bool). begins (field front len) (t ++ more)) e ∙ begins_self (field front len) more)
+          same ∙ sym (ap (λ (t : List Bool). is_prefix (field front len) (t ++ more)) e ∙ is_prefix_self (field front len) more)
       | inr other ↦
-          other ∙ sym (elim (cases_Bool (begins (field front len) (field q len ++ more))) [
+          other ∙ sym (elim (cases_Bool (is_prefix (field front len) (field q len ++ more))) [
             | inl here ↦
-                let e = begins_same (field front len) (field q len) more (length-field front len ∙ sym (length-field q len)) here in
+                let e = is_prefix_same (field front len) (field q len) more (length-field front len ∙ sym (length-field q len)) here in
                 let n : q % 2 ^ len ≡ front = sym (number-field q len) ∙ (ap number (sym e) ∙ number-fits front len fits) in
                 absurd (false≢true (sym other ∙ eq-eqb (q % 2 ^ len) front n))
             | inr h ↦ h
@@ -158,38 +158,38 @@ shift-min bits s fits =
           ap (λ (k : ℕ). bits / 2 ^ k) (min-eq_right far) ∙ (div-eq_of_lt fits ∙ sym none)
     ]
 
-pub front-of-code : (bits width front len : ℕ) → len ≤ 16 → front < 2 ^ len → bits < 2 ^ 16 → len ≤ width → (bits / 2 ^ min (width - len) 16 % (1 * 2 ^ len % 2 ^ 32) == front) ≡ begins (field front len) (field bits width)
+pub front-of-code : (bits width front len : ℕ) → len ≤ 16 → front < 2 ^ len → bits < 2 ^ 16 → len ≤ width → (bits / 2 ^ min (width - len) 16 % (1 * 2 ^ len % 2 ^ 32) == front) ≡ is_prefix (field front len) (field bits width)
 front-of-code bits width front len short fits word inside =
     let one : 1 * 2 ^ len % 2 ^ 32 ≡ 2 ^ len = one_shl len 32 (omega arith) in
     let sum : len + (width - len) ≡ width = omega arith in
     let parts : field bits width ≡ field (bits / 2 ^ (width - len)) len ++ field bits (width - len) = ap (field bits) (sym sum) ∙ field-add bits len (width - len) in
     ap (λ (m : ℕ). bits / 2 ^ min (width - len) 16 % m == front) one
     ∙ (ap (λ (q : ℕ). q % 2 ^ len == front) (shift-min bits (width - len) word)
-    ∙ (begins-field front (bits / 2 ^ (width - len)) len (field bits (width - len)) fits ∙ ap (begins (field front len)) (sym parts)))
+    ∙ (is_prefix-field front (bits / 2 ^ (width - len)) len (field bits (width - len)) fits ∙ ap (is_prefix (field front len)) (sym parts)))
 
-pub no_front-of-code : (bits width front len : ℕ) → width < len → nat_le len width ≡ begins (field front len) (field bits width)
+pub no_front-of-code : (bits width front len : ℕ) → width < len → nat_le len width ≡ is_prefix (field front len) (field bits width)
 no_front-of-code bits width front len longer =
     let no : nat_le len width ≡ false = elim (cases_Bool (nat_le len width)) [ inl h ↦ absurd (omega (arith, leb-true len width h)) | inr h ↦ h ] in
-    no ∙ sym (begins_longer (field front len) (field bits width) (omega (arith, length-field front len, length-field bits width)))
+    no ∙ sym (is_prefix_longer (field front len) (field bits width) (omega (arith, length-field front len, length-field bits width)))
 
 -- the bits are the front of one of the words
-abbrev pub begins_any : ℕ → ℕ → List (ℕ × ℕ) → Bool
-begins_any front len codes = list_any (λ w. begins (field front len) w) (map code_word codes)
+abbrev pub is_prefix_any : ℕ → ℕ → List (ℕ × ℕ) → Bool
+is_prefix_any front len codes = list_any (λ w. is_prefix (field front len) w) (map code_word codes)
 
 -- ---- why no word stands at the front
 
-pub cause-cut : (ws : List (List Bool)) (bits : List Bool) → list_any (λ w. begins bits w) ws ≡ true → cause ws bits ≡ Cut
-cause-cut ws bits h = cond-true (list_any (λ w. begins bits w) ws) Cut NoCode h
+pub cause-cut : (ws : List (List Bool)) (bits : List Bool) → list_any (λ w. is_prefix bits w) ws ≡ true → cause ws bits ≡ Cut
+cause-cut ws bits h = cond-true (list_any (λ w. is_prefix bits w) ws) Cut NoCode h
 
-pub cause-none : (ws : List (List Bool)) (bits : List Bool) → list_any (λ w. begins bits w) ws ≡ false → cause ws bits ≡ NoCode
-cause-none ws bits h = cond-false (list_any (λ w. begins bits w) ws) Cut NoCode h
+pub cause-none : (ws : List (List Bool)) (bits : List Bool) → list_any (λ w. is_prefix bits w) ws ≡ false → cause ws bits ≡ NoCode
+cause-none ws bits h = cond-false (list_any (λ w. is_prefix bits w) ws) Cut NoCode h
 
 -- bits longer than all words are the front of none
-pub none_longer : (ws : List (List Bool)) (bits : List Bool) (n : ℕ) → list_all (λ w. nat_le (length w) n) ws ≡ true → n < length bits → list_any (λ w. begins bits w) ws ≡ false
+pub none_longer : (ws : List (List Bool)) (bits : List Bool) (n : ℕ) → list_all (λ w. nat_le (length w) n) ws ≡ true → n < length bits → list_any (λ w. is_prefix bits w) ws ≡ false
 none_longer [] bits n short long = refl
 none_longer (w ∷ ws) bits n short long =
     let fits : length w ≤ n = leb-true (length w) n (and_parts _ _ short).0 in
-    ap (λ (b : Bool). b || list_any (λ w. begins bits w) ws) (begins_longer bits w (omega arith)) ∙ none_longer ws bits n (and_parts _ _ short).1 long
+    ap (λ (b : Bool). b || list_any (λ w. is_prefix bits w) ws) (is_prefix_longer bits w (omega arith)) ∙ none_longer ws bits n (and_parts _ _ short).1 long
 
 -- ---- the word of the bits, by that of the next 32
 
@@ -232,7 +232,7 @@ err_is same is = cc
 
 -- ---- the word of some rows
 
-abbrev word_of_rows : {E : Type 0} → List (Row E) → List Bool → Option (Row E) → Step E
+abbrev word_of_rows : {E : Type 0} → List (Row E) → List Bool → Option (Row E) → Standing E
 word_of_rows rows bits row = word_at rows bits row
 
 -- the row whose code stands at the front
@@ -244,33 +244,33 @@ pub record IsFound {E : Type 0} (rows : List (Row E)) (bits : List Bool) (cell :
   pub fits : cell.len ≤ length bits
   pub is : read rows bits ≡ whole_word row bits
 
-find_some : {E : Type 0} (rows : List (Row E)) (i : ℕ) (bits : List Bool) → (cell_of (codes_of_rows rows) i bits).len ≢ 0 → (row : Row E) × (k : ℕ) × (find (λ row. begins row.code bits) rows ≡ Some row) × ((d : Row E) → get_or rows k d ≡ row) × (k < length rows) × ((cell_of (codes_of_rows rows) i bits).value ≡ i + k) × (length row.code ≡ (cell_of (codes_of_rows rows) i bits).len) × (begins row.code bits ≡ true)
+find_some : {E : Type 0} (rows : List (Row E)) (i : ℕ) (bits : List Bool) → (cell_of (codes_of_rows rows) i bits).len ≢ 0 → (row : Row E) × (k : ℕ) × (find (λ row. is_prefix row.code bits) rows ≡ Some row) × ((d : Row E) → get_or rows k d ≡ row) × (k < length rows) × ((cell_of (codes_of_rows rows) i bits).value ≡ i + k) × (length row.code ≡ (cell_of (codes_of_rows rows) i bits).len) × (is_prefix row.code bits ≡ true)
 find_some [] i bits some = absurd (some refl)
 find_some (row ∷ rows) i bits some =
     let word : Cell = record { len = length row.code; value = i } in
     let later = cell_of (codes_of_rows rows) (i + 1) bits in
-    let front = begins row.code bits in
-    elim (cases_Bool (begins row.code bits)) [
+    let front = is_prefix row.code bits in
+    elim (cases_Bool (is_prefix row.code bits)) [
       | inl here ↦
           let is : (if front then word else later) ≡ word = cond-true front word later here in
-          (row, 0, cond-true front (Some row) (find (λ row. begins row.code bits) rows) here, λ d. refl, omega arith, ap (λ (c : Cell). c.value) is ∙ omega arith, sym (ap (λ (c : Cell). c.len) is), here)
+          (row, 0, cond-true front (Some row) (find (λ row. is_prefix row.code bits) rows) here, λ d. refl, omega arith, ap (λ (c : Cell). c.value) is ∙ omega arith, sym (ap (λ (c : Cell). c.len) is), here)
       | inr other ↦
           let is : (if front then word else later) ≡ later = cond-false front word later other in
           let rest = find_some rows (i + 1) bits (λ none. some (ap (λ (c : Cell). c.len) is ∙ none)) in
-          (rest.0, suc rest.1, cond-false front (Some row) (find (λ row. begins row.code bits) rows) other ∙ rest.2, rest.3, omega (arith, rest.4), ap (λ (c : Cell). c.value) is ∙ (rest.5 ∙ omega arith), rest.6 ∙ sym (ap (λ (c : Cell). c.len) is), rest.7)
+          (rest.0, suc rest.1, cond-false front (Some row) (find (λ row. is_prefix row.code bits) rows) other ∙ rest.2, rest.3, omega (arith, rest.4), ap (λ (c : Cell). c.value) is ∙ (rest.5 ∙ omega arith), rest.6 ∙ sym (ap (λ (c : Cell). c.len) is), rest.7)
     ]
 
-find_none : {E : Type 0} (rows : List (Row E)) (i : ℕ) (bits : List Bool) → list_all (λ w. nat_lt 0 (length w)) (codes_of_rows rows) ≡ true → (cell_of (codes_of_rows rows) i bits).len ≡ 0 → find (λ row. begins row.code bits) rows ≡ None
+find_none : {E : Type 0} (rows : List (Row E)) (i : ℕ) (bits : List Bool) → list_all (λ w. nat_lt 0 (length w)) (codes_of_rows rows) ≡ true → (cell_of (codes_of_rows rows) i bits).len ≡ 0 → find (λ row. is_prefix row.code bits) rows ≡ None
 find_none [] i bits some none = refl
 find_none (row ∷ rows) i bits some none =
     let word : Cell = record { len = length row.code; value = i } in
     let later = cell_of (codes_of_rows rows) (i + 1) bits in
-    let front = begins row.code bits in
+    let front = is_prefix row.code bits in
     let long : 0 < length row.code = ltb-true 0 (length row.code) (and_parts _ _ some).0 in
-    elim (cases_Bool (begins row.code bits)) [
+    elim (cases_Bool (is_prefix row.code bits)) [
       | inl here ↦ absurd (omega (arith, ap (λ (c : Cell). c.len) (cond-true front word later here), none, long))
       | inr other ↦
-          cond-false front (Some row) (find (λ row. begins row.code bits) rows) other
+          cond-false front (Some row) (find (λ row. is_prefix row.code bits) rows) other
           ∙ find_none rows (i + 1) bits (and_parts _ _ some).1 (sym (ap (λ (c : Cell). c.len) (cond-false front word later other)) ∙ none)
     ]
 
@@ -310,7 +310,7 @@ read-found rows ws bits cell codes is =
       at = λ d. ap (λ (k : ℕ). get_or rows k d) value ∙ found.3 d;
       inside = omega (arith, value, found.4);
       long = long;
-      fits = omega (arith, long, begins_length found.0.code bits found.7);
+      fits = omega (arith, long, is_prefix_length found.0.code bits found.7);
       is = ap (word_of_rows rows bits) found.2;
     }
 

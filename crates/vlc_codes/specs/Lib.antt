@@ -1,3 +1,4 @@
 pub mod Lookup
 pub mod Inner
 pub mod Rows
+pub mod WholeWords

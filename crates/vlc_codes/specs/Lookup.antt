@@ -1,6 +1,6 @@
 -- The lists of words, and which word of a list stands at the front of some bits.
 use Rattle.std.specs.Prelude.{ℕ, ◌+◌, Bool, List, [], ◌∷◌, length, map, if◌then◌else◌}
-use Rattle.pel_model.specs.Codes.{begins, mtype_table, mvd_table, cbp_table}
+use Rattle.pel_model.specs.Codes.{is_prefix, mtype_table, mvd_table, cbp_table}
 use Rattle.pel_model.specs.Grammar as grammar
 use Rattle.pel_model.specs.Grammar.{mba_rows, table_rows, first_rows, later_rows}
 use Rattle.pel_model.specs.Records.{Across}
@@ -28,4 +28,4 @@ no_cell = record { len = 0; value = 0 }
 -- length and place, from i on, of the first word that stands at the front of the bits
 abbrev pub cell_of : List (List Bool) → ℕ → List Bool → Cell
 cell_of [] i bits = no_cell
-cell_of (w ∷ ws) i bits = if begins w bits then record { len = length w; value = i } else cell_of ws (i + 1) bits
+cell_of (w ∷ ws) i bits = if is_prefix w bits then record { len = length w; value = i } else cell_of ws (i + 1) bits

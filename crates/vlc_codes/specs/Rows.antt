@@ -7,7 +7,7 @@ use Rattle.vlc_codes.specs.declared.readers.CoefRow.{CoefRow}
 use Rattle.vlc_codes.specs.declared.readers.CoefRow.TheVariants.{Pair, Escape, Eob}
 
 abbrev pub mba_element : MbaRow → Element
-mba_element (mba_row.Step n) = Mba n
+mba_element (mba_row.Difference n) = Mba n
 mba_element mba_row.Stuffing = Stuffing
 
 abbrev pub coefficient_element : CoefRow → Element

@@ -5,7 +5,7 @@ ghost use Rattle.std.specs.Prelude.{◌≡◌, ◌^◌, ◌<◌, ◌≤◌, ◌+
 ghost use Rattle.std.specs.List.{list_any};
 ghost use Rattle.pel_bits.specs.Bits.{field, number};
 ghost use Rattle.pel_bits.specs.Reading.{zeros};
-ghost use Rattle.pel_model.specs.Codes.{begins};
+ghost use Rattle.pel_model.specs.Codes.{is_prefix};
 ghost use Rattle.pel_model.specs.Walk.{cause};
 ghost use Rattle.vlc_codes.specs.Lookup.{words, cell_of};
 ghost use Rattle.vlc_codes.specs.Inner.{cell_in, code_word, place_of};
@@ -106,7 +106,7 @@ fn why_none(table: Table, r: &Reader<'_>) -> Why
 fn begins_a_word(table: Table, front: u32, len: u32) -> bool
     requires short { len ≤ 16 }
     requires fits { front < 2 ^ len }
-    ensures { result ≡ list_any (λ w. begins (field front len) w) (words table) }
+    ensures { result ≡ list_any (λ w. is_prefix (field front len) w) (words table) }
 {
     match table {
         Table::Mba => begins_a_code(&codes::MBA, front, len),
@@ -122,10 +122,10 @@ fn begins_a_word(table: Table, front: u32, len: u32) -> bool
 fn begins_a_code(codes: &[(u16, u8)], front: u32, len: u32) -> bool
     requires short { len ≤ 16 }
     requires fits { front < 2 ^ len }
-    ensures { result ≡ list_any (λ w. begins (field front len) w) (map code_word codes.now) }
+    ensures { result ≡ list_any (λ w. is_prefix (field front len) w) (map code_word codes.now) }
 {
     for (bits, width) in codes {
-        if is_front(u32::from(*bits), u32::from(*width), front, len) {
+        if begins_code(u32::from(*bits), u32::from(*width), front, len) {
             return true;
         }
     }
@@ -133,11 +133,11 @@ fn begins_a_code(codes: &[(u16, u8)], front: u32, len: u32) -> bool
 }
 
 // The same for one word.
-fn is_front(bits: u32, width: u32, front: u32, len: u32) -> bool
+fn begins_code(bits: u32, width: u32, front: u32, len: u32) -> bool
     requires short { len ≤ 16 }
     requires fits { front < 2 ^ len }
     requires word { bits < 2 ^ 16 }
-    ensures { result ≡ begins (field front len) (field bits width) }
+    ensures { result ≡ is_prefix (field front len) (field bits width) }
 {
     len <= width && (bits >> (width - len).min(16)) % (1 << len) == front
 }

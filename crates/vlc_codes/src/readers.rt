@@ -23,7 +23,7 @@ use pel_model::{MbKind, Why};
 #[derive(Clone, Copy, Debug, PartialEq, Eq)]
 pub enum MbaRow {
     /// The difference to the address before, from 1 to 33.
-    Step(u8),
+    Difference(u8),
     Stuffing,
 }
 
@@ -66,7 +66,7 @@ pub fn mba(r: &mut Reader<'_>) -> Result<MbaRow, Why>
 {
     let place = take_word(Table::Mba, r)?;
     if place < 33 {
-        Ok(MbaRow::Step(place as u8 + 1))
+        Ok(MbaRow::Difference(place as u8 + 1))
     } else {
         Ok(MbaRow::Stuffing)
     }

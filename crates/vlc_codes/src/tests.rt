@@ -255,7 +255,7 @@ fn each_word_of_mba(rt: HostRuntime) {
             assert_eq!(rt; mba(&mut reader(&octets, front)), Err(Why::Cut));
         }
         let mut r = reader(&octets, 64);
-        assert_eq!(rt; mba(&mut r), Ok(MbaRow::Step(*step)));
+        assert_eq!(rt; mba(&mut r), Ok(MbaRow::Difference(*step)));
         assert_eq!(rt; r.place() as usize, word.len());
     }
     let stuffing = octets("00000001111");

@@ -1,7 +1,7 @@
 use Rattle.std.proofs.Common.{◌≡◌, ℕ, ◌<◌, ◌≤◌, Bool, List, ◌∷◌, [], ◌++◌, length, Ok, refl, sym, ◌∙◌, ap, subst, arith, length-append}
 use Rattle.std.proofs.lemmas.Result.{err_from_is_err_and}
 use Rattle.pel_model.specs.Walk.{Good, Bad, after, Goes, read}
-use Rattle.pel_model.specs.Grammar.{Element, Gbsc, Mba, mba_rows, picture}
+use Rattle.pel_model.specs.Grammar.{Element, Gbsc, Mba, mba_rows, next_within_limit}
 use Rattle.pel_model.proofs.Walks.{goes-append, after-append}
 use Rattle.h261_mb.specs.State.{IsRead}
 use Rattle.h261_pic.specs.declared.coming.Coming.{Coming}
@@ -46,7 +46,7 @@ loop-marks-smaller-in-Stuffing c =
     let format = c.args.format in
     let s = c.loop-marks.invariant.read here.0 here.1 here.2 here.3 in
     let there = after here.1 s.es in
-    let came = subst (λ (x : Coming). Comes (picture format there c.loop-marks.r) (Ok x) c.loop-marks.r c.coming_within.new.r) c.in-Stuffing.is (c.in_ok-coming_within.ensures there s.stands.due s.begun_is s.fits) in
+    let came = subst (λ (x : Coming). Comes (next_within_limit format there c.loop-marks.r) (Ok x) c.loop-marks.r c.coming_within.new.r) c.in-Stuffing.is (c.in_ok-coming_within.ensures there s.stands.due s.begun_is s.fits) in
     let some = stuffing-on format there c.loop-marks.r came.0 came.1 s.stands.due in
     let place = ap (λ (x : List Bool × ℕ). x.1) came.2 in
     fewer format there c.loop-marks.r c.coming_within.new.r (_ ∷ []) (came.0, came.1, came.2) (omega (arith, some, place))
@@ -59,7 +59,7 @@ loop-marks-preserved-in-Stuffing c = record {
       let header = c.in_ok-header.header in
       let s = c.loop-marks.invariant.read bits before from comes in
       let there = after before s.es in
-      let came = subst (λ (x : Coming). Comes (picture format there c.loop-marks.r) (Ok x) c.loop-marks.r c.coming_within.new.r) c.in-Stuffing.is (c.in_ok-coming_within.ensures there s.stands.due s.begun_is s.fits) in
+      let came = subst (λ (x : Coming). Comes (next_within_limit format there c.loop-marks.r) (Ok x) c.loop-marks.r c.coming_within.new.r) c.in-Stuffing.is (c.in_ok-coming_within.ensures there s.stands.due s.begun_is s.fits) in
       subst (GroupSoFar format bits c.args.begun before from header.number header.quant c.loop-marks.state c.loop-marks.marks.items) (sym came.2)
       (stuffing-read format bits c.args.begun before from c.loop-marks.r header.number header.quant c.loop-marks.state c.loop-marks.marks.items came.0 s came.1);
 }
@@ -75,13 +75,13 @@ returns-in_err-macroblock_within-in-Macroblock-clause-read c =
     let header = c.in_ok-header.header in
     let s = c.loop-marks.invariant.read bits before from comes in
     let there = after before s.es in
-    let came = subst (λ (x : Coming). Comes (picture format there c.loop-marks.r) (Ok x) c.loop-marks.r c.coming_within.new.r) c.in-Macroblock.is (c.in_ok-coming_within.ensures there s.stands.due s.begun_is s.fits) in
+    let came = subst (λ (x : Coming). Comes (next_within_limit format there c.loop-marks.r) (Ok x) c.loop-marks.r c.coming_within.new.r) c.in-Macroblock.is (c.in_ok-coming_within.ensures there s.stands.due s.begun_is s.fits) in
     let ends = group-ends format bits c.args.begun c.last_end-end.result before from header.number header.quant c.loop-marks.state c.loop-marks.marks.items c.loop-marks.r s c.last_end-end.ensures in
     let word = subst (λ (x : List Bool × ℕ). read mba_rows x.0 ≡ Good (Mba came.0) came.1) (sym came.3) came.2 in
     let place = subst (λ (x : List Bool × ℕ). x.1 ≤ c.last_end-end.result) (sym came.3) ends.1 in
     let bad = c.in_err-macroblock_within-in-Macroblock.ensures.walk there came.0 came.1 s.stands word ends.0 place in
-    let goes = subst (λ (x : List Bool × ℕ). Goes (picture format) there x bad.0 bad.1) came.3 bad.2 in
-    (s.es ++ bad.0, bad.1, goes-append (picture format) before from c.loop-marks.r bad.1 s.es bad.0 s.walk goes, subst (λ (b : List Element). picture format b bad.1 ≡ Bad c.in_err-macroblock_within-in-Macroblock.field-0.0.why) (sym (after-append before s.es bad.0)) bad.3, bad.4))
+    let goes = subst (λ (x : List Bool × ℕ). Goes (next_within_limit format) there x bad.0 bad.1) came.3 bad.2 in
+    (s.es ++ bad.0, bad.1, goes-append (next_within_limit format) before from c.loop-marks.r bad.1 s.es bad.0 s.walk goes, subst (λ (b : List Element). next_within_limit format b bad.1 ≡ Bad c.in_err-macroblock_within-in-Macroblock.field-0.0.why) (sym (after-append before s.es bad.0)) bad.3, bad.4))
 
 -- the group with the macroblock
 joins : (c : goal.In_ok-macroblock_within-in-Macroblock) (bits : List Bool) (before : List Element) (from : List Bool × ℕ) → GroupComes c.args.format bits c.args.last c.args.begun before from c.args.r.now → GroupSoFar c.args.format bits c.args.begun before from c.in_ok-header.header.number c.in_ok-header.header.quant c.macroblock_within.new.state (c.loop-marks.marks.items ++ c.in_ok-macroblock_within-in-Macroblock.field-0 ∷ []) c.macroblock_within.new.r × (length c.macroblock_within.new.r.0 < length c.loop-marks.r.0)
@@ -90,12 +90,12 @@ joins c bits before from comes =
     let header = c.in_ok-header.header in
     let s = c.loop-marks.invariant.read bits before from comes in
     let there = after before s.es in
-    let came = subst (λ (x : Coming). Comes (picture format there c.loop-marks.r) (Ok x) c.loop-marks.r c.coming_within.new.r) c.in-Macroblock.is (c.in_ok-coming_within.ensures there s.stands.due s.begun_is s.fits) in
+    let came = subst (λ (x : Coming). Comes (next_within_limit format there c.loop-marks.r) (Ok x) c.loop-marks.r c.coming_within.new.r) c.in-Macroblock.is (c.in_ok-coming_within.ensures there s.stands.due s.begun_is s.fits) in
     let ends = group-ends format bits c.args.begun c.last_end-end.result before from header.number header.quant c.loop-marks.state c.loop-marks.marks.items c.loop-marks.r s c.last_end-end.ensures in
     let word = subst (λ (x : List Bool × ℕ). read mba_rows x.0 ≡ Good (Mba came.0) came.1) (sym came.3) came.2 in
     let place = subst (λ (x : List Bool × ℕ). x.1 ≤ c.last_end-end.result) (sym came.3) ends.1 in
     let ok = c.in_ok-macroblock_within-in-Macroblock.ensures.walk there came.0 came.1 s.stands word ends.0 place in
-    let goes = subst (λ (x : List Bool × ℕ). Goes (picture format) there x ok.0 c.macroblock_within.new.r) came.3 ok.1 in
+    let goes = subst (λ (x : List Bool × ℕ). Goes (next_within_limit format) there x ok.0 c.macroblock_within.new.r) came.3 ok.1 in
     let is = subst (λ (x : List Bool × ℕ). IsRead header.number x.1 there c.macroblock_within.new.state c.in_ok-macroblock_within-in-Macroblock.field-0 ok.0 c.macroblock_within.new.r) came.3 ok.2 in
     (macroblock-read format bits c.args.begun before from c.loop-marks.r c.macroblock_within.new.r header.number header.quant c.loop-marks.state c.macroblock_within.new.state c.loop-marks.marks.items c.in_ok-macroblock_within-in-Macroblock.field-0 ok.0 s comes.place goes is, fewer format there c.loop-marks.r c.macroblock_within.new.r ok.0 goes (macroblock-on format there c.loop-marks.r c.macroblock_within.new.r header.number c.macroblock_within.new.state c.in_ok-macroblock_within-in-Macroblock.field-0 ok.0 goes is))
 
@@ -124,7 +124,7 @@ returns-in-Group-clause-read c = λ bits before from comes.
     let format = c.args.format in
     let s = c.loop-marks.invariant.read bits before from comes in
     let there = after before s.es in
-    let came = subst (λ (x : Coming). Comes (picture format there c.loop-marks.r) (Ok x) c.loop-marks.r c.coming_within.new.r) c.in-Group.is (c.in_ok-coming_within.ensures there s.stands.due s.begun_is s.fits) in
+    let came = subst (λ (x : Coming). Comes (next_within_limit format there c.loop-marks.r) (Ok x) c.loop-marks.r c.coming_within.new.r) c.in-Group.is (c.in_ok-coming_within.ensures there s.stands.due s.begun_is s.fits) in
     record {
       macroblocks = s.macroblocks;
       es = s.es;
@@ -144,7 +144,7 @@ returns-in-End-clause-read c = λ bits before from comes.
     let format = c.args.format in
     let s = c.loop-marks.invariant.read bits before from comes in
     let there = after before s.es in
-    let came = subst (λ (x : Coming). Comes (picture format there c.loop-marks.r) (Ok x) c.loop-marks.r c.coming_within.new.r) c.in-End.is (c.in_ok-coming_within.ensures there s.stands.due s.begun_is s.fits) in
+    let came = subst (λ (x : Coming). Comes (next_within_limit format there c.loop-marks.r) (Ok x) c.loop-marks.r c.coming_within.new.r) c.in-End.is (c.in_ok-coming_within.ensures there s.stands.due s.begun_is s.fits) in
     record {
       macroblocks = s.macroblocks;
       es = s.es;

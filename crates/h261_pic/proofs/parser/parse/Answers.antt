@@ -6,13 +6,13 @@ use Rattle.pel_model.specs.declared.Why.{Why}
 use Rattle.pel_model.specs.Records.{Picture}
 use Rattle.pel_model.specs.Accepts.{Accepts}
 use Rattle.pel_model.specs.Walk.{FirstFault}
-use Rattle.pel_model.specs.Grammar.{picture}
+use Rattle.pel_model.specs.Grammar.{next_within_limit}
 use Rattle.picture_laws.proofs.Answers.{never-both, one-record, one-fault}
 use Rattle.h261_pic.specs.Coded.{Coding, coding}
 use Rattle.h261_pic.proofs.parser.parse.Goals as goal
 
 -- bits with a first fault are not accepted
-refused_only : {X : Type 0} (format : Format) (bits : List Bool) (r : Result X Fault) (p : Picture) → is_err r ≡ true → IfErr r (λ f. FirstFault (picture format) bits f.place f.why) → Accepts format bits p → ⊥
+refused_only : {X : Type 0} (format : Format) (bits : List Bool) (r : Result X Fault) (p : Picture) → is_err r ≡ true → IfErr r (λ f. FirstFault (next_within_limit format) bits f.place f.why) → Accepts format bits p → ⊥
 refused_only format bits (Ok x) p bad fault accepts = absurd cc
 refused_only format bits (Err f) p bad fault accepts = never-both format bits p f.place f.why accepts fault
 
@@ -22,14 +22,14 @@ accepted_only format bits (Ok x) into p good read accepts = (refl, read.2 ∙ ap
 accepted_only format bits (Err f) into p good read accepts = absurd cc
 
 -- a first fault is the one that is told
-faults_only : {X : Type 0} (format : Format) (bits : List Bool) (r : Result X Fault) (place : ℕ) (why : Why) → is_err r ≡ true → IfErr r (λ f. FirstFault (picture format) bits f.place f.why) → FirstFault (picture format) bits place why → r ≡ Err (record { place = place; why = why })
+faults_only : {X : Type 0} (format : Format) (bits : List Bool) (r : Result X Fault) (place : ℕ) (why : Why) → is_err r ≡ true → IfErr r (λ f. FirstFault (next_within_limit format) bits f.place f.why) → FirstFault (next_within_limit format) bits place why → r ≡ Err (record { place = place; why = why })
 faults_only format bits (Ok x) place why bad fault other = absurd cc
 faults_only {X} format bits (Err f) place why bad fault other =
     let same = one-fault format bits f.place place f.why why fault other in
     let told : ℕ → Why → Result X Fault = λ p w. Err (record { place = p; why = w }) in
     ap₂ told same.0 same.1
 
-no_faults : {X : Type 0} (format : Format) (bits : List Bool) (r : Result X Fault) (into : Coding) (place : ℕ) (why : Why) → is_err r ≡ false → IfOk r (λ _. (q : Picture) × Accepts format bits q × (into ≡ coding format q)) → FirstFault (picture format) bits place why → ⊥
+no_faults : {X : Type 0} (format : Format) (bits : List Bool) (r : Result X Fault) (into : Coding) (place : ℕ) (why : Why) → is_err r ≡ false → IfOk r (λ _. (q : Picture) × Accepts format bits q × (into ≡ coding format q)) → FirstFault (next_within_limit format) bits place why → ⊥
 no_faults format bits (Ok x) into place why good read fault = never-both format bits read.0 place why read.1 fault
 no_faults format bits (Err f) into place why good read fault = absurd cc
 

@@ -4,7 +4,7 @@ use Rattle.std.specs.List.{All}
 use Rattle.pel_model.specs.declared.Mark.{Mark}
 use Rattle.pel_model.specs.Valid.{group_count, limit}
 use Rattle.pel_model.specs.Walk.{after, Goes}
-use Rattle.pel_model.specs.Grammar.{picture}
+use Rattle.pel_model.specs.Grammar.{next_within_limit}
 use Rattle.h261_pic.specs.Coded.{Coding, coding, grown, next_number}
 use Rattle.h261_pic.proofs.LeftOutGroups.{numbered}
 use Rattle.h261_pic.proofs.PictureReading.{header-read, PictureSoFar, first-groups, group-comes, fails-later, stands-next, MayAdd, may-add, group-added, all-read, begun-text, at-start, groups-within}
@@ -18,7 +18,7 @@ returns-in_err-another-clause-refused c =
     let bits = c.args.bits.now in
     let begins = at-start bits c.slice.result c.len.result c.new-r.result c.new-r.ensures c.slice.ensures.value c.len.ensures in
     let read = c.in_ok-picture_header_within.ensures.walk in
-    let walk = subst (λ (x : List Bool × ℕ). Goes (picture format) [] x read.0 c.picture_header_within.new.r) begins read.1 in
+    let walk = subst (λ (x : List Bool × ℕ). Goes (next_within_limit format) [] x read.0 c.picture_header_within.new.r) begins read.1 in
     let h = header-read format bits c.picture_header_within.new.r c.in_ok-picture_header_within.field-0 read.2.0 read.2.1 read.0 walk read.2.2 in
     let bad = c.in_err-another.ensures (after [] h.es) h.due h.groups_are h.fits in
     rw (p.1, p.2) (h.es, c.picture_header_within.new.r, h.walk, bad.0, bad.1)
@@ -29,7 +29,7 @@ loop-another-init c =
     let bits = c.args.bits.now in
     let begins = at-start bits c.slice.result c.len.result c.new-r.result c.new-r.ensures c.slice.ensures.value c.len.ensures in
     let read = c.in_ok-picture_header_within.ensures.walk in
-    let walk = subst (λ (x : List Bool × ℕ). Goes (picture format) [] x read.0 c.picture_header_within.new.r) begins read.1 in
+    let walk = subst (λ (x : List Bool × ℕ). Goes (next_within_limit format) [] x read.0 c.picture_header_within.new.r) begins read.1 in
     let tr = c.in_ok-picture_header_within.field-0 in
     let h = header-read format bits c.picture_header_within.new.r tr read.2.0 read.2.1 read.0 walk read.2.2 in
     first-groups format bits tr c.picture_header_within.new.r c.group_follows.new.r c.in_ok-another.another c.start.new.self h

@@ -1,7 +1,7 @@
 use Rattle.std.proofs.Common.{◌≡◌, ◌≢◌, ◌≤◌, ℕ, ◌<◌, [], length, get_or, ap, refl, sym, ◌∙◌, subst, arith}
 use Rattle.std.proofs.lemmas.Result.{err_from_is_err_and}
 use Rattle.pel_model.specs.Codes.{end_of_block_word}
-use Rattle.pel_model.specs.Walk.{Step, Row, TakesWord, whole_word}
+use Rattle.pel_model.specs.Walk.{Standing, Row, TakesWord, whole_word}
 use Rattle.pel_model.specs.Grammar.{Element, Eob, word_row}
 use Rattle.pel_bits.specs.Reading.{skipped}
 use Rattle.vlc_codes.specs.Lookup.{words}
@@ -49,7 +49,7 @@ returns-then-cell-lt63 c =
     let step = here.is ∙ ap (λ (row : Row Element). whole_word row bits) row in
     let long = place_length ws bits c.in_ok-cell.cell found ∙ sym c.from-len.ensures in
     let took = rw c.from.ensures at c.pair.ensures in
-    subst (λ (step : Step Element). TakesWord coefficient_element step c.pair.result c.args.r.now c.pair.new.r) (sym step) (took (get_or ws place []) long)
+    subst (λ (step : Standing Element). TakesWord coefficient_element step c.pair.result c.args.r.now c.pair.new.r) (sym step) (took (get_or ws place []) long)
 
 pub returns-then-cell-eq63 : goal.returns-then-cell-eq63
 returns-then-cell-eq63 c =
@@ -58,7 +58,7 @@ returns-then-cell-eq63 c =
     let here = read-found (rows_at c.args.first) (words (table_at c.args.first)) bits c.in_ok-cell.cell (coefficient_codes c.args.first) found in
     let row = sym (here.at here.row) ∙ row-escape c.args.first c.in_ok-cell.cell.value here.row c.if-cell-eq63.true in
     let step = here.is ∙ ap (λ (row : Row Element). whole_word row bits) row in
-    subst (λ (step : Step Element). TakesWord coefficient_element step c.escape.result c.args.r.now c.escape.new.r) (sym step) c.escape.ensures
+    subst (λ (step : Standing Element). TakesWord coefficient_element step c.escape.result c.args.r.now c.escape.new.r) (sym step) c.escape.ensures
 
 pub returns-else-cell-eq63 : goal.returns-else-cell-eq63
 returns-else-cell-eq63 c =

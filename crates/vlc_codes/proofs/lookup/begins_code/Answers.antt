@@ -1,5 +1,5 @@
 use Rattle.vlc_codes.proofs.WordLaws.{front-of-code, no_front-of-code}
-use Rattle.vlc_codes.proofs.lookup.is_front.Goals as goal
+use Rattle.vlc_codes.proofs.lookup.begins_code.Goals as goal
 
 pub returns-then-len-width : goal.returns-then-len-width
 returns-then-len-width c =
