@@ -1,6 +1,6 @@
 -- Where a sample of a place stands in the CIF picture: in which macroblock, group and block.
-use Rattle.std.proofs.Common.{◌≡◌, ℕ, ◌+◌, ◌*◌, ◌/◌, ◌%◌, ◌<◌, ◌≤◌, ◌==◌, ◌&&◌, ◌||◌, Bool, true, refl, sym, ◌∙◌, ap, ap₂, nat_lt, arith}
-use Rattle.std.proofs.lemmas.Bool.Decides.{nat_tests}
+use Rattle.std.proofs.Common.{◌≡◌, ℕ, zero, suc, ◌+◌, ◌*◌, ◌/◌, ◌%◌, ◌<◌, ◌≤◌, ◌==◌, ◌&&◌, ◌||◌, Bool, true, refl, sym, ◌∙◌, ap, ap₂, nat_lt, arith}
+use Rattle.std.proofs.lemmas.Bool.Decides.{Decides-and, Decides-ltb}
 use Rattle.pel_model.specs.declared.Format.{Format}
 use Rattle.pel_model.specs.declared.Format.TheVariants.{Qcif, Cif}
 use Rattle.pel_model.specs.declared.Quad.{Quad}
@@ -33,10 +33,12 @@ below-le Four = omega arith
 
 pub inside-is : (format : Format) (plane : Plane) (x y : ℕ) → is_inside format plane x y ≡ true
     → (ratio plane * x < side format Across) × (ratio plane * y < side format Down)
-inside-is format plane x y test = search (nat_tests)
+inside-is format plane x y test =
+    (Decides-and _ _ (Decides-ltb (ratio plane * x) (side format Across)) (Decides-ltb (ratio plane * y) (side format Down))).0 test
 
-is-inside : (format : Format) (plane : Plane) (x y : ℕ) → ratio plane * x < side format Across → ratio plane * y < side format Down → is_inside format plane x y ≡ true
-is-inside format plane x y across down = ?
+pub is-inside : (format : Format) (plane : Plane) (x y : ℕ) → ratio plane * x < side format Across → ratio plane * y < side format Down → is_inside format plane x y ≡ true
+is-inside format plane x y across down =
+    (Decides-and _ _ (Decides-ltb (ratio plane * x) (side format Across)) (Decides-ltb (ratio plane * y) (side format Down))).1 (across, down)
 
 shifted-across : (plane : Plane) (x r : ℕ) → r ≤ 1 → ratio plane * x < 176 → ratio plane * (x + 176 / ratio plane * r) < 352
 shifted-across Luminance x r small less = omega arith
@@ -87,11 +89,24 @@ corner-down column row across down = omega arith
 
 -- a group of a QCIF picture stands in the place under its number there
 stands-third : (place : Quad) (third : ℕ) → third < 3 → stands_in place (number_in place (2 * third + 1)) ≡ true
-stands-third place third less = ?
+stands-third One zero less = refl
+stands-third Two zero less = refl
+stands-third Three zero less = refl
+stands-third Four zero less = refl
+stands-third One (suc zero) less = refl
+stands-third Two (suc zero) less = refl
+stands-third Three (suc zero) less = refl
+stands-third Four (suc zero) less = refl
+stands-third One (suc (suc zero)) less = refl
+stands-third Two (suc (suc zero)) less = refl
+stands-third Three (suc (suc zero)) less = refl
+stands-third Four (suc (suc zero)) less = refl
+stands-third place (suc (suc (suc n))) less = absurd (omega arith)
 
 pub stands-shifted : (place : Quad) (column row : ℕ) → column < 11 → row < 9 → stands_in place (number_in place (group_of column row)) ≡ true
 stands-shifted place column row across down =
-    ap (λ n. stands_in place (number_in place n)) (omega arith) ∙ stands-third place (row / 3) (omega arith)
+    let number_is : group_of column row ≡ 2 * (row / 3) + 1 = omega arith in
+    ap (λ (n : ℕ). stands_in place (number_in place n)) number_is ∙ stands-third place (row / 3) (omega arith)
 
 -- ---- blocks
 

@@ -2,9 +2,8 @@
 use Rattle.std.specs.Prelude.{ℕ, suc, ◌+◌, ◌*◌, ◌/◌, ◌%◌, ◌==◌, min, ℤ, pos, negsuc, ◌+ℤ◌, List, [], ◌∷◌, slice_index_or, Option, None, Some, if◌then◌else◌}
 use Rattle.pel_model.specs.declared.Format.{Format}
 use Rattle.pel_model.specs.Frames.{Plane, Luminance, Cb, Cr, Frame, ratio, cut}
-use Rattle.pel_model.specs.Marks.{quant_behind}
 use Rattle.pel_model.specs.Prediction.{predicted}
-use Rattle.pel_model.specs.Records.{Block, Macroblock, Group, Picture}
+use Rattle.pel_model.specs.Records.{Block, Macroblock, Group, Picture, quantiser_after}
 use Rattle.pel_model.specs.Residual.{residual}
 use Rattle.pel_model.specs.Transform.{Transform}
 
@@ -29,8 +28,8 @@ pub record Quantised : Type 0 where
 abbrev pub at_address : (address quant : ℕ) → List Macroblock → Option Quantised
 at_address address quant [] = None
 at_address address quant (m ∷ ms) =
-    if m.address == address then Some (record { macroblock = m; quant = quant_behind quant m.mquant })
-    else at_address address (quant_behind quant m.mquant) ms
+    if m.address == address then Some (record { macroblock = m; quant = quantiser_after quant m.mquant })
+    else at_address address (quantiser_after quant m.mquant) ms
 
 abbrev pub in_groups : (number address : ℕ) → List Group → Option Quantised
 in_groups number address [] = None
