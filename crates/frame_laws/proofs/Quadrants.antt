@@ -1,9 +1,10 @@
 -- The law of the quadrant, sample by sample.
-use Rattle.std.proofs.Common.{◌≡◌, ◌⊎◌, ℕ, ◌+◌, ◌*◌, ◌/◌, ◌%◌, ◌<◌, Bool, true, false, if◌then◌else◌, ℤ, pos, ◌+ℤ◌, List, Option, None, Some, slice_index_or, refl, sym, ◌∙◌, ap, ap₂, subst, arith}
+use Rattle.std.proofs.Common.{◌≡◌, ◌⊎◌, ℕ, ◌+◌, ◌*◌, ◌/◌, ◌%◌, ◌<◌, Bool, true, false, if◌then◌else◌, ℤ, pos, ◌+ℤ◌, List, Option, None, Some, slice_index_or, MatchBool, inl, inr, refl, sym, ◌∙◌, ap, ap₂, subst, arith}
 use Rattle.std.proofs.Math.Path.{fun_ext}
 use Rattle.pel_model.specs.declared.Format.{Format}
 use Rattle.pel_model.specs.declared.Format.TheVariants.{Qcif, Cif}
 use Rattle.pel_model.specs.declared.Quad.{Quad}
+use Rattle.pel_model.specs.Codes.{has_vector}
 use Rattle.pel_model.specs.Composed.{groups_in}
 use Rattle.pel_model.specs.Crop.{crop}
 use Rattle.pel_model.specs.Decode.{Quantised, group_of, address_of, macroblock_at, block_number, sample, decoded, decode}
@@ -13,8 +14,8 @@ use Rattle.pel_model.specs.Records.{Across, Down, Block, Macroblock, Group, Pict
 use Rattle.pel_model.specs.Regions.{right, below, moved, blank}
 use Rattle.pel_model.specs.Residual.{residual}
 use Rattle.pel_model.specs.Transform.{Transform}
-use Rattle.pel_model.specs.Valid.{corner, StaysWithin}
-use Rattle.frame_laws.specs.Laws.{StaysInside, VectorsStayInside, QuadrantLaw}
+use Rattle.pel_model.specs.Valid.{corner, StaysWithin, IsValidMacroblock}
+use Rattle.frame_laws.specs.Laws.{StaysInside, VectorsStayInside, QuadrantLaw, ValidStaysInside}
 use Rattle.frame_laws.proofs.Displaced.{IsPlaced, crop-inside, predicted-shifted, stays}
 use Rattle.frame_laws.proofs.Lookups.{HoldsIf, found-shifted, in-holds}
 use Rattle.frame_laws.proofs.Places.{shift, inside-is, inside-shifted, column-shifted, row-shifted, corner-across, corner-down, block-shifted, place-shifted-across, place-shifted-down}
@@ -106,3 +107,17 @@ law-at t before place whole sent inside same plane x y false test =
 pub law : QuadrantLaw
 law t before place whole sent inside same =
     fun_ext λ plane. fun_ext λ x. fun_ext λ y. law-at t before place whole sent inside same plane x y (is_inside Qcif plane x y) refl
+
+-- ---- the vectors of a valid picture
+
+fits-inside : (b : Bool) (P : Type 0) (h : ℤ) (Q : Type 0) → MatchBool b (P × Q) (h ≡ pos 0) → Q ⊎ (h ≡ pos 0)
+fits-inside true P h Q fits = inl fits.1
+fits-inside false P h Q fits = inr fits
+
+pub valid-stays : ValidStaysInside
+valid-stays sent valid =
+    λ k d less i e below.
+    let g : Group = slice_index_or sent.groups k d in
+    let m : Macroblock = slice_index_or g.macroblocks i e in
+    let fits : IsValidMacroblock Qcif g.number m = (valid.so_far.groups k d less).macroblocks i e below in
+    (fits-inside (has_vector m.kind) _ _ _ fits.across, fits-inside (has_vector m.kind) _ _ _ fits.down)

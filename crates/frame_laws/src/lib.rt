@@ -2,6 +2,7 @@
 //! of. Each function does nothing; its contract is the law, whose words stand in `specs/`.
 #![tactic(auto)]
 
+ghost use Rattle.frame_laws.specs.Composing.{ComposedShows, ComposedIsValid, ComposedLength, ComposedIsLegal};
 ghost use Rattle.frame_laws.specs.Laws.{QuadrantLaw, ValidStaysInside, RefreshLaw, BlankLaw, UnchangedLaw};
 
 /// Decoding a CIF picture and looking at one of its places is looking at the place and decoding the QCIF picture that
@@ -21,4 +22,14 @@ pub fn refresh()
 pub fn blank()
     ensures frame { BlankLaw }
     ensures place { UnchangedLaw }
+{}
+
+/// The CIF picture that is composed of up to four valid QCIF pictures is valid, and its text is legal and has at most
+/// 262,048 bits where theirs are within their limit. After it each place shows what its own picture makes of what the place
+/// showed, and what it showed where it gets none.
+pub fn composed()
+    ensures shows { ComposedShows }
+    ensures valid { ComposedIsValid }
+    ensures length { ComposedLength }
+    ensures legal { ComposedIsLegal }
 {}
