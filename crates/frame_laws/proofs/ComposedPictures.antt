@@ -1,5 +1,5 @@
 -- The CIF picture that is composed of four valid QCIF pictures, group by group.
-use Rattle.std.proofs.Common.{◌≡◌, ℕ, ◌+◌, ◌*◌, ◌<◌, ◌≤◌, List, [], ◌∷◌, ◌++◌, length, map, take, Option, None, Some, IfSome, All, refl, sym, ◌∙◌, ap, arith}
+use Rattle.std.proofs.Common.{◌≡◌, ℕ, ◌+◌, ◌<◌, ◌≤◌, List, [], ◌∷◌, length, map, take, Option, None, Some, IfSome, All, refl, ◌∙◌, ap, arith}
 use Rattle.std.proofs.lemmas.List.Elements.{All-nil, All-cons, All-tail, All-append}
 use Rattle.pel_model.specs.declared.Format.TheVariants.{Qcif, Cif}
 use Rattle.pel_model.specs.declared.Quad.{Quad}
@@ -12,13 +12,12 @@ use Rattle.pel_model.specs.Records.{Group, Picture}
 use Rattle.pel_model.specs.Regions.{moved, blank, composed, empty_group, side_by_side, number_in, renumbered}
 use Rattle.pel_model.specs.Text.{text, macroblocks_text}
 use Rattle.pel_model.specs.Transform.{Transform}
-use Rattle.pel_model.specs.Valid.{IsValidGroup, IsValidSoFar, IsValid, group_numbers, limit}
-use Rattle.frame_laws.specs.Composing.{AreValid, AreWithin, place_after, ComposedShows, ComposedIsValid, ComposedLength, ComposedIsLegal}
-use Rattle.frame_laws.specs.Laws.{ValidStaysInside}
+use Rattle.pel_model.specs.Valid.{IsValidGroup, IsValid, group_numbers, limit}
+use Rattle.frame_laws.specs.Composing.{AreValid, place_after, ComposedShows, ComposedIsValid, ComposedLength, ComposedIsLegal}
 use Rattle.frame_laws.proofs.Blanks.{unchanged-law}
 use Rattle.frame_laws.proofs.InPlaces.{group-in-place}
 use Rattle.frame_laws.proofs.Quadrants.{law, valid-stays}
-use Rattle.frame_laws.proofs.TextLengths.{length-text, bits_of_groups}
+use Rattle.frame_laws.proofs.TextLengths.{length-text}
 use Rattle.frame_laws.proofs.ThreeGroups.{of_three, by-three}
 
 -- ---- a picture for each place

@@ -2,10 +2,9 @@
 use Rattle.std.proofs.Common.{◌≡◌, ℕ, ◌%◌, Bool, true, false, slice_index_or, ℤ, pos, negsuc, MatchBool, arith}
 use Rattle.pel_model.specs.declared.Format.TheVariants.{Qcif, Cif}
 use Rattle.pel_model.specs.declared.Quad.{Quad}
-use Rattle.pel_model.specs.declared.Quad.TheVariants.{One, Two, Three, Four}
 use Rattle.pel_model.specs.Codes.{has_vector}
 use Rattle.pel_model.specs.Records.{Axis, Across, Down, Macroblock, Group, component}
-use Rattle.pel_model.specs.Regions.{number_in, renumbered, right, below}
+use Rattle.pel_model.specs.Regions.{number_in, renumbered}
 use Rattle.pel_model.specs.Valid.{side, corner, StaysWithin, ComponentFits, IsValidMacroblock, IsValidGroup}
 use Rattle.frame_laws.proofs.Places.{right-le, below-le}
 

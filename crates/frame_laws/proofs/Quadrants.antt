@@ -1,5 +1,5 @@
 -- The law of the quadrant, sample by sample.
-use Rattle.std.proofs.Common.{◌≡◌, ◌⊎◌, ℕ, ◌+◌, ◌*◌, ◌/◌, ◌%◌, ◌<◌, Bool, true, false, if◌then◌else◌, ℤ, pos, ◌+ℤ◌, List, Option, None, Some, slice_index_or, MatchBool, inl, inr, refl, sym, ◌∙◌, ap, ap₂, subst, arith}
+use Rattle.std.proofs.Common.{◌≡◌, ◌⊎◌, ℕ, ◌+◌, ◌*◌, ◌/◌, ◌%◌, ◌<◌, Bool, true, false, ℤ, pos, ◌+ℤ◌, List, Option, None, Some, slice_index_or, MatchBool, inl, inr, refl, sym, ◌∙◌, ap, ap₂, subst, arith}
 use Rattle.std.proofs.Math.Path.{fun_ext}
 use Rattle.pel_model.specs.declared.Format.{Format}
 use Rattle.pel_model.specs.declared.Format.TheVariants.{Qcif, Cif}
@@ -8,10 +8,9 @@ use Rattle.pel_model.specs.Codes.{has_vector}
 use Rattle.pel_model.specs.Composed.{groups_in}
 use Rattle.pel_model.specs.Crop.{crop}
 use Rattle.pel_model.specs.Decode.{Quantised, group_of, address_of, macroblock_at, block_number, sample, decoded, decode}
-use Rattle.pel_model.specs.Frames.{Plane, Luminance, Cb, Cr, Frame, ratio, is_inside, cut}
-use Rattle.pel_model.specs.Prediction.{predicted}
+use Rattle.pel_model.specs.Frames.{Plane, Frame, ratio, is_inside}
 use Rattle.pel_model.specs.Records.{Across, Down, Block, Macroblock, Group, Picture}
-use Rattle.pel_model.specs.Regions.{right, below, moved, blank}
+use Rattle.pel_model.specs.Regions.{below, moved}
 use Rattle.pel_model.specs.Residual.{residual}
 use Rattle.pel_model.specs.Transform.{Transform}
 use Rattle.pel_model.specs.Valid.{corner, StaysWithin, IsValidMacroblock}

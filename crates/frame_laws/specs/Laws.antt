@@ -1,5 +1,5 @@
 -- The laws of what decoders show.
-use Rattle.std.specs.Prelude.{◌≡◌, ◌⊎◌, ℕ, ℤ, pos, All}
+use Rattle.std.specs.Prelude.{◌≡◌, ◌⊎◌, ℕ, pos, All}
 use Rattle.pel_model.specs.declared.Format.TheVariants.{Qcif, Cif}
 use Rattle.pel_model.specs.declared.Quad.{Quad}
 use Rattle.pel_model.specs.Composed.{groups_in}
