@@ -5,6 +5,8 @@ pub mod Walks
 pub mod WorkedForms
 mod WorkedMarks
 mod WorkedOutcomes
+mod WorkedBlocks
+mod WorkedFrames
 mod WorkedPictures
 mod WorkedPlaces
 pub mod WorkedRecords

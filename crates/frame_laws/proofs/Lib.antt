@@ -1,0 +1,10 @@
+pub mod Blanks
+pub mod ComposedPictures
+pub mod Displaced
+pub mod InPlaces
+pub mod Lookups
+pub mod Places
+pub mod Quadrants
+pub mod Refreshes
+pub mod TextLengths
+pub mod ThreeGroups

@@ -1,0 +1,49 @@
+-- The laws of what decoders show.
+use Rattle.std.specs.Prelude.{◌≡◌, ◌⊎◌, ℕ, pos, All}
+use Rattle.pel_model.specs.declared.Format.TheVariants.{Qcif, Cif}
+use Rattle.pel_model.specs.declared.Quad.{Quad}
+use Rattle.pel_model.specs.Composed.{groups_in}
+use Rattle.pel_model.specs.Crop.{crop}
+use Rattle.pel_model.specs.Decode.{decode}
+use Rattle.pel_model.specs.Frames.{Frame, cut}
+use Rattle.pel_model.specs.Records.{Axis, Across, Down, Macroblock, Group, Picture, component}
+use Rattle.pel_model.specs.Refresh.{IsRefresh}
+use Rattle.pel_model.specs.Regions.{moved, blank}
+use Rattle.pel_model.specs.Transform.{Transform}
+use Rattle.pel_model.specs.Valid.{side, corner, StaysWithin, IsValid}
+
+-- ---- the law of the quadrant
+
+-- a component of a vector refers to samples of the QCIF picture alone (H.261, 3.2.2), or is 0
+abbrev pub StaysInside : (group : ℕ) → Macroblock → Axis → Type 0
+StaysInside group m axis =
+    StaysWithin (side Qcif axis) (corner axis group m.address) (component axis m) ⊎ (component axis m ≡ pos 0)
+
+abbrev pub VectorsStayInside : Picture → Type 0
+VectorsStayInside picture =
+    All (λ (g : Group). All (λ (m : Macroblock). StaysInside g.number m Across × StaysInside g.number m Down) g.macroblocks) picture.groups
+
+abbrev pub QuadrantLaw : Type 0
+QuadrantLaw =
+    (t : Transform) (before : Frame) (place : Quad) (whole sent : Picture)
+    → VectorsStayInside sent → groups_in place whole ≡ moved place sent
+    → crop place (decode Cif t before whole) ≡ decode Qcif t (crop place before) sent
+
+-- the vectors of a valid picture stay inside
+abbrev pub ValidStaysInside : Type 0
+ValidStaysInside = (sent : Picture) → IsValid Qcif sent → VectorsStayInside sent
+
+-- ---- refreshes, and pictures that send nothing
+
+abbrev pub RefreshLaw : Type 0
+RefreshLaw =
+    (t : Transform) (before other : Frame) (sent : Picture) → IsValid Qcif sent → IsRefresh Qcif sent
+    → decode Qcif t before sent ≡ decode Qcif t other sent
+
+abbrev pub BlankLaw : Type 0
+BlankLaw = (t : Transform) (before : Frame) → decode Qcif t before blank ≡ cut Qcif before
+
+abbrev pub UnchangedLaw : Type 0
+UnchangedLaw =
+    (t : Transform) (before : Frame) (place : Quad) (whole : Picture) → groups_in place whole ≡ moved place blank
+    → crop place (decode Cif t before whole) ≡ crop place before
