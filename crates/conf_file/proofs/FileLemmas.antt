@@ -188,8 +188,20 @@ starts_reading file (Some ys) before now old new (Err Fault) fresh h =
     let front : take new.taken file ≡ took = ap₂ take size h.header.takes.bytes ∙ take-append_seam took ys in
     (omega (arith, size, ap length front), omega (arith, h.header.answer.0, ap length front))
 
+-- an entry has octets
+some_octets : (lanes : ℕ) (content : Content) (octets : List ℕ) → Spells lanes content octets → 0 < length octets
+some_octets lanes (Packet lane packet) octets s = omega (arith, ap length s.0)
+some_octets lanes (Chair command) octets s = omega (arith, ap length s.1)
+some_octets lanes (Tick step) octets s = omega (arith, ap length s.0)
+some_octets lanes End octets s = omega (arith, ap length s)
+
+entry_moves : (lanes : ℕ) (source rest : Option (List ℕ)) (before now : ℕ) (old new : ReaderState) (content : Content)
+    → ReadsEntry lanes source rest before now old new (Ok content) → old.taken < new.taken
+entry_moves lanes source rest before now old new content r =
+    omega (arith, r.takes.takes.taken, some_octets lanes content r.takes.took r.takes.answer.0)
+
 pub entries_are_read : LawOfReading
-entries_are_read = record { starts = starts_reading; goes_on = next_reads }
+entries_are_read = record { starts = starts_reading; goes_on = next_reads; moves = entry_moves }
 
 -- a list with an end behind it is not empty
 no_end : (before : List Content) → [] ≡ before ++ End ∷ [] → ⊥

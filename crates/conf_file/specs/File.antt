@@ -124,6 +124,11 @@ pub record LawOfReading : Type 0 where
       (result : Result Content EntryEnd) → HasRead file lanes list old.taken left
       → ReadsEntry lanes (Some left) rest before now old new result
       → AfterNext file lanes list rest new result
+  -- whatever the source tells, an entry takes octets
+  pub moves :
+      (lanes : ℕ) (source rest : Option (List ℕ)) (before now : ℕ) (old new : ReaderState)
+      (content : Content) → ReadsEntry lanes source rest before now old new (Ok content)
+      → old.taken < new.taken
 
 -- what the next call answers that meets no fault of its source, where these octets are left, so many were taken, and the
 -- budget is this
