@@ -3,7 +3,7 @@
 
 ghost use Rattle.std.specs.Prelude.{◌≡◌, ◌≤◌, ◌+◌, ◌==◌, nat_lt, cond, List, IfOk, IfNone};
 ghost use Rattle.pel_model.specs.declared.Format.{Format};
-ghost use Rattle.pel_model.specs.Grammar.{Element, Dc, slot, AtDc, AtFirst, AtCoefficient, filled as filled_before, faults, first_why, next};
+ghost use Rattle.pel_model.specs.Grammar.{Element, Dc, slot, AtDc, AtFirst, AtCoefficient, filled, faults, first_why, next};
 ghost use Rattle.pel_model.specs.Levels.{dc_level};
 ghost use Rattle.pel_model.specs.Walk.{Takes};
 ghost use Rattle.pel_model.specs.declared.Why.TheVariants.{TooMany};
@@ -12,11 +12,11 @@ ghost use Rattle.h261_block.specs.Rows.{filled_after, run_and_level_of};
 
 use pel_bits::Reader;
 use pel_model::{Fault, Why};
-use vlc_codes::{CoefRow, tcoeff};
+use vlc_codes::CoefRow;
 
 /// Takes INTRADC, 8 bits that are neither 00000000 nor 10000000 (H.261, 4.2.4.1).
 #[inline]
-pub fn dc(r: &mut Reader<'_>) -> Result<u8, Fault>
+pub fn intradc(r: &mut Reader<'_>) -> Result<u8, Fault>
     ensures { (format : Format) (before : List Element) → slot before ≡ AtDc →
         Takes Dc (next format before r.old) result r.old r.new }
 {
@@ -40,27 +40,27 @@ pub fn dc(r: &mut Reader<'_>) -> Result<u8, Fault>
 
 /// What INTRADC stands for: 11111111 for 1024, any other n for 8 n.
 #[inline]
-pub fn dc_level(n: u8) -> i16
-    ensures { result ≡ level_of_dc n }
+pub fn intradc_level(n: u8) -> i16
+    ensures { result ≡ dc_level n }
 {
     if n == 255 { 1024 } else { 8 * i16::from(n) }
 }
 
-/// Takes a coefficient or the end of the block. `filled` coefficients stand before it; where none does, it is the first
-/// of a block without INTRADC.
+/// Takes a coefficient or the end of the block. `count` coefficients stand before it; where none does,
+/// it is the first of a block without INTRADC.
 #[inline]
-pub fn coefficient(r: &mut Reader<'_>, filled: u32) -> Result<CoefRow, Fault>
-    requires { filled ≤ 64 }
+pub fn tcoeff(r: &mut Reader<'_>, count: u32) -> Result<CoefRow, Fault>
+    requires { count ≤ 64 }
     ensures taken { (format : Format) (before : List Element) →
-        slot before ≡ cond (filled == 0) AtFirst AtCoefficient → filled_before before ≡ filled →
+        slot before ≡ cond (count == 0) AtFirst AtCoefficient → filled before ≡ count →
         Takes coefficient_element (next format before r.old) result r.old r.new }
-    ensures within { IfOk result (λ row. filled_after filled row ≤ 64) }
+    ensures within { IfOk result (λ row. filled_after count row ≤ 64) }
 {
     let place = r.place();
     let mut ahead = r.copy();
-    match tcoeff(&mut ahead, filled == 0) {
+    match vlc_codes::tcoeff(&mut ahead, count == 0) {
         Ok(row) => {
-            if let Some(why) = fault_of(row, filled) {
+            if let Some(why) = fault_of(row, count) {
                 return Err(Fault { place, why });
             }
             *r = ahead;
@@ -84,19 +84,19 @@ pub fn run_and_level(row: CoefRow) -> Option<(u8, i8)>
 
 // What is at fault: a forbidden level of an escape, or else a place past the 64th.
 #[inline]
-fn fault_of(row: CoefRow, filled: u32) -> Option<Why>
-    requires { filled ≤ 64 }
-    ensures fault { (format : Format) (before : List Element) → filled_before before ≡ filled →
+fn fault_of(row: CoefRow, count: u32) -> Option<Why>
+    requires { count ≤ 64 }
+    ensures fault { (format : Format) (before : List Element) → filled before ≡ count →
         result ≡ first_why (faults format before (coefficient_element row)) }
-    ensures within { IfNone result (filled_after filled row ≤ 64) }
+    ensures within { IfNone result (filled_after count row ≤ 64) }
 {
     match row {
-        CoefRow::Pair { run, .. } => past_the_end(filled, run),
+        CoefRow::Pair { run, .. } => past_the_end(count, run),
         CoefRow::Escape { run, level } => {
             if level == 0 || level == -128 {
                 Some(Why::BadLevel)
             } else {
-                past_the_end(filled, run)
+                past_the_end(count, run)
             }
         }
         CoefRow::Eob => None,
@@ -104,12 +104,12 @@ fn fault_of(row: CoefRow, filled: u32) -> Option<Why>
 }
 
 #[inline]
-fn past_the_end(filled: u32, run: u8) -> Option<Why>
-    requires { filled ≤ 64 }
-    ensures fault { result ≡ cond (nat_lt 64 (filled + run + 1)) (Some TooMany) None }
-    ensures within { IfNone result (filled + run + 1 ≤ 64) }
+fn past_the_end(count: u32, run: u8) -> Option<Why>
+    requires { count ≤ 64 }
+    ensures fault { result ≡ cond (nat_lt 64 (count + run + 1)) (Some TooMany) None }
+    ensures within { IfNone result (count + run + 1 ≤ 64) }
 {
-    if filled + u32::from(run) < 64 {
+    if count + u32::from(run) < 64 {
         None
     } else {
         Some(Why::TooMany)
