@@ -4,7 +4,8 @@ use Rattle.std.proofs.lemmas.Bool.{eqb-true}
 use Rattle.std.proofs.lemmas.List.{map_push}
 use Rattle.pel_model.specs.declared.Fault.{Fault}
 use Rattle.pel_model.specs.Records.{Coefficient, Block}
-use Rattle.pel_model.specs.Elements.{IsBlockSoFar, coefficient_elements, block_elements, dc_elements, dc_level, sent_levels, levels}
+use Rattle.pel_model.specs.Levels.{dc_level, sent_levels, levels}
+use Rattle.pel_model.specs.Elements.{IsBlockSoFar, coefficient_elements, block_elements, dc_elements}
 use Rattle.pel_model.specs.Walk.{Standing, Good, Bad, skipped, after, Goes}
 use Rattle.pel_model.specs.Grammar.{Element, Dc, Tcoeff, Eob, slot, filled, AtFirst, AtCoefficient}
 use Rattle.pel_model.proofs.Walks.{after-append, goes_more}

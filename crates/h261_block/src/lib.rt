@@ -5,7 +5,8 @@ mod coefficients;
 
 ghost use Rattle.std.specs.Prelude.{◌≡◌, cond, List, is_some};
 ghost use Rattle.pel_model.specs.declared.Format.{Format};
-ghost use Rattle.pel_model.specs.Elements.{IsBlockSoFar, block_elements, levels};
+ghost use Rattle.pel_model.specs.Levels.{levels};
+ghost use Rattle.pel_model.specs.Elements.{IsBlockSoFar, block_elements};
 ghost use Rattle.pel_model.specs.Grammar.{Element, slot, AtDc, AtFirst, next};
 ghost use Rattle.pel_model.specs.Records.{Block};
 ghost use Rattle.pel_model.specs.Walk.{Walked};

@@ -4,7 +4,8 @@ use Rattle.pel_model.specs.declared.MbKind.{MbKind}
 use Rattle.pel_model.specs.Codes.{has_vector}
 use Rattle.pel_model.specs.Records.{Across, Down}
 use Rattle.pel_model.specs.Walk.{after}
-use Rattle.pel_model.specs.Grammar.{Element, Mba, Mtype, slot, vector_slot, vector_component, address, resets_predictor}
+use Rattle.pel_model.specs.Text.{resets_predictor}
+use Rattle.pel_model.specs.Grammar.{Element, Mba, Mtype, slot, vector_slot, vector_component, address}
 use Rattle.h261_mb.specs.declared.state.MbState.{MbState}
 use Rattle.pel_model.specs.Elements.{mquant_elements}
 use Rattle.h261_mb.specs.State.{Stands, IsBegun}

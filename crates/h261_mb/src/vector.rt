@@ -3,9 +3,9 @@
 
 ghost use Rattle.std.specs.Prelude.{◌≡◌, ℕ, ◌<◌, ◌≤◌, ℤ, negsuc, pos, ◌≤ℤ◌, cond, true, List, [], ◌∷◌, IfOk, IfSome};
 ghost use Rattle.pel_model.specs.declared.Format.{Format as PictureFormat};
-ghost use Rattle.pel_model.specs.Valid.{side as side_of, corner};
+ghost use Rattle.pel_model.specs.Valid.{side as side_of, corner, stays_within};
 ghost use Rattle.pel_model.specs.Records.{Axis, Across, Down};
-ghost use Rattle.pel_model.specs.Grammar.{Element, Mvd, slot, AtMvd, group as group_before, address as address_before, vector_component, component_from, in_range as is_in_range, is_group, stays_within as stays, next};
+ghost use Rattle.pel_model.specs.Grammar.{Element, Mvd, slot, AtMvd, group as group_before, address as address_before, vector_component, component_from, in_range as is_in_range, is_group, next};
 ghost use Rattle.pel_model.specs.Walk.{after, Walked};
 ghost use Rattle.h261_mb.specs.Inside.{StaysInside};
 ghost use Rattle.pel_model.specs.Elements.{vector_elements};

@@ -4,7 +4,7 @@ use Rattle.pel_model.specs.declared.Fault.{Fault}
 use Rattle.pel_model.specs.declared.Format.{Format}
 use Rattle.pel_model.specs.declared.Format.TheVariants.{Qcif, Cif}
 use Rattle.pel_model.specs.declared.Why.TheVariants.{TooLong}
-use Rattle.pel_model.specs.Text.{group_header_length}
+use Rattle.pel_model.specs.Headers.{group_header_length}
 use Rattle.pel_model.specs.Valid.{group_count, limit}
 use Rattle.pel_model.specs.Walk.{Bad}
 use Rattle.pel_model.specs.Grammar.{Element, Gbsc, Stuffing, begun, counted, next, next_within_limit}

@@ -8,7 +8,8 @@ use Rattle.pel_model.specs.declared.Mark.{Mark}
 use Rattle.pel_model.specs.declared.Quad.{Quad}
 use Rattle.pel_model.specs.Marks.{marks_of}
 use Rattle.pel_model.specs.Records.{Group, Picture}
-use Rattle.pel_model.specs.Text.{text, picture_header_length, group_header, group_header_length, group_text, macroblocks_text}
+use Rattle.pel_model.specs.Headers.{picture_header_length, group_header_length}
+use Rattle.pel_model.specs.Text.{text, group_header, group_text, macroblocks_text}
 use Rattle.pel_model.specs.Regions.{number_in, empty_group}
 use Rattle.pel_model.specs.Valid.{group_numbers, group_count, IsValidSoFar}
 

@@ -3,7 +3,7 @@
 use Rattle.std.specs.Prelude.{◌≡◌, ℕ, ◌+◌, ◌-◌, ◌*◌, Bool, true, false, List, Result, Ok, Err}
 use Rattle.pel_model.specs.declared.Fault.{Fault}
 use Rattle.pel_model.specs.declared.Format.{Format}
-use Rattle.pel_model.specs.Text.{group_header_length}
+use Rattle.pel_model.specs.Headers.{group_header_length}
 use Rattle.pel_model.specs.Valid.{group_count, limit}
 use Rattle.pel_model.specs.Walk.{Standing, Good, Stop, Bad, skipped, after, Goes}
 use Rattle.pel_model.specs.Grammar.{Element, Gbsc, begun, next_within_limit}

@@ -6,7 +6,8 @@ use Rattle.pel_model.specs.declared.Format.{Format}
 use Rattle.pel_model.specs.declared.Mark.{Mark}
 use Rattle.pel_model.specs.Marks.{macroblock_marks}
 use Rattle.pel_model.specs.Records.{Macroblock}
-use Rattle.pel_model.specs.Text.{group_header_length, macroblocks_text}
+use Rattle.pel_model.specs.Headers.{group_header_length}
+use Rattle.pel_model.specs.Text.{macroblocks_text}
 use Rattle.pel_model.specs.Walk.{Good, Bad, skipped, after, Goes}
 use Rattle.pel_model.specs.Grammar.{Element, Gbsc, begun as begun_before, group as group_before, slot, may_end, next_within_limit}
 use Rattle.picture_laws.specs.SoFar.{IsGroupSoFar}

@@ -4,7 +4,7 @@
 
 ghost use Rattle.std.specs.Prelude.{◌≡◌, ◌<◌, ◌≤◌, true, slice_index};
 ghost use Rattle.pel_model.specs.Grammar.{is_group as is_group_of};
-ghost use Rattle.pel_model.specs.Text.{group_header_length};
+ghost use Rattle.pel_model.specs.Headers.{group_header_length};
 ghost use Rattle.pel_model.specs.Valid.{group_numbers, group_count as group_count_of, limit};
 
 use pel_model::Format;

@@ -4,7 +4,7 @@
 
 ghost use Rattle.std.specs.Prelude.{◌≡◌, ◌+◌, ◌-◌, ◌*◌, ◌<◌, ◌≤◌, ℕ, true, List, [], take, IfOk};
 ghost use Rattle.pel_model.specs.declared.Format.{Format as PictureFormat};
-ghost use Rattle.pel_model.specs.Text.{group_header_length};
+ghost use Rattle.pel_model.specs.Headers.{group_header_length};
 ghost use Rattle.pel_model.specs.Valid.{group_count as group_count_of, limit};
 ghost use Rattle.pel_model.specs.Grammar.{Element, Mba, mba_rows, slot, AtGn, AtGroup, AtMacroblock, group as group_before, begun as begun_before, is_group as is_group_of, counted, next_within_limit};
 ghost use Rattle.pel_model.specs.Walk.{Good, read};

@@ -1,19 +1,14 @@
--- What a tick composes of a legal history: valid pictures within their limit; and the test of refreshes.
+-- What a tick composes of a legal history: valid pictures within their limit.
 use Rattle.std.proofs.Common.{◌≡◌, ℕ, ◌+◌, ◌*◌, ◌%◌, ◌<◌, ◌≤◌, ◌==◌, ◌&&◌, Bool, true, false, Option, Some, None, List, [], ◌∷◌, length, All, IfSome, refl, sym, ap, subst, ◌∙◌, arith}
-use Rattle.std.specs.List.{list_all}
-use Rattle.std.proofs.lemmas.Bool.{eqb-true}
-use Rattle.std.proofs.lemmas.List.Sums.{AllPass-from_list_all}
 use Rattle.std.proofs.lemmas.Option.{none-some}
 use Rattle.pel_model.specs.declared.Format.TheVariants.{Qcif, Cif}
 use Rattle.pel_model.specs.declared.Quad.{Quad}
 use Rattle.pel_model.specs.declared.held.Held.{Held}
 use Rattle.pel_model.specs.declared.note.TickNote.{TickNote}
-use Rattle.pel_model.specs.Codes.{is_intra}
 use Rattle.pel_model.specs.Headline.{IsWritable}
 use Rattle.pel_model.specs.History.{History, Tick, lane_at, total_of}
 use Rattle.pel_model.specs.Legal.{IsPostable, Legal}
-use Rattle.pel_model.specs.Records.{Macroblock, Group, Picture}
-use Rattle.pel_model.specs.Refresh.{sent_macroblocks, IsRefresh, is_refresh}
+use Rattle.pel_model.specs.Records.{Picture}
 use Rattle.pel_model.specs.Text.{text}
 use Rattle.pel_model.specs.Valid.{IsValid, limit}
 use Rattle.pel_model.specs.Takes.{choice_of, choice}
@@ -21,28 +16,6 @@ use Rattle.pel_model.specs.Written.{picture_of, written_picture}
 use Rattle.frame_laws.specs.Composing.{AreValid, AreWithin}
 use Rattle.frame_laws.proofs.ComposedPictures.{composed-valid, composed-legal}
 use Rattle.history_laws.proofs.Ticks.{chooses, chosen-good}
-
-both : (a b : Bool) → (a && b) ≡ true → (a ≡ true) × (b ≡ true)
-both true true e = (refl, refl)
-both true false e = absurd (no e)
-  where
-    no : false ≡ true → ⊥
-    no f = cc
-both false b e = absurd (no e)
-  where
-    no : false ≡ true → ⊥
-    no f = cc
-
-pub refresh-is : (picture : Picture) → is_refresh Qcif picture ≡ true → IsRefresh Qcif picture
-refresh-is picture e =
-    let parts = both (sent_macroblocks picture == 99) _ e in
-    record {
-      qcif = refl;
-      all_sent = eqb-true (sent_macroblocks picture) 99 parts.0;
-      all_intra = λ k d below.
-          AllPass-from_list_all (λ (m : Macroblock). is_intra m.kind) _
-          (AllPass-from_list_all (λ (g : Group). list_all (λ (m : Macroblock). is_intra m.kind) g.macroblocks) picture.groups parts.1 k d below);
-    }
 
 -- what is shown of a place in a legal history
 abbrev pub shown : ℕ → History → Quad → Option Picture

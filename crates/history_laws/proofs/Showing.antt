@@ -26,7 +26,7 @@ use Rattle.frame_laws.specs.Composing.{place_after}
 use Rattle.frame_laws.proofs.ComposedPictures.{composed-shows}
 use Rattle.frame_laws.proofs.Refreshes.{refresh-law}
 use Rattle.history_laws.proofs.Came.{own-append, came_by, arrivals-step}
-use Rattle.history_laws.proofs.Composing.{refresh-is, shown, are-valid}
+use Rattle.history_laws.proofs.Composing.{shown, are-valid}
 use Rattle.history_laws.proofs.Ticks.{Chooses, taken, none-chosen, follows, chosen-good, same-lane}
 
 -- the last arrival that a decoder was given
@@ -70,7 +70,7 @@ module _ (t : Transform) (opening : Frame) (fill : ℕ → Frame) (lanes : ℕ) 
       let own_before = own t fill (arrivals H c) (h.serial - 1) in
       let same : decode Qcif t before h.item ≡ decode Qcif t own_before h.item =
       elim (follows (last_taken lanes H q) h chosen.follows) as (λ _. decode Qcif t before h.item ≡ decode Qcif t own_before h.item) [
-        | inl refreshes ↦ refresh-law t before own_before h.item good.0.valid (refresh-is h.item (sym good.1 ∙ refreshes))
+        | inl refreshes ↦ refresh-law t before own_before h.item good.0.valid (sym good.1 ∙ refreshes)
         | inr next ↦
             let less : next.0 ≡ h.serial - 1 = omega (arith, next.2) in
             ap (λ f. decode Qcif t f h.item) ((shows q c next.0 chosen.lane next.1).1 ∙ ap (own t fill (arrivals H c)) less)

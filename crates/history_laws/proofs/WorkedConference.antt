@@ -3,6 +3,7 @@
 -- definitions; and it is legal, so that the laws of legal histories speak of it.
 use Rattle.std.proofs.Common.{◌≡◌, ℕ, ◌+◌, ◌*◌, ◌<◌, ◌≤◌, Bool, true, false, List, [], ◌∷◌, ◌++◌, length, map, replicate, Option, Some, None, refl, ap, arith}
 use Rattle.std.proofs.lemmas.Option.{none-some}
+use Rattle.pel_model.specs.Headers.{group_header_text, picture_header_text}
 use Rattle.pel_model.specs.declared.Format.TheVariants.{Cif}
 use Rattle.pel_model.specs.declared.Quad.{Quad}
 use Rattle.pel_model.specs.declared.Quad.TheVariants.{One, Two, Three, Four}
@@ -128,7 +129,7 @@ written = (refl, refl, refl, refl)
 pub written_lengths :
     (length (text Cif (written_picture 2 before_second second_note)) ≡ 6789)
     × (length (text Cif (written_picture 2 before_third third_note)) ≡ 344)
-unfolding picture_header group_header macroblocks_text macroblock_text block_text coefficient_word field number mba_table mtype_table mvd_table cbp_table tcoeff_table
+unfolding picture_header_text group_header_text macroblocks_text macroblock_text block_text coefficient_word field number mba_table mtype_table mvd_table cbp_table tcoeff_table
 written_lengths = (refl, refl)
 
 -- ---- what is shown: the first sample of each place, and one that no level reaches

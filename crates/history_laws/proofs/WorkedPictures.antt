@@ -2,6 +2,7 @@
 use Rattle.std.proofs.Common.{◌≡◌, ℕ, zero, suc, ◌+◌, ◌*◌, ◌<◌, ◌≤◌, ℤ, pos, Bool, true, false, List, [], ◌∷◌, length, map, All, replicate, Option, Some, None, IfSome, IsSomeAnd, refl, arith}
 use Rattle.std.specs.List.{range_with_len}
 use Rattle.std.proofs.lemmas.List.Elements.{All-cons}
+use Rattle.pel_model.specs.Headers.{group_header_text, picture_header_text}
 use Rattle.pel_model.specs.declared.Format.TheVariants.{Qcif}
 use Rattle.pel_model.specs.declared.MbKind.TheVariants.{Intra, Inter}
 use Rattle.pel_model.specs.Bits.{field, number}
@@ -101,7 +102,7 @@ grey-group n = record {
 }
 
 grey-length : length (text Qcif grey) ≡ 6545
-unfolding picture_header group_header macroblocks_text macroblock_text block_text coefficient_word field number mba_table mtype_table mvd_table cbp_table tcoeff_table
+unfolding picture_header_text group_header_text macroblocks_text macroblock_text block_text coefficient_word field number mba_table mtype_table mvd_table cbp_table tcoeff_table
 grey-length = refl
 
 pub grey-postable : IsPostable grey
@@ -147,7 +148,7 @@ small-first = record {
 }
 
 small-length : length (text Qcif small) ≡ 120
-unfolding picture_header group_header macroblocks_text macroblock_text block_text coefficient_word field number mba_table mtype_table mvd_table cbp_table tcoeff_table
+unfolding picture_header_text group_header_text macroblocks_text macroblock_text block_text coefficient_word field number mba_table mtype_table mvd_table cbp_table tcoeff_table
 small-length = refl
 
 pub small-postable : IsPostable small

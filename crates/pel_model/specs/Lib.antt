@@ -11,6 +11,8 @@ pub mod Headline
 pub mod History
 pub mod Lanes
 pub mod Legal
+pub mod Headers
+pub mod Levels
 pub mod Marks
 pub mod Own
 pub mod Plan

@@ -3,7 +3,8 @@ use Rattle.std.proofs.lemmas.Int.{to_z-of_z}
 use Rattle.pel_model.specs.Codes.{mvd_table}
 use Rattle.pel_model.specs.Records.{Across}
 use Rattle.pel_model.specs.Walk.{read}
-use Rattle.pel_model.specs.Grammar.{Mvd, AtMvd, stays_within, may_end, table_rows}
+use Rattle.pel_model.specs.Valid.{stays_within}
+use Rattle.pel_model.specs.Grammar.{Mvd, AtMvd, may_end, table_rows}
 use Rattle.h261_mb.proofs.Slots.{no_word, at-mvd}
 use Rattle.h261_mb.proofs.Vectors.{is_chosen, is_none, mvd-good, mvd-outside, mvd-bad}
 use Rattle.h261_mb.proofs.vector.take_component.Goals as goal

@@ -1,7 +1,7 @@
 use Rattle.std.proofs.Common.{◌≡◌, ℕ, ◌-◌, ◌*◌, Bool, true, List, [], refl, subst, arith}
 use Rattle.pel_model.specs.declared.Format.{Format}
 use Rattle.pel_model.specs.declared.Format.TheVariants.{Qcif, Cif}
-use Rattle.pel_model.specs.Text.{group_header_length}
+use Rattle.pel_model.specs.Headers.{group_header_length}
 use Rattle.pel_model.specs.Valid.{group_count, limit}
 use Rattle.pel_model.specs.Walk.{Walked, after}
 use Rattle.pel_model.specs.Grammar.{Element, slot, may_end, next}

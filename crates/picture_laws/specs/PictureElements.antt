@@ -1,13 +1,15 @@
 -- The elements of a picture in an input form, in their order, and what it means that elements tell a picture.
-use Rattle.std.specs.Prelude.{◌≡◌, ℕ, ◌-◌, ◌%◌, ◌||◌, Bool, true, false, if◌then◌else◌, ℤ, pos, ◌-ℤ◌, List, [], ◌∷◌, ◌++◌, replicate, get_or, drop, Option, Some, None}
+use Rattle.std.specs.Prelude.{◌≡◌, ℕ, ◌-◌, ◌||◌, Bool, if◌then◌else◌, ℤ, pos, ◌-ℤ◌, List, [], ◌∷◌, ◌++◌, replicate, get_or, drop, Option, Some, None}
 use Rattle.std.specs.Ordering.{int_eq}
 use Rattle.pel_model.specs.declared.Format.{Format}
 use Rattle.pel_model.specs.Bits.{number}
 use Rattle.pel_model.specs.Codes.{mvd_table}
 use Rattle.pel_model.specs.Records.{Axis, Across, Down, Macroblock, Group, Picture, component}
 use Rattle.pel_model.specs.Text.{address_of, predictor, coded_block_pattern}
-use Rattle.pel_model.specs.Spelling.{FreeBits, GroupForm, LeftOut, Sent, Form, GroupsFit, type_text}
+use Rattle.pel_model.specs.Headers.{FreeBits, type_text}
+use Rattle.pel_model.specs.Spelling.{GroupForm, LeftOut, Sent, Form, GroupsFit}
 use Rattle.pel_model.specs.Elements as by_words
+use Rattle.pel_model.specs.Elements.{spare_elements}
 use Rattle.pel_model.specs.Grammar.{Element, Psc, Tr, Ptype, Pei, Pspare, Gbsc, Gn, Gquant, Gei, Gspare, Stuffing, Mvd}
 
 -- ---- macroblocks
@@ -40,10 +42,6 @@ macroblocks_elements last behind (m ∷ ms) =
     macroblock_elements last m ++ (replicate (get_or behind 0 0) Stuffing ++ macroblocks_elements (Some m) (drop 1 behind) ms)
 
 -- ---- groups and pictures
-
-abbrev pub spare_elements : (Bool → Element) → (ℕ → Element) → List ℕ → List Element
-spare_elements flag spare [] = flag false ∷ []
-spare_elements flag spare (octet ∷ octets) = flag true ∷ spare (octet % 256) ∷ spare_elements flag spare octets
 
 abbrev pub group_elements : GroupForm → Group → List Element
 group_elements LeftOut g = []
