@@ -7,7 +7,8 @@ use Rattle.pel_model.specs.Bits.{bits}
 use Rattle.pel_model.specs.Records.{Picture}
 use Rattle.pel_model.specs.Refresh.{IsRefresh}
 use Rattle.pel_model.specs.Regions.{number_of}
-use Rattle.pel_model.specs.Text.{group_header_length, text}
+use Rattle.pel_model.specs.Headers.{group_header_length}
+use Rattle.pel_model.specs.Text.{text}
 
 -- the header with version 1 and one lane; an entry C whose line of 9 octets is `place q 0`; an entry P of lane 0 with
 -- the length of a packet in two octets, and the packet; an entry T with a step; the entry E

@@ -2,7 +2,7 @@
 use Rattle.std.proofs.Common.{◌≡◌, ℕ, suc, ◌+◌, ◌-◌, ◌<◌, ℤ, pos, List, [], ◌∷◌, ◌++◌, length, drop, set, replicate, sym, ◌∙◌, ap, arith, append_assoc, length-append}
 use Rattle.std.proofs.lemmas.List.{set-append_right, set_split, take-replicate, drop-replicate, length-replicate, flat_map_more}
 use Rattle.pel_model.specs.Records.{Coefficient, Block}
-use Rattle.pel_model.specs.Elements.{dc_levels, run_and_level, sent_levels, levels}
+use Rattle.pel_model.specs.Levels.{dc_levels, run_and_level, sent_levels, levels}
 
 -- the block with one coefficient more
 abbrev pub with_one_more : Block → Coefficient → Block

@@ -8,10 +8,10 @@ use Rattle.pel_model.specs.declared.Why.{Why}
 use Rattle.pel_model.specs.declared.Why.TheVariants.{BadVector, VectorOutside}
 use Rattle.pel_model.specs.Codes.{mvd_table}
 use Rattle.pel_model.specs.Records.{Axis}
-use Rattle.pel_model.specs.Valid.{side as side_of}
+use Rattle.pel_model.specs.Valid.{side as side_of, stays_within}
 use Rattle.pel_model.specs.Valid.{corner}
 use Rattle.pel_model.specs.Walk.{Good, Bad, read}
-use Rattle.pel_model.specs.Grammar.{Element, Mvd, AtMvd, slot, vector_component, group, address, table_rows, faults, first_why, stays_within, next, in_range, component_from}
+use Rattle.pel_model.specs.Grammar.{Element, Mvd, AtMvd, slot, vector_component, group, address, table_rows, faults, first_why, next, in_range, component_from}
 use Rattle.h261_mb.proofs.Slots.{good, at_fault, at-mvd}
 use Rattle.h261_mb.specs.State.{IsNear}
 

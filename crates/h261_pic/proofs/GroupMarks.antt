@@ -5,6 +5,7 @@ use Rattle.std.proofs.lemmas.List.Sums.{sum_by-cons}
 use Rattle.std.proofs.Math.Seq.{drop-append_seam}
 use Rattle.h261_pic.specs.Coded.{views}
 use Rattle.h261_pic.proofs.PlacedMarks.{length-macroblock_marks, bits_at-macroblock_marks, macroblock_marks-inside, LieWithin}
+use Rattle.pel_model.specs.Headers.{group_header_text}
 use Rattle.pel_model.specs.Bits.{field}
 use Rattle.pel_model.specs.declared.Mark.{Mark}
 use Rattle.h261_pic.specs.declared.coded.GroupView.{GroupView}
@@ -14,7 +15,7 @@ use Rattle.pel_model.specs.Text.{group_header, group_text, macroblocks_text}
 use Rattle.h261_pic.specs.Adding.{bits_at}
 
 pub length-group_header : (number quant : ℕ) → length (group_header number quant) ≡ 26
-unfolding group_header field
+unfolding group_header_text field
 length-group_header number quant = refl
 
 -- how many macroblocks these groups send

@@ -2,6 +2,7 @@
 use Rattle.std.proofs.Common.{◌≡◌, ℕ, Bool, List, ◌++◌, ◌∙◌, ap, ap₂, append_assoc}
 use Rattle.pel_bits.specs.Bits.{field as wire_field}
 use Rattle.pel_bits.specs.Buffer.{Buffer}
+use Rattle.pel_model.specs.Headers.{group_header_text, picture_header_text}
 use Rattle.pel_model.specs.declared.Format.{Format}
 use Rattle.pel_model.specs.declared.Format.TheVariants.{Qcif, Cif}
 use Rattle.pel_model.specs.Bits.{field}
@@ -20,7 +21,7 @@ four_pushes b b1 b2 b3 b4 w x y z e1 e2 e3 e4 =
 
 pub group-header-fields : (n q number quant : ℕ) → n ≡ number → q ≡ quant
     → wire_field 1 16 ++ wire_field n 4 ++ wire_field q 5 ++ wire_field 0 1 ≡ group_header number quant
-unfolding wire_field field group_header
+unfolding wire_field field group_header_text
 group-header-fields n q number quant en eq = ap₂ group_header en eq
 
 -- the number of the picture type
@@ -30,6 +31,6 @@ type_number Cif = 7
 
 pub picture-header-fields : (format : Format) (t p tr : ℕ) → t ≡ tr → p ≡ type_number format
     → wire_field 16 20 ++ wire_field t 5 ++ wire_field p 6 ++ wire_field 0 1 ≡ picture_header format tr
-unfolding wire_field field picture_header
+unfolding wire_field field picture_header_text
 picture-header-fields Qcif t p tr et ep = ap₂ (λ (t : ℕ) (p : ℕ). wire_field 16 20 ++ wire_field t 5 ++ wire_field p 6 ++ wire_field 0 1) et ep
 picture-header-fields Cif t p tr et ep = ap₂ (λ (t : ℕ) (p : ℕ). wire_field 16 20 ++ wire_field t 5 ++ wire_field p 6 ++ wire_field 0 1) et ep

@@ -17,7 +17,7 @@ use Rattle.pel_model.proofs.InsideElements.{inside-macroblock}
 use Rattle.pel_model.specs.Grammar.{Element, Mba, Mtype, slot, begun, counted, next, next_within_limit}
 use Rattle.pel_model.proofs.Walks.{goes-append, after-append}
 use Rattle.picture_laws.specs.SoFar.{IsJoined, last_of}
-use Rattle.picture_laws.specs.Elements as by_record
+use Rattle.picture_laws.specs.PictureElements as by_record
 use Rattle.picture_laws.proofs.Chains.{goes-walk, words, word_in, next-is}
 use Rattle.picture_laws.proofs.Joins.{macroblock-joins}
 use Rattle.picture_laws.proofs.Limits.{goes-next, goes-within}

@@ -8,6 +8,7 @@ use Rattle.h261_pic.specs.Coded.{Coding, views, coding, grown, next_number, plac
 pub use Rattle.h261_pic.proofs.GroupMarks.{length-group_header}
 use Rattle.h261_pic.proofs.GroupMarks.{sent, sent-cons, length-group_marks, group_marks-append}
 use Rattle.h261_pic.proofs.PlacedMarks.{length-from_placed}
+use Rattle.pel_model.specs.Headers.{picture_header_text}
 use Rattle.pel_model.specs.declared.Mark.{Mark}
 use Rattle.pel_model.specs.Marks.{macroblock_marks, marks_of}
 use Rattle.pel_model.specs.declared.Format.{Format}
@@ -17,7 +18,7 @@ use Rattle.pel_model.specs.Records.{Group, Picture, with_group}
 use Rattle.pel_model.specs.Text.{text, picture_header, group_header, group_text, macroblocks_text}
 
 pub length-picture_header : (format : Format) (tr : ℕ) → length (picture_header format tr) ≡ 32
-unfolding picture_header field
+unfolding picture_header_text field
 length-picture_header Qcif tr = refl
 length-picture_header Cif tr = refl
 

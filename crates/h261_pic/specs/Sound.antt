@@ -2,7 +2,7 @@
 use Rattle.std.specs.Prelude.{◌≡◌, ◌+◌, ◌-◌, ◌*◌, ◌<◌, ◌≤◌, [], length}
 use Rattle.h261_pic.specs.declared.coded.Coded.TheInside.{Inside}
 use Rattle.h261_pic.specs.Coded.{Coding, HasPicture, nothing}
-use Rattle.pel_model.specs.Text.{group_header_length}
+use Rattle.pel_model.specs.Headers.{group_header_length}
 use Rattle.pel_model.specs.Valid.{group_count, limit}
 
 -- the text and the groups that the fields hold

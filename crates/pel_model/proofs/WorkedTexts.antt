@@ -1,5 +1,6 @@
 -- Worked pictures: the strict texts of three records, bit by bit.
 use Rattle.std.specs.Prelude.{◌≡◌, ℕ, zero, suc, ◌+◌, Bool, false, List, [], ◌∷◌, ◌++◌, length, replicate, Option, Some, None, ℤ, pos, negsuc, codes, refl}
+use Rattle.pel_model.specs.Headers.{group_header_text, picture_header_text}
 use Rattle.pel_model.specs.declared.Format.TheVariants.{Qcif, Cif}
 use Rattle.pel_model.specs.declared.MbKind.TheVariants.{Intra, Inter, Mc}
 use Rattle.pel_model.specs.declared.Quad.TheVariants.{Four}
@@ -7,7 +8,7 @@ use Rattle.pel_model.specs.Bits.{field, number}
 use Rattle.pel_model.specs.Codes.{word, mba_table, mtype_table, mvd_table, cbp_table, tcoeff_table}
 use Rattle.pel_model.specs.Records.{Block, Macroblock, Group, Picture}
 use Rattle.pel_model.specs.Regions.{shown_in}
-use Rattle.pel_model.specs.Text.{text, picture_header, group_header, macroblocks_text, macroblock_text, block_text, coefficient_word}
+use Rattle.pel_model.specs.Text.{text, macroblocks_text, macroblock_text, block_text, coefficient_word}
 
 abbrev sent : ℕ → List Macroblock → Picture
 sent tr macroblocks =
@@ -26,7 +27,7 @@ small = sent 1
 
 pub small_text : text Qcif small
     ≡ header ++ group_at (codes "0001") ++ word (codes "1" ++ codes "1" ++ codes "1010" ++ codes "10" ++ codes "10") ++ group_at (codes "0011") ++ group_at (codes "0101")
-unfolding picture_header group_header macroblocks_text macroblock_text block_text coefficient_word field number mba_table mtype_table mvd_table cbp_table tcoeff_table
+unfolding picture_header_text group_header_text macroblocks_text macroblock_text block_text coefficient_word field number mba_table mtype_table mvd_table cbp_table tcoeff_table
 small_text = refl
 
 abbrev moving : ℕ → ℤ → Macroblock
@@ -42,7 +43,7 @@ pub turn_text : text Qcif turn
     ++ word (codes "1" ++ codes "000000001" ++ codes "010" ++ codes "1")
     ++ word (codes "1" ++ codes "000000001" ++ codes "1" ++ codes "1")
     ++ group_at (codes "0011") ++ group_at (codes "0101")
-unfolding picture_header group_header macroblocks_text macroblock_text block_text coefficient_word field number mba_table mtype_table mvd_table cbp_table tcoeff_table
+unfolding picture_header_text group_header_text macroblocks_text macroblock_text block_text coefficient_word field number mba_table mtype_table mvd_table cbp_table tcoeff_table
 turn_text = refl
 
 -- a picture all of whose blocks have INTRADC 255 and no coefficient has 6,545 bits; in a CIF picture with nothing
@@ -63,5 +64,5 @@ abbrev grey : Picture
 grey = record { tr = 1; groups = grey_group 1 ∷ grey_group 3 ∷ grey_group 5 ∷ [] }
 
 pub grey_lengths : (length (text Qcif grey) ≡ 6545) × (length (text Cif (shown_in Four 1 grey)) ≡ 6779)
-unfolding picture_header group_header macroblocks_text macroblock_text block_text coefficient_word field number mba_table mtype_table mvd_table cbp_table tcoeff_table
+unfolding picture_header_text group_header_text macroblocks_text macroblock_text block_text coefficient_word field number mba_table mtype_table mvd_table cbp_table tcoeff_table
 grey_lengths = (refl, refl)

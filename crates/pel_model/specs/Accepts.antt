@@ -3,7 +3,8 @@ use Rattle.std.specs.Prelude.{◌≡◌, ℕ, ◌+◌, ◌*◌, ◌≤◌, Bool,
 use Rattle.pel_model.specs.declared.Format.{Format}
 use Rattle.pel_model.specs.declared.Format.TheVariants.{Cif}
 use Rattle.pel_model.specs.Records.{Picture}
-use Rattle.pel_model.specs.Text.{group_header_length, text}
+use Rattle.pel_model.specs.Headers.{group_header_length}
+use Rattle.pel_model.specs.Text.{text}
 use Rattle.pel_model.specs.Valid.{IsValid, limit}
 use Rattle.pel_model.specs.Spelling.{GroupForm, LeftOut, Sent, Form, sent_text, IsSpelling}
 

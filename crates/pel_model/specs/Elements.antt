@@ -1,10 +1,18 @@
--- The elements that a record is sent as, and the levels of its coefficients.
-use Rattle.std.specs.Prelude.{◌≡◌, ℕ, ◌-◌, ◌*◌, ◌==◌, cond, if◌then◌else◌, ℤ, pos, List, [], ◌∷◌, ◌++◌, length, map, flat_map, replicate, Option, Some, None}
+-- The elements that a record is sent as.
+use Rattle.std.specs.Prelude.{◌≡◌, ℕ, ◌%◌, Bool, true, false, cond, ℤ, List, [], ◌∷◌, ◌++◌, map, Option, Some, None}
 use Rattle.pel_model.specs.declared.MbKind.{MbKind}
 use Rattle.pel_model.specs.Codes.{has_vector, has_cbp}
-use Rattle.pel_model.specs.Records.{Across, Down, Coefficient, Block, Macroblock}
+use Rattle.pel_model.specs.Records.{Across, Down, Block, Macroblock}
 use Rattle.pel_model.specs.Text.{coded_block_pattern}
 use Rattle.pel_model.specs.Grammar.{Element, Gbsc, Stuffing, Mba, Mtype, Mquant, Mvd, Cbp, Dc, Tcoeff, Eob}
+
+-- ---- headers (4.2.1, 4.2.2)
+
+-- PEI and PSPARE, or GEI and GSPARE: a flag that is on before each spare octet, of which the last 8 bits are sent, and one
+-- that is off
+abbrev pub spare_elements : (Bool → Element) → (ℕ → Element) → List ℕ → List Element
+spare_elements flag spare [] = flag false ∷ []
+spare_elements flag spare (octet ∷ octets) = flag true ∷ spare (octet % 256) ∷ spare_elements flag spare octets
 
 -- ---- blocks (4.2.4)
 
@@ -22,26 +30,6 @@ block_elements b = coefficient_elements b ++ Eob ∷ []
 -- elements of a block, up to no end
 abbrev pub IsBlockSoFar : List Element → Type 0
 IsBlockSoFar es = (b : Block) × (es ≡ coefficient_elements b)
-
--- INTRADC: 11111111 stands for 1024, any other n for 8 n
-abbrev pub dc_level : ℕ → ℤ
-dc_level n = if n == 255 then pos 1024 else pos (8 * n)
-
-abbrev pub dc_levels : Option ℕ → List ℤ
-dc_levels None = []
-dc_levels (Some n) = dc_level n ∷ []
-
--- a coefficient with the zeros before it
-abbrev pub run_and_level : Coefficient → List ℤ
-run_and_level c = replicate c.run (pos 0) ++ c.level ∷ []
-
--- the levels that a block sends, in the order of transmission
-abbrev pub sent_levels : Block → List ℤ
-sent_levels b = dc_levels b.dc ++ flat_map run_and_level b.coefficients
-
--- all 64 levels of a block
-abbrev pub levels : Block → List ℤ
-levels b = sent_levels b ++ replicate (64 - length (sent_levels b)) (pos 0)
 
 -- ---- macroblocks (4.2.3)
 

@@ -1,5 +1,5 @@
 -- The grammar of a coded picture (H.261, 4.2): its elements, what may stand where, and which of them are at fault.
-use Rattle.std.specs.Prelude.{ℕ, zero, suc, ◌+◌, ◌-◌, ◌*◌, ◌/◌, ◌%◌, ◌==◌, ◌&&◌, ◌||◌, not, Bool, true, false, cond, ℤ, pos, negsuc, neg_ℤ, ◌+ℤ◌, List, [], ◌∷◌, ◌++◌, length, map, Option, Some, None, nat_lt, nat_le}
+use Rattle.std.specs.Prelude.{ℕ, zero, suc, ◌+◌, ◌-◌, ◌*◌, ◌/◌, ◌%◌, ◌==◌, ◌&&◌, ◌||◌, not, Bool, true, false, cond, ℤ, pos, negsuc, neg_ℤ, ◌+ℤ◌, List, [], ◌∷◌, ◌++◌, length, map, Option, Some, None, nat_lt}
 use Rattle.std.specs.List.{list_any}
 use Rattle.pel_model.specs.declared.Format.{Format}
 use Rattle.pel_model.specs.declared.Format.TheVariants.{Qcif, Cif}
@@ -9,9 +9,10 @@ use Rattle.pel_model.specs.declared.Why.{Why}
 use Rattle.pel_model.specs.declared.Why.TheVariants.{NoStart, WrongFormat, StillImage, NoCode, BadGroup, BadQuant, BadAddress, BadVector, VectorOutside, BadDc, BadLevel, TooMany, TooLong}
 use Rattle.pel_model.specs.Codes.{picture_start_code, group_start_code, mba_table, stuffing_word, mtype_table, mvd_table, cbp_table, tcoeff_table, first_one_word, later_one_word, escape_word, end_of_block_word, is_intra, has_mquant, has_vector, has_cbp}
 use Rattle.pel_model.specs.Records.{Axis, Across, Down, Coefficient, quantiser_after}
-use Rattle.pel_model.specs.Text.{group_header_length}
-use Rattle.pel_model.specs.Valid.{side, corner, group_numbers, group_count, limit}
-use Rattle.pel_model.specs.Walk.{Standing, Stop, Bad, Row, read, judged}
+use Rattle.pel_model.specs.Headers.{group_header_length}
+use Rattle.pel_model.specs.Text.{resets_predictor}
+use Rattle.pel_model.specs.Valid.{side, corner, stays_within, group_size, group_numbers, group_count, limit}
+use Rattle.pel_model.specs.Walk.{Reading, Standing, Stop, Bad, Row, read, judged}
 
 -- ---- elements
 
@@ -103,10 +104,6 @@ abbrev pub same_axis : Axis → Axis → Bool
 same_axis Across Across = true
 same_axis Down Down = true
 same_axis _ _ = false
-
--- the vector before does not predict that of a macroblock with this difference of addresses and this address
-abbrev pub resets_predictor : ℕ → ℕ → Bool
-resets_predictor difference at = not (difference == 1) || at == 1 || at == 12 || at == 23
 
 -- a component of the last macroblock's vector, 0 where its kind has none; before its MVD the predictor
 abbrev pub vector_component : Axis → List Element → ℤ
@@ -234,11 +231,6 @@ names_format Cif ptype = ptype / 4 % 2 == 1
 abbrev pub is_group : Format → ℕ → Bool
 is_group format n = list_any (λ number. number == n) (group_numbers format)
 
--- 16 samples from `first` on, moved by the component, lie within the side
-abbrev pub stays_within : ℕ → ℕ → ℤ → Bool
-stays_within side first (pos n) = nat_le (first + n + 16) side
-stays_within side first (negsuc n) = nat_le (n + 1) first
-
 abbrev pub is_forbidden_level : ℤ → Bool
 is_forbidden_level (pos n) = n == 0
 is_forbidden_level (negsuc n) = n == 127
@@ -249,7 +241,7 @@ faults format before (Ptype p) = (not (names_format format p), WrongFormat) ∷ 
 faults format before (Gn n) = (not (is_group format n && nat_lt (group before) n), BadGroup) ∷ []
 faults format before (Gquant q) = (q == 0, BadQuant) ∷ []
 faults format before (Mquant q) = (q == 0, BadQuant) ∷ []
-faults format before (Mba n) = (nat_lt 33 (address before + n), BadAddress) ∷ []
+faults format before (Mba n) = (nat_lt group_size (address before + n), BadAddress) ∷ []
 faults format before (Mvd axis v) =
     (not (in_range (component_from (vector_component axis before) v)), BadVector)
     ∷ (not (stays_within (side format axis) (corner axis (group before) (address before)) (component_from (vector_component axis before) v)), VectorOutside)
@@ -284,7 +276,7 @@ abbrev pub at_slot : Slot → List Bool → Standing Element
 at_slot place left = cond (may_end place && is_end left) Stop (or_no_start place (read (rows place) left))
 
 -- what stands behind these elements, whatever the length of the picture
-unfoldable pub next : Format → List Element → List Bool × ℕ → Standing Element
+unfoldable pub next : Format → List Element → Reading → Standing Element
 next format before r = judged (λ e n. first_why (faults format before e)) (at_slot (slot before) r.0)
 
 -- ---- the limit of a picture
@@ -294,7 +286,7 @@ abbrev pub counted : Format → List Element → ℕ → ℕ
 counted format before end = end + group_header_length * (group_count format - begun before)
 
 -- what stands behind these elements in a picture; last of all conditions, no element ends past the limit
-unfoldable pub next_within_limit : Format → List Element → List Bool × ℕ → Standing Element
+unfoldable pub next_within_limit : Format → List Element → Reading → Standing Element
 next_within_limit format before r =
     judged (λ e n. cond (nat_lt (limit format) (counted format (e ∷ before) (r.1 + n))) (Some TooLong) None)
     (next format before r)

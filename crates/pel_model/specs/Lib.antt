@@ -7,6 +7,8 @@ pub mod Decode
 pub mod Elements
 pub mod Frames
 pub mod Grammar
+pub mod Headers
+pub mod Levels
 pub mod Marks
 pub mod Own
 pub mod Plan

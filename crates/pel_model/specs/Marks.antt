@@ -4,7 +4,8 @@ use Rattle.std.specs.Prelude.{ℕ, ◌+◌, List, [], ◌∷◌, ◌++◌, lengt
 use Rattle.pel_model.specs.declared.Mark.{Mark}
 use Rattle.pel_model.specs.Codes.{is_intra}
 use Rattle.pel_model.specs.Records.{Macroblock, Group, Picture, quantiser_after}
-use Rattle.pel_model.specs.Text.{picture_header_length, group_header_length, macroblock_text, group_text}
+use Rattle.pel_model.specs.Headers.{picture_header_length, group_header_length}
+use Rattle.pel_model.specs.Text.{macroblock_text, group_text}
 
 -- the mark of a macroblock whose first bit stands at `at`, in the group with this number
 abbrev pub mark_of : (at number quant : ℕ) → Option Macroblock → Macroblock → Mark

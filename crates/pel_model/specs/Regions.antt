@@ -32,9 +32,13 @@ number_in place n = n + right place + 6 * below place
 abbrev pub renumbered : ℕ → Group → Group
 renumbered number g = record g { number = number }
 
--- the groups of a QCIF picture with the numbers of a place
-abbrev pub moved : Quad → Picture → List Group
-moved place picture = map (λ (g : Group). renumbered (number_in place g.number) g) picture.groups
+-- a group of a QCIF picture with its number in a place
+abbrev pub renumbered_for : Quad → Group → Group
+renumbered_for place g = renumbered (number_in place g.number) g
+
+-- the groups of a QCIF picture with their numbers in a place
+abbrev pub groups_for : Quad → Picture → List Group
+groups_for place picture = map (renumbered_for place) picture.groups
 
 -- a group that sends nothing
 abbrev pub empty_group : ℕ → Group
@@ -54,7 +58,7 @@ side_by_side (g ∷ gs) (h ∷ hs) = g ∷ h ∷ side_by_side gs hs
 abbrev pub composed : ℕ → (one two three four : Picture) → Picture
 composed tr one two three four = record {
   tr = tr;
-  groups = side_by_side (moved One one) (moved Two two) ++ side_by_side (moved Three three) (moved Four four);
+  groups = side_by_side (groups_for One one) (groups_for Two two) ++ side_by_side (groups_for Three three) (groups_for Four four);
 }
 
 -- the CIF picture that shows this picture in one place, and nothing elsewhere

@@ -1,12 +1,12 @@
 -- The strict text of a picture: the words of its layers (H.261, 4.2), in order, with no spare byte, no stuffing and
 -- no bit behind the last word.
-use Rattle.std.specs.Prelude.{ℕ, ◌+◌, ◌-◌, ◌==◌, ◌&&◌, ◌||◌, not, Bool, true, false, cond, if◌then◌else◌, ℤ, pos, negsuc, ◌-ℤ◌, nat_abs, List, [], ◌∷◌, ◌++◌, map, flat_map, Option, Some, None, is_some, codes}
+use Rattle.std.specs.Prelude.{ℕ, ◌-◌, ◌==◌, ◌&&◌, ◌||◌, not, Bool, true, false, cond, if◌then◌else◌, ℤ, pos, negsuc, ◌-ℤ◌, nat_abs, List, [], ◌∷◌, ◌++◌, map, flat_map, Option, Some, None, is_some}
 use Rattle.std.specs.Ordering.{int_eq}
 use Rattle.pel_model.specs.declared.Format.{Format}
-use Rattle.pel_model.specs.declared.Format.TheVariants.{Qcif, Cif}
 use Rattle.pel_model.specs.declared.MbKind.{MbKind}
 use Rattle.pel_model.specs.Bits.{field, number}
-use Rattle.pel_model.specs.Codes.{word, picture_start_code, group_start_code, mba_table, mtype_table, mvd_table, cbp_table, tcoeff_table, first_one_word, later_one_word, escape_word, end_of_block_word, row_of, has_vector, has_cbp}
+use Rattle.pel_model.specs.Codes.{mba_table, mtype_table, mvd_table, cbp_table, tcoeff_table, first_one_word, later_one_word, escape_word, end_of_block_word, row_of, has_vector, has_cbp}
+use Rattle.pel_model.specs.Headers.{strict_bits, picture_header_text, group_header_text}
 use Rattle.pel_model.specs.Records.{Axis, Across, Down, Coefficient, Block, Macroblock, Group, Picture, component}
 
 -- the word of a table whose meaning passes the test
@@ -62,15 +62,16 @@ abbrev pub address_of : Option Macroblock → ℕ
 address_of None = 0
 address_of (Some m) = m.address
 
--- the vector of the macroblock before does not predict this one's (4.2.3.4): at the left edge of the group's rows,
--- after an address that was not sent, and after a macroblock that has no vector
-abbrev pub starts_anew : Macroblock → Macroblock → Bool
-starts_anew last m =
-    (m.address == 12) || (m.address == 23) || not (m.address == last.address + 1) || not (has_vector last.kind)
+-- the vector before does not predict that of a macroblock with this difference of addresses and this address (4.2.3.4):
+-- at the left edge of the group's rows, and after an address that was not sent
+abbrev pub resets_predictor : (difference address : ℕ) → Bool
+resets_predictor difference address = not (difference == 1) || address == 1 || address == 12 || address == 23
 
+-- a component of the vector before, 0 where it does not predict, or where the macroblock before has no vector
 abbrev pub predictor : Axis → Option Macroblock → Macroblock → ℤ
 predictor axis None m = pos 0
-predictor axis (Some last) m = cond (starts_anew last m) (pos 0) (component axis last)
+predictor axis (Some last) m =
+    cond (resets_predictor (m.address - last.address) m.address || not (has_vector last.kind)) (pos 0) (component axis last)
 
 abbrev pub mba_word : Option Macroblock → Macroblock → List Bool
 mba_word last m = word_of (λ n. n == m.address - address_of last) mba_table
@@ -108,29 +109,15 @@ macroblocks_text last (m ∷ ms) = macroblock_text last m ++ macroblocks_text (S
 
 -- ---- the layers of groups and pictures (4.2.2, 4.2.1)
 
--- GBSC, GN, GQUANT, and a GEI of 0
-unfoldable pub group_header : ℕ → ℕ → List Bool
-group_header number quant = group_start_code ++ field number 4 ++ field quant 5 ++ false ∷ []
-
--- its length
-abbrev pub group_header_length : ℕ
-group_header_length = 26
+-- a header without spare octets
+abbrev pub group_header : (number quant : ℕ) → List Bool
+group_header number quant = group_header_text number quant []
 
 abbrev pub group_text : Group → List Bool
 group_text g = group_header g.number g.quant ++ macroblocks_text None g.macroblocks
 
--- PTYPE (4.2.1.3): no split screen, no document camera, no freeze release, the format, HI_RES off, spare 1
-abbrev pub picture_type : Format → List Bool
-picture_type Qcif = word (codes "000011")
-picture_type Cif = word (codes "000111")
-
--- PSC, TR, PTYPE, and a PEI of 0
-unfoldable pub picture_header : Format → ℕ → List Bool
-picture_header format tr = picture_start_code ++ field tr 5 ++ picture_type format ++ false ∷ []
-
--- its length
-abbrev pub picture_header_length : ℕ
-picture_header_length = 32
+abbrev pub picture_header : Format → (tr : ℕ) → List Bool
+picture_header format tr = picture_header_text format strict_bits [] tr
 
 abbrev pub text : Format → Picture → List Bool
 text format picture = picture_header format picture.tr ++ flat_map group_text picture.groups

@@ -1,5 +1,5 @@
 -- Valid pictures: the records that H.261 allows.
-use Rattle.std.specs.Prelude.{◌≡◌, ℕ, ◌+◌, ◌-◌, ◌*◌, ◌/◌, ◌%◌, ◌<◌, ◌≤◌, ◌≢◌, ◌==◌, ◌&&◌, Bool, ℤ, pos, negsuc, nat_abs, List, [], ◌∷◌, length, map, take, sum_by, All, Any, Option, IsSome, IsNone, IfSome, IsSomeAnd, IsTrue, MatchBool}
+use Rattle.std.specs.Prelude.{◌≡◌, ℕ, ◌+◌, ◌-◌, ◌*◌, ◌/◌, ◌%◌, ◌<◌, ◌≤◌, ◌≢◌, ◌==◌, ◌&&◌, nat_le, Bool, true, ℤ, pos, negsuc, nat_abs, List, [], ◌∷◌, length, map, take, sum_by, All, Any, Option, IsSome, IsNone, IfSome, IsSomeAnd, IsTrue, MatchBool}
 use Rattle.std.specs.List.{list_any}
 use Rattle.pel_model.specs.declared.Format.{Format}
 use Rattle.pel_model.specs.declared.Format.TheVariants.{Qcif, Cif}
@@ -62,15 +62,15 @@ corner Across group address = 176 * ((group - 1) % 2) + 16 * ((address - 1) % 11
 corner Down group address = 48 * ((group - 1) / 2) + 16 * ((address - 1) / 11)
 
 -- 16 samples from `first` on, moved by the component, lie within the side
-abbrev pub StaysWithin : ℕ → ℕ → ℤ → Type 0
-StaysWithin side first (pos n) = first + n + 16 ≤ side
-StaysWithin side first (negsuc n) = n + 1 ≤ first
+abbrev pub stays_within : (side first : ℕ) → ℤ → Bool
+stays_within side first (pos n) = nat_le (first + n + 16) side
+stays_within side first (negsuc n) = nat_le (n + 1) first
 
 -- a component from -15 to 15 that refers to samples of the picture alone (3.2.2), or 0 where the kind has no vector
 abbrev pub ComponentFits : Format → ℕ → Axis → Macroblock → Type 0
 ComponentFits format group axis m =
     MatchBool (has_vector m.kind)
-    ((nat_abs (component axis m) ≤ 15) × StaysWithin (side format axis) (corner axis group m.address) (component axis m))
+    ((nat_abs (component axis m) ≤ 15) × (stays_within (side format axis) (corner axis group m.address) (component axis m) ≡ true))
     (component axis m ≡ pos 0)
 
 pub record IsValidMacroblock (format : Format) (group : ℕ) (m : Macroblock) : Type 0 where
@@ -82,10 +82,14 @@ pub record IsValidMacroblock (format : Format) (group : ℕ) (m : Macroblock) : 
 
 -- ---- groups and pictures (4.2.2, 4.2.1)
 
+-- how many macroblocks a group has (4.2.2)
+abbrev pub group_size : ℕ
+group_size = 33
+
 -- the addresses rise from above `last` up to 33 at most
 abbrev pub AddressesRise : ℕ → List Macroblock → Type 0
 AddressesRise last [] = Unit {0}
-AddressesRise last (m ∷ ms) = (last < m.address) × (m.address ≤ 33) × AddressesRise m.address ms
+AddressesRise last (m ∷ ms) = (last < m.address) × (m.address ≤ group_size) × AddressesRise m.address ms
 
 pub record IsValidGroup (format : Format) (g : Group) : Type 0 where
   pub quant : IsQuantiser g.quant
@@ -99,6 +103,10 @@ group_numbers Cif = 1 ∷ 2 ∷ 3 ∷ 4 ∷ 5 ∷ 6 ∷ 7 ∷ 8 ∷ 9 ∷ 10 ∷
 
 abbrev pub group_count : Format → ℕ
 group_count format = length (group_numbers format)
+
+-- how many macroblocks a picture has (3.1): 99 and 396
+abbrev pub macroblock_count : Format → ℕ
+macroblock_count format = group_size * group_count format
 
 -- a picture that has its first groups
 pub record IsValidSoFar (format : Format) (picture : Picture) : Type 0 where

@@ -7,7 +7,7 @@ use Rattle.pel_model.specs.Walk.{Standing, Good, Stop, Bad, skipped, start, afte
 use Rattle.pel_model.specs.Grammar.{Element, slot, next_within_limit, next}
 use Rattle.pel_model.proofs.Walks.{one_fault, not_both, one_reading}
 use Rattle.picture_laws.specs.Laws.{HasRecordOrFault, NeverBoth, OneSpelling, OneRecord, OneFault}
-use Rattle.picture_laws.specs.Elements.{elements}
+use Rattle.picture_laws.specs.PictureElements.{elements}
 use Rattle.picture_laws.proofs.Told.{told-one}
 use Rattle.picture_laws.proofs.Slots.{word_at}
 use Rattle.picture_laws.proofs.Chains.{next-is}
@@ -62,8 +62,8 @@ pub record-or-fault : HasRecordOrFault
 record-or-fault format bits =
     let e = ends (suc (length bits)) format [] (start bits) (omega arith) in
     elim e.over [
-      | inl stop ↦ let w = walk-record format bits e.es (e.end, e.walk, stop) in inl (w.0, w.2)
-      | inr bad ↦ inr (e.end.1, bad.0, (e.es, e.end, e.walk, bad.1, refl))
+      | inl stop ↦ let w = walk-record format bits e.es (record { end = e.end; walk = e.walk; stop = stop }) in inl (w.0, w.2)
+      | inr bad ↦ inr (e.end.1, bad.0, record { elements = e.es; end = e.end; walk = e.walk; bad = bad.1; place_is = refl })
     ]
 
 -- two pictures of the same bits are one
@@ -71,7 +71,7 @@ pub one-spelling : OneSpelling
 one-spelling format bits p q a valid b valid' =
     let x = spelled-read format bits a.0 p a.1 valid in
     let y = spelled-read format bits b.0 q b.1 valid' in
-    let same : elements format a.0 p ≡ elements format b.0 q = one_reading (next format) bits (elements format a.0 p) (elements format b.0 q) (_, x.0, x.1) (_, y.0, y.1) in
+    let same : elements format a.0 p ≡ elements format b.0 q = one_reading (next format) bits (elements format a.0 p) (elements format b.0 q) (record { end = _; walk = x.0; stop = x.1 }) (record { end = _; walk = y.0; stop = y.1 }) in
     told-one format (elements format b.0 q) p q (a.0, a.1.fits, sym same) valid (b.0, b.1.fits, refl) valid'
 
 pub one-record : OneRecord

@@ -13,12 +13,14 @@ use Rattle.pel_model.specs.Codes.{stuffing_word}
 use Rattle.pel_model.specs.Records.{Across, Down, Macroblock, Group}
 use Rattle.pel_model.specs.Text.{address_of, macroblock_text}
 use Rattle.pel_model.specs.Valid.{IsValidMacroblock, AddressesRise, IsValidGroup, group_numbers}
-use Rattle.pel_model.specs.Spelling.{GroupForm, LeftOut, Sent, GroupsFit, spare_text, stuffing_text, stuffed_text, group_header_text, sent_group_text, sent_groups_text}
+use Rattle.pel_model.specs.Headers.{spare_text, group_header_text}
+use Rattle.pel_model.specs.Spelling.{GroupForm, LeftOut, Sent, GroupsFit, stuffing_text, stuffed_text, sent_group_text, sent_groups_text}
 use Rattle.pel_model.specs.Walk.{after}
 use Rattle.pel_model.specs.Grammar.{Element, Pei, Pspare, Gbsc, Gn, Gquant, Gei, Gspare, Stuffing, Slot, AtPei, AtGroup, AtGei, AtMacroblock, slot, group, vector_component, is_group}
 use Rattle.pel_model.proofs.Walks.{after-append}
 use Rattle.picture_laws.specs.SoFar.{IsBehind, last_component}
-use Rattle.picture_laws.specs.Elements.{macroblock_elements, macroblocks_elements, spare_elements, group_elements, groups_elements}
+use Rattle.pel_model.specs.Elements.{spare_elements}
+use Rattle.picture_laws.specs.PictureElements.{macroblock_elements, macroblocks_elements, group_elements, groups_elements}
 use Rattle.vlc_codes.proofs.FoundRows.{Among, among-all}
 use Rattle.picture_laws.proofs.Slots.{Takes, gbsc}
 use Rattle.picture_laws.proofs.Words.{field-mod}

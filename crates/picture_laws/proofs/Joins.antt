@@ -13,13 +13,12 @@ use Rattle.pel_model.specs.Valid.{IsQuantiser, IsValidMacroblock, AddressesRise,
 use Rattle.pel_model.specs.Spelling.{GroupForm, LeftOut, Sent, GroupFits, GroupsFit}
 use Rattle.pel_model.specs.Accepts.{Accepts}
 use Rattle.pel_model.specs.Walk.{after, Goes}
-use Rattle.pel_model.specs.Grammar as grammar
-use Rattle.pel_model.specs.Grammar.{address, vector_component, Eob, Slot, quantiser, Cbp, Tcoeff, Element, Psc, Tr, Ptype, Gbsc, Gn, Gquant, Gei, Gspare, Stuffing, Mba, Mtype, AtGroup, AtGquant, AtMacroblock, slot, may_end, next}
+use Rattle.pel_model.specs.Grammar.{address, vector_component, Slot, quantiser, Cbp, Element, Psc, Tr, Ptype, Gbsc, Gn, Gquant, Gei, Gspare, Stuffing, Mba, Mtype, AtGroup, AtGquant, AtMacroblock, slot, may_end, next}
 use Rattle.pel_model.proofs.Walks.{after-append}
 use Rattle.pel_model.proofs.InsideElements.{inside-right}
 use Rattle.picture_laws.specs.Laws.{StandInside}
-use Rattle.pel_model.specs.Elements.{block_elements, blocks_elements, mquant_elements, AreInside}
-use Rattle.picture_laws.specs.Elements.{mvd_element, vector_elements, cbp_elements, macroblock_elements, macroblocks_elements, spare_elements, group_elements, groups_elements, header_elements}
+use Rattle.pel_model.specs.Elements.{block_elements, blocks_elements, mquant_elements, AreInside, spare_elements}
+use Rattle.picture_laws.specs.PictureElements.{mvd_element, vector_elements, cbp_elements, macroblock_elements, macroblocks_elements, group_elements, groups_elements, header_elements}
 use Rattle.picture_laws.specs.SoFar.{IsBehind, last_of, group_of, IsGroupSoFar, GroupBegins, StuffingJoins, IsJoined, MacroblockJoins, IsPictureSoFar, next_number, HeaderBegins, GroupIsLeftOut, GroupIsSent, PictureIsTold, PictureIsAccepted, InsideStands}
 use Rattle.picture_laws.proofs.Slots.{Takes, IsStep}
 use Rattle.picture_laws.proofs.Chains.{Chain, words, goes-walk}

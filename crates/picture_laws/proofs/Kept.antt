@@ -169,8 +169,12 @@ kept_start format bits = let k : limit format + 64 - 0 ≡ limit format + 64 = o
 
 keep_reads : (format : Format) (bits : List Bool) (es : List Element) → Reads (next_within_limit format) bits es → Reads (next_within_limit format) (take (limit format + 64) bits) es
 keep_reads format bits es reads =
-    let k = keep format [] (start bits) reads.0 es (omega arith) reads.1 in
-    (kept format reads.0, subst (λ x. Goes (next_within_limit format) [] x es (kept format reads.0)) (kept_start format bits) k.0, kept_step format (after [] es) reads.0 k.1 ∙ reads.2)
+    let k = keep format [] (start bits) reads.end es (omega arith) reads.walk in
+    record {
+      end = kept format reads.end;
+      walk = subst (λ x. Goes (next_within_limit format) [] x es (kept format reads.end)) (kept_start format bits) k.0;
+      stop = kept_step format (after [] es) reads.end k.1 ∙ reads.stop;
+    }
 
 unkept_from : (format : Format) (bits : List Bool) (es : List Element) (cut : List Bool × ℕ) → Goes (next_within_limit format) [] (start (take (limit format + 64) bits)) es cut → IsUnkept format [] (start bits) es cut
 unkept_from format bits es cut goes = unkeep format [] (start bits) cut es (omega arith) (subst (λ x. Goes (next_within_limit format) [] x es cut) (sym (kept_start format bits)) goes)
@@ -180,18 +184,30 @@ unkept_answer format before cut end s same within h = sym (kept_step format befo
 
 unkeep_reads : (format : Format) (bits : List Bool) (es : List Element) → Reads (next_within_limit format) (take (limit format + 64) bits) es → Reads (next_within_limit format) bits es
 unkeep_reads format bits es reads =
-    let u = unkept_from format bits es reads.0 reads.1 in
-    (u.end, u.walk, unkept_answer format (after [] es) reads.0 u.end Stop u.same u.within reads.2)
+    let u = unkept_from format bits es reads.end reads.walk in
+    record { end = u.end; walk = u.walk; stop = unkept_answer format (after [] es) reads.end u.end Stop u.same u.within reads.stop }
 
 keep_fault : (format : Format) (bits : List Bool) (place : ℕ) (why : Why) → FirstFault (next_within_limit format) bits place why → FirstFault (next_within_limit format) (take (limit format + 64) bits) place why
 keep_fault format bits place why fault =
-    let k = keep format [] (start bits) fault.1 fault.0 (omega arith) fault.2 in
-    (fault.0, kept format fault.1, subst (λ x. Goes (next_within_limit format) [] x fault.0 (kept format fault.1)) (kept_start format bits) k.0, kept_step format (after [] fault.0) fault.1 k.1 ∙ fault.3, fault.4)
+    let k = keep format [] (start bits) fault.end fault.elements (omega arith) fault.walk in
+    record {
+      elements = fault.elements;
+      end = kept format fault.end;
+      walk = subst (λ x. Goes (next_within_limit format) [] x fault.elements (kept format fault.end)) (kept_start format bits) k.0;
+      bad = kept_step format (after [] fault.elements) fault.end k.1 ∙ fault.bad;
+      place_is = fault.place_is;
+    }
 
 unkeep_fault : (format : Format) (bits : List Bool) (place : ℕ) (why : Why) → FirstFault (next_within_limit format) (take (limit format + 64) bits) place why → FirstFault (next_within_limit format) bits place why
 unkeep_fault format bits place why fault =
-    let u = unkept_from format bits fault.0 fault.1 fault.2 in
-    (fault.0, u.end, u.walk, unkept_answer format (after [] fault.0) fault.1 u.end (Bad why) u.same u.within fault.3, fault.4 ∙ ap (λ (x : List Bool × ℕ). x.1) u.same)
+    let u = unkept_from format bits fault.elements fault.end fault.walk in
+    record {
+      elements = fault.elements;
+      end = u.end;
+      walk = u.walk;
+      bad = unkept_answer format (after [] fault.elements) fault.end u.end (Bad why) u.same u.within fault.bad;
+      place_is = fault.place_is ∙ ap (λ (x : List Bool × ℕ). x.1) u.same;
+    }
 
 -- the same elements, the same picture
 same_record : (format : Format) (bits others : List Bool) (pic : Picture) → ((es : List Element) → Reads (next_within_limit format) bits es → Reads (next_within_limit format) others es) → Accepts format bits pic → Accepts format others pic

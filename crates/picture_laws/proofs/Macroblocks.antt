@@ -9,21 +9,20 @@ use Rattle.pel_model.specs.declared.Why.TheVariants.{BadQuant, BadAddress, BadVe
 use Rattle.pel_model.specs.Codes.{is_intra, has_mquant, has_vector, has_cbp, mvd_table}
 use Rattle.pel_model.specs.Bits.{field, number}
 use Rattle.pel_model.specs.Records.{Axis, Across, Down, Block, Macroblock, component}
-use Rattle.pel_model.specs.Text.{address_of, predictor, mba_word, mtype_word, mquant_text, mvd_word, mvd_text, cbp_text, coded_block_pattern, sent_block_text, macroblock_text}
-use Rattle.pel_model.specs.Valid.{IsQuantiser, side, corner, StaysWithin, ComponentFits, IsIntraBlock, IsCodedBlock, BlocksFit, IsValidMacroblock}
+use Rattle.pel_model.specs.Text.{address_of, predictor, mba_word, mtype_word, mquant_text, mvd_word, mvd_text, cbp_text, coded_block_pattern, sent_block_text, macroblock_text, resets_predictor}
+use Rattle.pel_model.specs.Valid.{IsQuantiser, side, corner, ComponentFits, IsIntraBlock, IsCodedBlock, BlocksFit, IsValidMacroblock, stays_within}
 use Rattle.pel_model.specs.Walk.{after}
-use Rattle.pel_model.specs.Grammar as grammar
-use Rattle.pel_model.specs.Grammar.{Element, Mba, Mtype, Mquant, Mvd, Cbp, Slot, AtMacroblock, AtMtype, AtMquant, AtMvd, AtCbp, slot, kind, blocks, group, address, vector_component, faults, first_why, block_slot, cbp_slot, vector_slot, ones, component_from, in_range, stays_within}
+use Rattle.pel_model.specs.Grammar.{Element, Mba, Mtype, Mquant, Mvd, Cbp, AtMacroblock, AtMquant, AtMvd, AtCbp, slot, kind, blocks, group, address, vector_component, block_slot, cbp_slot, vector_slot, ones, component_from, in_range}
 use Rattle.pel_model.proofs.Walks.{after-append}
 use Rattle.pel_model.specs.Elements.{mquant_elements, blocks_elements}
 use Rattle.picture_laws.specs.SoFar.{IsBehind, IsLast}
-use Rattle.picture_laws.specs.Elements.{pair_in, mvd_element, vector_elements, cbp_elements, macroblock_elements}
+use Rattle.picture_laws.specs.PictureElements.{pair_in, mvd_element, vector_elements, cbp_elements, macroblock_elements}
 use Rattle.picture_laws.proofs.Slots.{word_at, Takes}
 use Rattle.picture_laws.proofs.Words.{number_below}
 use Rattle.std.proofs.lemmas.List.{length-map}
 use Rattle.picture_laws.proofs.Patterns.{ones-trues, number-some, sent-trues, blocks-intra, blocks-coded, blocks-none, any-sent, not-both}
 use Rattle.picture_laws.proofs.Chains.{Stands, word_in}
-use Rattle.picture_laws.proofs.Vectors.{pair-of, predicted, predictor-small, in-range, stays}
+use Rattle.picture_laws.proofs.Vectors.{pair-of, predicted, predictor-small, in-range}
 use Rattle.picture_laws.proofs.Blocks.{Says, says-none, says-cons, says-append, says-text, one_pass, two_pass, state, sent, AreBlocksOf, says-blocks, blocks-state, blocks-slot}
 
 pub says-same : (format : Format) (before es es' : List Element) (a b : List Bool) → es ≡ es' → a ≡ b → Says format before es a → Says format before es' b
@@ -73,7 +72,7 @@ both_axes P a d Across = a
 both_axes P a d Down = d
 
 abbrev IsFit : Format → ℕ → Axis → Macroblock → Type 0
-IsFit format number axis m = (nat_abs (component axis m) ≤ 15) × StaysWithin (side format axis) (corner axis number m.address) (component axis m)
+IsFit format number axis m = (nat_abs (component axis m) ≤ 15) × (stays_within (side format axis) (corner axis number m.address) (component axis m) ≡ true)
 
 stands_mvd : (format : Format) (before : List Element) (number : ℕ) (axis : Axis) (last : Option Macroblock) (m : Macroblock) → IsLast last → slot before ≡ AtMvd axis → group before ≡ number → address before ≡ m.address → vector_component axis before ≡ predictor axis last m → IsFit format number axis m → Stands format before (mvd_element axis last m) × (word_in before (mvd_element axis last m) ≡ mvd_word axis last m) × (component_from (vector_component axis before) (pair_in (component axis m -ℤ predictor axis last m) mvd_table) ≡ component axis m)
 stands_mvd format before number axis last m is at group_is address_is vector_is fit =
@@ -84,7 +83,7 @@ stands_mvd format before number axis last m is at group_is address_is vector_is 
     let within : stays_within (side format axis) (corner axis (group before) (address before)) (component_from (vector_component axis before) (pair_in (component axis m -ℤ predictor axis last m) mvd_table)) ≡ true =
     ap (λ g. stays_within (side format axis) (corner axis g (address before)) (component_from (vector_component axis before) (pair_in (component axis m -ℤ predictor axis last m) mvd_table))) group_is
     ∙ (ap (λ a. stays_within (side format axis) (corner axis number a) (component_from (vector_component axis before) (pair_in (component axis m -ℤ predictor axis last m) mvd_table))) address_is
-    ∙ (ap (stays_within (side format axis) (corner axis number m.address)) gives ∙ stays (side format axis) (corner axis number m.address) (component axis m) fit.1)) in (
+    ∙ (ap (stays_within (side format axis) (corner axis number m.address)) gives ∙ fit.1)) in (
       record {
         takes = subst (λ s. Takes s (mvd_element axis last m)) (sym at) (pair.row, pair.among, ap (Mvd axis) (sym pair.is));
         good = two_pass _ _ BadVector VectorOutside (ap not inside) (ap not within);
@@ -215,9 +214,9 @@ at-vector number last m before place rise at =
     let sum : address before + (m.address - address_of last) ≡ m.address = omega (arith, place.address_is, rise) in
     let predicts = λ (axis : Axis).
     ap (λ b. cond (has_vector m.kind) b (pos 0))
-    (ap (λ a. cond (grammar.resets_predictor (m.address - address_of last) a) (pos 0) (vector_component axis before)) sum
-    ∙ (ap (λ z. cond (grammar.resets_predictor (m.address - address_of last) m.address) (pos 0) z) (place.vector_is axis)
-    ∙ sym (predicted axis last m place.last_is rise))) in
+    (ap (λ a. cond (resets_predictor (m.address - address_of last) a) (pos 0) (vector_component axis before)) sum
+    ∙ (ap (λ z. cond (resets_predictor (m.address - address_of last) m.address) (pos 0) z) (place.vector_is axis)
+    ∙ sym (predicted axis last m place.last_is))) in
     record {
       at = at;
       kind_is = ap (λ (s : MbKind × ℕ × ℕ × ℤ × ℤ). s.0) same;

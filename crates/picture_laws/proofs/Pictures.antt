@@ -10,13 +10,14 @@ use Rattle.pel_model.specs.Codes.{has_vector, has_cbp}
 use Rattle.pel_model.specs.Records.{Across, Down, Block, Coefficient, Macroblock, Group, Picture}
 use Rattle.pel_model.specs.Text.{coded_block_pattern}
 use Rattle.pel_model.specs.Valid.{group_numbers, limit, IsValid}
-use Rattle.pel_model.specs.Spelling.{FreeBits, GroupForm, LeftOut, Sent, Form, GroupsFit, type_text, header_text, sent_groups_text, sent_text, IsSpelling}
+use Rattle.pel_model.specs.Headers.{FreeBits, type_text, picture_header_text}
+use Rattle.pel_model.specs.Spelling.{GroupForm, LeftOut, Sent, Form, GroupsFit, sent_groups_text, sent_text, IsSpelling}
 use Rattle.pel_model.specs.Accepts.{left_out}
 use Rattle.pel_model.specs.Walk.{Stop, start, after, Goes, judged, read}
 use Rattle.pel_model.specs.Grammar.{Element, Psc, Tr, Ptype, Pei, Pspare, Gbsc, Gei, Gspare, Stuffing, Cbp, Tcoeff, Eob, Slot, AtGroup, AtMacroblock, slot, begun, faults, first_why, is_group, may_end, is_end, or_no_start, rows, next}
 use Rattle.pel_model.proofs.Walks.{after-append}
-use Rattle.pel_model.specs.Elements.{dc_elements, block_elements, blocks_elements, mquant_elements}
-use Rattle.picture_laws.specs.Elements.{mvd_element, vector_elements, cbp_elements, macroblock_elements, macroblocks_elements, spare_elements, group_elements, groups_elements, header_elements, elements}
+use Rattle.pel_model.specs.Elements.{dc_elements, block_elements, blocks_elements, mquant_elements, spare_elements}
+use Rattle.picture_laws.specs.PictureElements.{mvd_element, vector_elements, cbp_elements, macroblock_elements, macroblocks_elements, group_elements, groups_elements, header_elements, elements}
 use Rattle.picture_laws.specs.Laws.{AcceptedIsRead}
 use Rattle.picture_laws.proofs.Slots.{psc}
 use Rattle.picture_laws.proofs.Words.{field-number, number_below}
@@ -89,8 +90,8 @@ type_long : (format : Format) (free : FreeBits) → length (type_text format fre
 type_long Qcif free = refl
 type_long Cif free = refl
 
-pub says-header : (format : Format) (free : FreeBits) (spares : List ℕ) (tr : ℕ) → tr < 32 → Says format [] (header_elements format free spares tr) (header_text format free spares tr) × IsAtGroup 0 (after [] (header_elements format free spares tr))
-unfolding header_text
+pub says-header : (format : Format) (free : FreeBits) (spares : List ℕ) (tr : ℕ) → tr < 32 → Says format [] (header_elements format free spares tr) (picture_header_text format free spares tr) × IsAtGroup 0 (after [] (header_elements format free spares tr))
+unfolding picture_header_text
 says-header format free spares tr fits =
     let long = type_long format free in
     let small : number (type_text format free) < 64 = subst (λ k. number (type_text format free) < 2 ^ k) long (number_below (type_text format free)) in
@@ -105,7 +106,7 @@ pub says-picture : (format : Format) (form : Form) (p : Picture) → GroupsFit f
 says-picture format form p fit valid =
     let h = says-header format form.free form.spares p.tr valid.so_far.tr in
     let g = says-groups format (after [] (header_elements format form.free form.spares p.tr)) 0 form.groups p.groups h.1 fit (valid-rise format p valid) valid.so_far.groups in (
-      says-append format [] (header_elements format form.free form.spares p.tr) (groups_elements form.groups p.groups) (header_text format form.free form.spares p.tr) (sent_groups_text form.groups p.groups) h.0 g.0,
+      says-append format [] (header_elements format form.free form.spares p.tr) (groups_elements form.groups p.groups) (picture_header_text format form.free form.spares p.tr) (sent_groups_text form.groups p.groups) h.0 g.0,
       (g.1.0, subst (λ b. IsAtGroup g.1.0 b) (sym (after-append [] (header_elements format form.free form.spares p.tr) (groups_elements form.groups p.groups))) g.1.1),
     )
 
@@ -241,6 +242,10 @@ accepted-read format bits p accepted =
     let begun_is = begun-picture format accepted.0 p spelling.fits in
     let fits : claimed format (after [] (elements format accepted.0 p)) (0 + length (sent_text format accepted.0 p)) ≤ limit format = omega (arith, read_.2, begun_is, accepted.1.valid.whole, accepted.1.short) in (
       elements format accepted.0 p,
-      (end, goes-picture format [] (start bits) (elements format accepted.0 p) end read_.0 fits, picture-stops format (after [] (elements format accepted.0 p)) end read_.1),
+      record {
+        end = end;
+        walk = goes-picture format [] (start bits) (elements format accepted.0 p) end read_.0 fits;
+        stop = picture-stops format (after [] (elements format accepted.0 p)) end read_.1;
+      },
       (accepted.0, spelling.fits, refl),
     )

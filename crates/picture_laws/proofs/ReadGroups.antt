@@ -13,7 +13,8 @@ use Rattle.pel_model.specs.Spelling.{GroupForm, LeftOut, Sent, GroupsFit}
 use Rattle.pel_model.specs.Walk.{after}
 use Rattle.pel_model.specs.Grammar.{Element, Pei, Pspare, Gbsc, Gn, Gquant, Gei, Gspare, Stuffing, Mba, AtPei, AtPspare, AtGn, AtGquant, AtGei, AtGspare, AtMacroblock, slot, group, vector_component, is_group, may_end}
 use Rattle.picture_laws.specs.SoFar.{IsBehind}
-use Rattle.picture_laws.specs.Elements.{macroblock_elements, macroblocks_elements, spare_elements, group_elements, groups_elements}
+use Rattle.pel_model.specs.Elements.{spare_elements}
+use Rattle.picture_laws.specs.PictureElements.{macroblock_elements, macroblocks_elements, group_elements, groups_elements}
 use Rattle.vlc_codes.proofs.FoundRows.{Among}
 use Rattle.picture_laws.proofs.Slots.{Takes}
 use Rattle.picture_laws.proofs.Blocks.{one_passed}

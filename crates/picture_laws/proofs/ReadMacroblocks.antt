@@ -8,18 +8,18 @@ use Rattle.pel_model.specs.declared.Why.TheVariants.{BadQuant, BadAddress, BadVe
 use Rattle.pel_model.specs.Codes.{is_intra, has_mquant, has_vector, has_cbp, mvd_table}
 use Rattle.pel_model.specs.Bits.{field, number}
 use Rattle.pel_model.specs.Records.{Axis, Across, Down, Block, Macroblock, component}
-use Rattle.pel_model.specs.Text.{address_of, predictor, coded_block_pattern}
-use Rattle.pel_model.specs.Valid.{IsQuantiser, MquantFits, side, corner, StaysWithin, ComponentFits, IsIntraBlock, IsCodedBlock, BlocksFit, IsValidMacroblock}
+use Rattle.pel_model.specs.Text.{address_of, predictor, coded_block_pattern, resets_predictor}
+use Rattle.pel_model.specs.Valid.{IsQuantiser, MquantFits, side, corner, ComponentFits, IsIntraBlock, IsCodedBlock, BlocksFit, IsValidMacroblock, stays_within}
 use Rattle.pel_model.specs.Walk.{after}
-use Rattle.pel_model.specs.Grammar.{Element, Mba, Mtype, Mquant, Mvd, Cbp, AtMtype, AtMquant, AtMvd, AtCbp, slot, kind, blocks, group, address, vector_component, block_slot, cbp_slot, vector_slot, ones, component_from, in_range, stays_within}
+use Rattle.pel_model.specs.Grammar.{Element, Mba, Mtype, Mquant, Mvd, Cbp, AtMtype, AtMquant, AtMvd, AtCbp, slot, kind, blocks, group, address, vector_component, block_slot, cbp_slot, vector_slot, ones, component_from, in_range}
 use Rattle.pel_model.specs.Elements.{mquant_elements, blocks_elements}
 use Rattle.picture_laws.specs.SoFar.{IsBehind, IsLast}
-use Rattle.picture_laws.specs.Elements.{pair_in, mvd_element, vector_elements, cbp_elements, macroblock_elements}
+use Rattle.picture_laws.specs.PictureElements.{pair_in, mvd_element, vector_elements, cbp_elements, macroblock_elements}
 use Rattle.vlc_codes.proofs.FoundRows.{Among}
 use Rattle.picture_laws.proofs.Slots.{IsStep, IsPattern}
 use Rattle.picture_laws.proofs.Words.{number-fits, length-field}
 use Rattle.picture_laws.proofs.Chains.{Stands}
-use Rattle.picture_laws.proofs.Vectors.{predictor-small, range-in, stays-back, pair-back}
+use Rattle.picture_laws.proofs.Vectors.{predictor-small, range-in, pair-back}
 use Rattle.picture_laws.proofs.Patterns.{trues, ones-trues, trues-some, sent-trues, intra-blocks, coded-blocks, none-blocks, sent-any, not-both}
 use Rattle.picture_laws.proofs.Blocks.{one_passed, two_passed, sent, AreBlocksOf}
 use Rattle.picture_laws.proofs.Macroblocks.{quantiser_says, says-vector, IsAtVector, IsBehindVector, headed, at-vector, mquant-blocks, vector-blocks}
@@ -45,10 +45,10 @@ read-mquant format before es false k at r = record { q = None; rest = es; is = r
 
 pub predictor_same : (axis : Axis) (last : Option Macroblock) (m n : Macroblock) → m.address ≡ n.address → predictor axis last m ≡ predictor axis last n
 predictor_same axis None m n same = refl
-predictor_same axis (Some l) m n same = ap (λ (a : ℕ). cond ((a == 12) || (a == 23) || not (a == l.address + 1) || not (has_vector l.kind)) (pos 0) (component axis l)) same
+predictor_same axis (Some l) m n same = ap (λ (a : ℕ). cond (resets_predictor (a - l.address) a || not (has_vector l.kind)) (pos 0) (component axis l)) same
 
 abbrev IsFit : Format → ℕ → Axis → ℕ → ℤ → Type 0
-IsFit format number axis at c = (nat_abs c ≤ 15) × StaysWithin (side format axis) (corner axis number at) c
+IsFit format number axis at c = (nat_abs c ≤ 15) × (stays_within (side format axis) (corner axis number at) c ≡ true)
 
 pub record ReadsComponent (format : Format) (number : ℕ) (axis : Axis) (last : Option Macroblock) (m : Macroblock) (es : List Element) : Type 0 where
   pub c : ℤ
@@ -69,7 +69,7 @@ read_component format before es number axis last m is group_is address_is vector
       c = component_from (predictor axis last m) row.1;
       rest = es;
       is = all_is ∙ ap (λ v. Mvd axis v ∷ es) (sym (pair-back (predictor axis last m) row (predictor-small axis last m is) among));
-      fit = (range-in (component_from (predictor axis last m) row.1) inside, stays-back (side format axis) (corner axis number m.address) (component_from (predictor axis last m) row.1) within);
+      fit = (range-in (component_from (predictor axis last m) row.1) inside, within);
     }
 
 read-component : (format : Format) (before es : List Element) (number : ℕ) (axis : Axis) (last : Option Macroblock) (m : Macroblock) → IsLast last → slot before ≡ AtMvd axis → group before ≡ number → address before ≡ m.address → vector_component axis before ≡ predictor axis last m → IsRest format before es → ReadsComponent format number axis last m es

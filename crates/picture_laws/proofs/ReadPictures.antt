@@ -11,11 +11,12 @@ use Rattle.pel_model.specs.Bits.{number}
 use Rattle.pel_model.specs.Codes.{is_prefix}
 use Rattle.pel_model.specs.Records.{Group, Picture}
 use Rattle.pel_model.specs.Valid.{group_numbers, group_count, limit, IsValid}
-use Rattle.pel_model.specs.Spelling.{FreeBits, Form, GroupsFit, type_text, sent_text}
+use Rattle.pel_model.specs.Headers.{FreeBits, type_text}
+use Rattle.pel_model.specs.Spelling.{Form, GroupsFit, sent_text}
 use Rattle.pel_model.specs.Accepts.{Accepts}
 use Rattle.pel_model.specs.Walk.{Standing, Good, Stop, Bad, Row, start, after, read, word_at, whole_word}
 use Rattle.pel_model.specs.Grammar.{Element, Psc, Tr, Ptype, Pei, Pspare, Slot, AtPsc, AtTr, AtPtype, AtGroup, slot, begun, rows, faults, first_why, names_format, may_end, is_end, or_no_start, at_slot, next, counted}
-use Rattle.picture_laws.specs.Elements.{header_elements, elements, Tells}
+use Rattle.picture_laws.specs.PictureElements.{header_elements, elements, Tells}
 use Rattle.picture_laws.specs.Laws.{WalkHasRecord}
 use Rattle.picture_laws.proofs.Slots.{Takes}
 use Rattle.picture_laws.proofs.Written.{below, below_all}
@@ -192,9 +193,9 @@ accepted_built format bits es end walk short ends p =
 
 pub walk-record : WalkHasRecord
 walk-record format bits es reads =
-    let goes = goes-next format [] (start bits) es reads.0 reads.1 in
-    let walk = goes-walk format [] (start bits) es reads.0 goes in
-    let short = goes-within format [] (start bits) es reads.0 reads.1 (omega (arith, headers_fit format)) in
-    let stop = stopped format (after [] es) reads.0 (picture-stop format (after [] es) reads.0 reads.2) in
+    let goes = goes-next format [] (start bits) es reads.end reads.walk in
+    let walk = goes-walk format [] (start bits) es reads.end goes in
+    let short = goes-within format [] (start bits) es reads.end reads.walk (omega (arith, headers_fit format)) in
+    let stop = stopped format (after [] es) reads.end (picture-stop format (after [] es) reads.end reads.stop) in
     let r : IsRest format [] es = record { chain = walk.chain; final = stop.0 } in
-    accepted_built format bits es reads.0 walk short stop.1 (read_picture format es (length reads.0.0) r)
+    accepted_built format bits es reads.end walk short stop.1 (read_picture format es (length reads.end.0) r)

@@ -13,9 +13,9 @@ use Rattle.pel_model.specs.Text.{address_of, predictor, coded_block_pattern}
 use Rattle.pel_model.specs.Valid.{IsQuantiser, ComponentFits, IsIntraBlock, IsCodedBlock, BlocksFit, IsValidMacroblock, AddressesRise, IsValidGroup, IsValid, group_numbers}
 use Rattle.pel_model.specs.Spelling.{GroupForm, LeftOut, Sent, Form, GroupsFit}
 use Rattle.pel_model.specs.Grammar.{Element, Psc, Tr, Ptype, Pei, Pspare, Gbsc, Gn, Gquant, Gei, Gspare, Stuffing, Mba, Mtype, Mquant, Mvd, Cbp, Dc, Tcoeff, Eob, component_from}
-use Rattle.pel_model.specs.Elements.{block_elements, blocks_elements, mquant_elements}
+use Rattle.pel_model.specs.Elements.{block_elements, blocks_elements, mquant_elements, spare_elements}
 use Rattle.picture_laws.specs.SoFar.{IsLast}
-use Rattle.picture_laws.specs.Elements.{pair_in, mvd_element, vector_elements, cbp_elements, macroblock_elements, macroblocks_elements, spare_elements, group_elements, groups_elements, elements, Tells}
+use Rattle.picture_laws.specs.PictureElements.{pair_in, mvd_element, vector_elements, cbp_elements, macroblock_elements, macroblocks_elements, group_elements, groups_elements, elements, Tells}
 use Rattle.picture_laws.proofs.Words.{field-number}
 use Rattle.picture_laws.proofs.Vectors.{pair-of, predictor-small}
 use Rattle.picture_laws.proofs.Macroblocks.{component_small, both_axes, body}

@@ -1,17 +1,15 @@
 -- Vectors: what MVD's table holds, computed over all components and predictors from -15 to 15.
-use Rattle.std.proofs.Common.{◌≡◌, ◌≢◌, ℕ, zero, suc, ◌+◌, ◌-◌, ◌<◌, ◌≤◌, ◌==◌, ◌&&◌, ◌||◌, not, Bool, true, false, cond, List, [], ◌∷◌, ◌++◌, map, Option, Some, None, refl, sym, ◌∙◌, ap, inl, inr, ℤ, pos, negsuc, ◌-ℤ◌, nat_abs, arith}
+use Rattle.std.proofs.Common.{◌≡◌, ◌≢◌, ℕ, zero, suc, ◌-◌, ◌<◌, ◌≤◌, ◌==◌, ◌&&◌, ◌||◌, not, Bool, true, false, cond, List, [], ◌∷◌, ◌++◌, map, Option, Some, None, refl, sym, ◌∙◌, ap, inl, inr, ℤ, pos, negsuc, ◌-ℤ◌, nat_abs, arith}
 use Rattle.std.specs.List.{list_any, list_all}
 use Rattle.std.specs.Ordering.{int_eq}
-use Rattle.std.proofs.lemmas.Bool.{false≢true, ltb-true, leb-true, eqb-true, eq-eqb, lt-ltb, le-leb, and_parts, cases_Bool, cond-false, cond-true}
+use Rattle.std.proofs.lemmas.Bool.{false≢true, ltb-true, eqb-true, eq-eqb, lt-ltb, and_parts, cases_Bool, cond-false, cond-true}
 use Rattle.std.proofs.lemmas.Bool.Decides.{Decides-int_eq}
 use Rattle.pel_model.specs.Codes.{mvd_table, has_vector}
 use Rattle.pel_model.specs.Records.{Axis, Macroblock, component}
-use Rattle.pel_model.specs.Text.{word_of, address_of, predictor, starts_anew}
-use Rattle.pel_model.specs.Valid.{StaysWithin}
-use Rattle.pel_model.specs.Grammar as grammar
-use Rattle.pel_model.specs.Grammar.{Mvd, AtMvd, in_range, component_from, stays_within}
+use Rattle.pel_model.specs.Text.{word_of, address_of, predictor, resets_predictor}
+use Rattle.pel_model.specs.Grammar.{Mvd, AtMvd, in_range, component_from}
 use Rattle.picture_laws.specs.SoFar.{IsLast, last_component}
-use Rattle.picture_laws.specs.Elements.{pair_in}
+use Rattle.picture_laws.specs.PictureElements.{pair_in}
 use Rattle.vlc_codes.proofs.FoundRows.{Among, among-all, among-left, among-right, among-mapped}
 use Rattle.picture_laws.proofs.Slots.{word_at, same_pair, same_bits-true, mvd_words}
 use Rattle.picture_laws.proofs.Written.{below}
@@ -101,50 +99,26 @@ pub range-in : (z : ℤ) → in_range z ≡ true → nat_abs z ≤ 15
 range-in (pos n) h = omega (arith, ltb-true n 16 h)
 range-in (negsuc n) h = omega (arith, ltb-true n 15 h)
 
-pub stays : (side first : ℕ) (z : ℤ) → StaysWithin side first z → stays_within side first z ≡ true
-stays side first (pos n) h = le-leb (first + n + 16) side h
-stays side first (negsuc n) h = le-leb (n + 1) first h
-
-pub stays-back : (side first : ℕ) (z : ℤ) → stays_within side first z ≡ true → StaysWithin side first z
-stays-back side first (pos n) h = leb-true (first + n + 16) side h
-stays-back side first (negsuc n) h = leb-true (n + 1) first h
-
 -- ---- predictors
 
 same_either : (b : Bool) (z : ℤ) → z ≡ pos 0 → cond b (pos 0) z ≡ pos 0
 same_either true z h = refl
 same_either false z h = h
 
-four_ways : (a b e : Bool) → (a || b || not e || false) ≡ (not e || false || a || b)
-four_ways true true true = refl
-four_ways true true false = refl
-four_ways true false true = refl
-four_ways true false false = refl
-four_ways false true true = refl
-four_ways false true false = refl
-four_ways false false true = refl
-four_ways false false false = refl
-
-same_test : (a b c d : ℕ) → (a ≡ b → c ≡ d) → (c ≡ d → a ≡ b) → (a == b) ≡ (c == d)
-same_test a b c d there back = elim (cases_Bool (a == b)) [
-  | inl same ↦ same ∙ sym (eq-eqb c d (there (eqb-true a b same)))
-  | inr other ↦ other ∙ sym (elim (cases_Bool (c == d)) [ inl same ↦ absurd (false≢true (sym other ∙ eq-eqb a b (back (eqb-true c d same)))) | inr no_ ↦ no_ ])
-]
+or_nothing : (b : Bool) → (b || false) ≡ b
+or_nothing true = refl
+or_nothing false = refl
 
 -- the vector before, or nothing, predicts
-pub predicted : (axis : Axis) (last : Option Macroblock) (m : Macroblock) → IsLast last → address_of last < m.address → predictor axis last m ≡ cond (grammar.resets_predictor (m.address - address_of last) m.address) (pos 0) (last_component axis last)
-predicted axis None m is rise = sym (same_either (grammar.resets_predictor (m.address - 0) m.address) (pos 0) refl)
-predicted axis (Some l) m is rise = elim (cases_Bool (has_vector l.kind)) [
+pub predicted : (axis : Axis) (last : Option Macroblock) (m : Macroblock) → IsLast last → predictor axis last m ≡ cond (resets_predictor (m.address - address_of last) m.address) (pos 0) (last_component axis last)
+predicted axis None m is = sym (same_either (resets_predictor (m.address - 0) m.address) (pos 0) refl)
+predicted axis (Some l) m is = elim (cases_Bool (has_vector l.kind)) [
   | inl has ↦
-      let far : (m.address == 1) ≡ false = elim (cases_Bool (m.address == 1)) [ inl one ↦ absurd (omega (arith, is.0, rise, eqb-true m.address 1 one)) | inr no_ ↦ no_ ] in
-      let next : (m.address - l.address == 1) ≡ (m.address == l.address + 1) = same_test (m.address - l.address) 1 m.address (l.address + 1) (λ h. omega (arith, h, rise)) (λ h. omega (arith, h)) in
-      ap (λ b. cond ((m.address == 12) || (m.address == 23) || not (m.address == l.address + 1) || not b) (pos 0) (component axis l)) has
-      ∙ (ap (λ b. cond b (pos 0) (component axis l)) (four_ways (m.address == 12) (m.address == 23) (m.address == l.address + 1))
-      ∙ (ap (λ b. cond (not (m.address == l.address + 1) || b || m.address == 12 || m.address == 23) (pos 0) (component axis l)) (sym far)
-      ∙ ap (λ b. cond (not b || m.address == 1 || m.address == 12 || m.address == 23) (pos 0) (component axis l)) (sym next)))
+      ap (λ b. cond (resets_predictor (m.address - l.address) m.address || not b) (pos 0) (component axis l)) has
+      ∙ ap (λ b. cond b (pos 0) (component axis l)) (or_nothing (resets_predictor (m.address - l.address) m.address))
   | inr none ↦
       same_either _ (component axis l) (is.2 axis none)
-      ∙ sym (same_either (grammar.resets_predictor (m.address - l.address) m.address) (component axis l) (is.2 axis none))
+      ∙ sym (same_either (resets_predictor (m.address - l.address) m.address) (component axis l) (is.2 axis none))
 ]
 
 small_either : (b : Bool) (z : ℤ) → nat_abs z ≤ 15 → nat_abs (cond b (pos 0) z) ≤ 15
@@ -153,4 +127,4 @@ small_either false z h = h
 
 pub predictor-small : (axis : Axis) (last : Option Macroblock) (m : Macroblock) → IsLast last → nat_abs (predictor axis last m) ≤ 15
 predictor-small axis None m is = omega arith
-predictor-small axis (Some l) m is = small_either (starts_anew l m) (component axis l) (is.1 axis)
+predictor-small axis (Some l) m is = small_either (resets_predictor (m.address - l.address) m.address || not (has_vector l.kind)) (component axis l) (is.1 axis)

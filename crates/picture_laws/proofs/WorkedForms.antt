@@ -8,9 +8,10 @@ use Rattle.pel_model.specs.Records.{Macroblock, Picture}
 use Rattle.pel_model.specs.Regions.{empty_group}
 use Rattle.pel_model.specs.Text.{macroblock_text, block_text, coefficient_word}
 use Rattle.pel_model.specs.Valid.{group_numbers}
-use Rattle.pel_model.specs.Spelling.{FreeBits, LeftOut, Sent, Form, header_text, group_header_text, stuffed_text, input_text}
+use Rattle.pel_model.specs.Headers.{FreeBits, picture_header_text, group_header_text}
+use Rattle.pel_model.specs.Spelling.{LeftOut, Sent, Form, stuffed_text, input_text}
 use Rattle.pel_model.specs.Accepts.{counted_length}
-use Rattle.picture_laws.specs.Elements.{elements}
+use Rattle.picture_laws.specs.PictureElements.{elements}
 use Rattle.picture_laws.proofs.Chains.{words}
 
 abbrev plain : FreeBits
@@ -24,7 +25,7 @@ abbrev nothing_sent : Picture
 nothing_sent = record { tr = 1; groups = empty_group 1 ∷ empty_group 3 ∷ empty_group 5 ∷ [] }
 
 header_alone : (input_text Qcif nothing nothing_sent ≡ word (codes "000000000000000100000000100001100000000")) × (counted_length Qcif nothing nothing_sent ≡ 32 + 3 * 26)
-unfolding header_text field
+unfolding picture_header_text field
 header_alone = (refl, refl)
 
 -- the same in CIF, without zeros: twelve groups are left out
@@ -35,7 +36,7 @@ abbrev cif_picture : Picture
 cif_picture = record { tr = 1; groups = map empty_group (group_numbers Cif) }
 
 cif_header_alone : (input_text Cif nothing_in_cif cif_picture ≡ word (codes "00000000000000010000000010001110")) × (counted_length Cif nothing_in_cif cif_picture ≡ 344)
-unfolding header_text field
+unfolding picture_header_text field
 cif_header_alone = (refl, refl)
 
 -- a group with two stuffings behind its header, and three zeros
@@ -46,7 +47,7 @@ abbrev one_header : Picture
 one_header = record { tr = 1; groups = (record { number = 1; quant = 8; macroblocks = [] }) ∷ empty_group 3 ∷ empty_group 5 ∷ [] }
 
 stuffed_group : (input_text Qcif stuffed one_header ≡ word (codes "00000000000000010000000010000110000000000000000100010100000000000111100000001111000")) × (counted_length Qcif stuffed one_header ≡ 80 + 2 * 26)
-unfolding header_text group_header_text stuffed_text field
+unfolding picture_header_text group_header_text stuffed_text field
 stuffed_group = (refl, refl)
 
 -- free bits 1, 0, 1 and 0, two spare octets behind the picture header; group 1 with a spare octet, two stuffings, a
@@ -69,10 +70,10 @@ abbrev dressed_bits : List Bool
 dressed_bits = word (codes "000000000000000100000000110101010000000011111111100000000000000001000101000101000101000000001111000000011111110101010000000011110000000000000001010101010000000")
 
 dressed_text : (input_text Qcif dressed one_block ≡ dressed_bits) × (counted_length Qcif dressed one_block ≡ 159 - 5 + 26)
-unfolding header_text group_header_text stuffed_text macroblock_text block_text coefficient_word field number mba_table mtype_table mvd_table cbp_table tcoeff_table
+unfolding picture_header_text group_header_text stuffed_text macroblock_text block_text coefficient_word field number mba_table mtype_table mvd_table cbp_table tcoeff_table
 dressed_text = (refl, refl)
 
 -- the words of its elements are its text
 dressed_words : words [] (elements Qcif dressed one_block) ++ false ∷ false ∷ false ∷ false ∷ false ∷ [] ≡ dressed_bits
-unfolding header_text group_header_text stuffed_text macroblock_text block_text coefficient_word field number mba_table mtype_table mvd_table cbp_table tcoeff_table
+unfolding picture_header_text group_header_text stuffed_text macroblock_text block_text coefficient_word field number mba_table mtype_table mvd_table cbp_table tcoeff_table
 dressed_words = refl

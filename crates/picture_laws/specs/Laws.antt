@@ -1,17 +1,17 @@
 -- The laws that join the two accounts of a coded picture: its record and texts, and its elements in their order.
 use Rattle.std.specs.Prelude.{◌≡◌, ℕ, ◌+◌, ◌-◌, ◌*◌, ◌<◌, ◌≤◌, Bool, true, false, List, [], ◌∷◌, ◌++◌, length, take, drop, ◌⊎◌}
 use Rattle.pel_model.specs.declared.Format.{Format}
-use Rattle.pel_model.specs.declared.Format.TheVariants.{Qcif, Cif}
 use Rattle.pel_model.specs.declared.Why.{Why}
 use Rattle.pel_model.specs.declared.Why.TheVariants.{Cut, TooLong}
 use Rattle.pel_model.specs.Records.{Picture}
-use Rattle.pel_model.specs.Text.{group_header_length, text}
+use Rattle.pel_model.specs.Headers.{group_header_length}
+use Rattle.pel_model.specs.Text.{text}
 use Rattle.pel_model.specs.Valid.{IsValid, group_count, limit}
 use Rattle.pel_model.specs.Spelling.{Spells}
 use Rattle.pel_model.specs.Accepts.{Accepts}
 use Rattle.pel_model.specs.Walk.{Good, Stop, Bad, after, Goes, FirstFault, Reads}
 use Rattle.pel_model.specs.Grammar.{Element, slot, may_end, begun, counted, next, next_within_limit}
-use Rattle.picture_laws.specs.Elements.{Tells}
+use Rattle.picture_laws.specs.PictureElements.{Tells}
 
 -- the strict text of a valid picture is accepted with that picture, where it is no longer than the format allows
 abbrev pub TextIsAccepted : Type 0
@@ -129,10 +129,10 @@ PastTheLimit =
     → Leaves format before r.1 k → StandInside before es → Goes (next format) before r es end → r.1 + k < end.1
     → TooLongAt format before r k
 
--- bits behind the first 65,600 or 262,208 change neither the record nor the first fault
+-- bits behind the first 65,600 or 262,208 change neither the record nor the first fault: an element that ends past the
+-- limit begins before it, and has fewer than 64 bits
 abbrev pub kept_length : Format → ℕ
-kept_length Qcif = 65600
-kept_length Cif = 262208
+kept_length format = limit format + 64
 
 abbrev pub KeptLength : Type 0
 KeptLength =

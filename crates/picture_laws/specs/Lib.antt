@@ -1,3 +1,3 @@
-pub mod Elements
+pub mod PictureElements
 pub mod Laws
 pub mod SoFar

@@ -6,13 +6,14 @@ use Rattle.pel_model.specs.Codes.{has_vector}
 use Rattle.pel_model.specs.Records.{Axis, Macroblock, Group, Picture, component, with_group, quantiser_after, quantiser_behind}
 use Rattle.pel_model.specs.Text.{address_of, macroblock_text, macroblocks_text}
 use Rattle.pel_model.specs.Valid.{IsValidGroup, IsValidSoFar, IsValid, group_numbers, group_count}
-use Rattle.pel_model.specs.Spelling.{FreeBits, GroupForm, Sent, GroupsFit}
+use Rattle.pel_model.specs.Headers.{FreeBits}
+use Rattle.pel_model.specs.Spelling.{GroupForm, Sent, GroupsFit}
 use Rattle.pel_model.specs.Accepts.{Accepts}
 use Rattle.pel_model.specs.Walk.{after, Goes, Reads}
 use Rattle.pel_model.specs.Elements.{AreInside}
 use Rattle.pel_model.specs.Grammar.{Element, Psc, Tr, Ptype, Gbsc, Gn, Gquant, Stuffing, Mba, slot, AtGroup, AtMacroblock, group, address, quantiser, vector_component, next, next_within_limit}
 use Rattle.picture_laws.specs.Laws.{StandInside}
-use Rattle.picture_laws.specs.Elements.{macroblock_elements, group_elements, groups_elements, header_elements, Tells}
+use Rattle.picture_laws.specs.PictureElements.{macroblock_elements, group_elements, groups_elements, header_elements, Tells}
 
 -- ---- behind a macroblock
 

@@ -87,8 +87,8 @@ abbrev index : ℕ → ℕ → ℕ
 index top z = 32 * z + top / 2 ^ (26 - z) - 32
 
 -- what stands at the index is what stands at the front
-cell_of-front : (lens places : List ℕ) (ws : List (List Bool)) → lens ≡ listed (λ k. (cell_of ws 0 (front k)).len) 0 320 → places ≡ listed (λ k. (cell_of ws 0 (front k)).value) 0 320 → listed (λ k. all_settled ws (front k)) 0 320 ≡ listed (λ k. true) 0 320 → (top z : ℕ) → top < 2 ^ 32 → z ≡ leading_zeros w32 top → z ≤ 9 → cell (get_or lens (index top z) 0) (get_or places (index top z) 0) ≡ cell_of ws 0 (field top 32)
-cell_of-front lens places ws lens_are places_are settled top z fits is few =
+cell_of-front : (lens indices : List ℕ) (ws : List (List Bool)) → lens ≡ listed (λ k. (cell_of ws 0 (front k)).len) 0 320 → indices ≡ listed (λ k. (cell_of ws 0 (front k)).value) 0 320 → listed (λ k. all_settled ws (front k)) 0 320 ≡ listed (λ k. true) 0 320 → (top z : ℕ) → top < 2 ^ 32 → z ≡ leading_zeros w32 top → z ≤ 9 → cell (get_or lens (index top z) 0) (get_or indices (index top z) 0) ≡ cell_of ws 0 (field top 32)
+cell_of-front lens indices ws lens_are indices_are settled top z fits is few =
     let six = six_bits top z fits is few in
     let k : ℕ = 32 * z + top / 2 ^ (26 - z) - 32 in
     let below : k < 320 = omega (arith, six) in
@@ -103,21 +103,21 @@ cell_of-front lens places ws lens_are places_are settled top z fits is few =
     sym (listed_at (λ k. all_settled ws (front k)) 320 k true below) ∙ (ap (λ (bs : List Bool). get_or bs k true) settled ∙ listed_at (λ k. true) 320 k true below) in
     let len : get_or lens k 0 ≡ (cell_of ws 0 (front k)).len =
     ap (λ (ns : List ℕ). get_or ns k 0) lens_are ∙ listed_at (λ k. (cell_of ws 0 (front k)).len) 320 k 0 below in
-    let place : get_or places k 0 ≡ (cell_of ws 0 (front k)).value =
-    ap (λ (ns : List ℕ). get_or ns k 0) places_are ∙ listed_at (λ k. (cell_of ws 0 (front k)).value) 320 k 0 below in
-    ap (λ (n : ℕ). cell n (get_or places k 0)) len
-    ∙ (ap (cell (cell_of ws 0 (front k)).len) place ∙ sym (ap (cell_of ws 0) bits ∙ cell-settled ws 0 (front k) (field top (26 - z)) decided))
+    let index : get_or indices k 0 ≡ (cell_of ws 0 (front k)).value =
+    ap (λ (ns : List ℕ). get_or ns k 0) indices_are ∙ listed_at (λ k. (cell_of ws 0 (front k)).value) 320 k 0 below in
+    ap (λ (n : ℕ). cell n (get_or indices k 0)) len
+    ∙ (ap (cell (cell_of ws 0 (front k)).len) index ∙ sym (ap (cell_of ws 0) bits ∙ cell-settled ws 0 (front k) (field top (26 - z)) decided))
 
 -- a table that was computed from the words holds what stands at the front
-pub cell-in : (lens places : List ℕ) (ws : List (List Bool)) → lens ≡ listed (λ k. (cell_of ws 0 (front k)).len) 0 320 → places ≡ listed (λ k. (cell_of ws 0 (front k)).value) 0 320 → listed (λ k. all_settled ws (front k)) 0 320 ≡ listed (λ k. true) 0 320 → all_settled ws (zeros 10) ≡ true → cell_of ws 0 (zeros 10) ≡ no_cell → (top : ℕ) → top < 2 ^ 32 → cell_in lens places top ≡ cell_of ws 0 (field top 32)
-cell-in lens places ws lens_are places_are settled low none top fits =
+pub cell-in : (lens indices : List ℕ) (ws : List (List Bool)) → lens ≡ listed (λ k. (cell_of ws 0 (front k)).len) 0 320 → indices ≡ listed (λ k. (cell_of ws 0 (front k)).value) 0 320 → listed (λ k. all_settled ws (front k)) 0 320 ≡ listed (λ k. true) 0 320 → all_settled ws (zeros 10) ≡ true → cell_of ws 0 (zeros 10) ≡ no_cell → (top : ℕ) → top < 2 ^ 32 → cell_in lens indices top ≡ cell_of ws 0 (field top 32)
+cell-in lens indices ws lens_are indices_are settled low none top fits =
     let z : ℕ = leading_zeros w32 top in
-    let here : Cell = cell (get_or lens (index top (leading_zeros w32 top)) 0) (get_or places (index top (leading_zeros w32 top)) 0) in
+    let here : Cell = cell (get_or lens (index top (leading_zeros w32 top)) 0) (get_or indices (index top (leading_zeros w32 top)) 0) in
     elim (cases_Bool (nat_lt 9 (leading_zeros w32 top))) [
       | inl many ↦
           cond-true (nat_lt 9 (leading_zeros w32 top)) no_cell here many
           ∙ sym (cell_of-zeros ws low none top (no_bits top fits (ltb-true 9 (leading_zeros w32 top) many)))
       | inr few ↦
           cond-false (nat_lt 9 (leading_zeros w32 top)) no_cell here few
-          ∙ cell_of-front lens places ws lens_are places_are settled top (leading_zeros w32 top) fits refl (ltb-false 9 (leading_zeros w32 top) few)
+          ∙ cell_of-front lens indices ws lens_are indices_are settled top (leading_zeros w32 top) fits refl (ltb-false 9 (leading_zeros w32 top) few)
     ]

@@ -93,14 +93,14 @@ lens_computed Cbp = refl
 lens_computed CoefFirst = refl
 lens_computed Coef = refl
 
-pub places_computed : (table : Table) → (cells_of table).places ≡ listed (λ k. (cell_of (words table) 0 (front k)).value) 0 320
+pub indices_computed : (table : Table) → (cells_of table).indices ≡ listed (λ k. (cell_of (words table) 0 (front k)).value) 0 320
 unfolding words field mba_table mtype_table mvd_table cbp_table tcoeff_table
-places_computed Mba = refl
-places_computed Mtype = refl
-places_computed Mvd = refl
-places_computed Cbp = refl
-places_computed CoefFirst = refl
-places_computed Coef = refl
+indices_computed Mba = refl
+indices_computed Mtype = refl
+indices_computed Mvd = refl
+indices_computed Cbp = refl
+indices_computed CoefFirst = refl
+indices_computed Coef = refl
 
 -- an index decides each word
 pub cells_settled : (table : Table) → listed (λ k. all_settled (words table) (front k)) 0 320 ≡ listed (λ k. true) 0 320
@@ -141,9 +141,9 @@ codes_computed Cbp = refl
 codes_computed CoefFirst = refl
 codes_computed Coef = refl
 
-pub looked : (table : Table) (top : ℕ) → top < 2 ^ 32 → cell_in (cells_of table).lens (cells_of table).places top ≡ cell_of (words table) 0 (field top 32)
+pub looked : (table : Table) (top : ℕ) → top < 2 ^ 32 → cell_in (cells_of table).lens (cells_of table).indices top ≡ cell_of (words table) 0 (field top 32)
 looked table top fits =
-    cell-in (cells_of table).lens (cells_of table).places (words table) (lens_computed table) (places_computed table) (cells_settled table) (zeros_settled table) (zeros_none table) top fits
+    cell-in (cells_of table).lens (cells_of table).indices (words table) (lens_computed table) (indices_computed table) (cells_settled table) (zeros_settled table) (zeros_none table) top fits
 
 pub words_within_32 : (table : Table) → list_all (λ w. nat_le (length w) 32) (words table) ≡ true
 unfolding words field mba_table mtype_table mvd_table cbp_table tcoeff_table

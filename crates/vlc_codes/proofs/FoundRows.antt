@@ -11,8 +11,8 @@ use Rattle.pel_model.specs.declared.Why.{Why}
 use Rattle.pel_model.specs.declared.Why.TheVariants.{Cut}
 use Rattle.pel_model.proofs.Walks.{good_same}
 use Rattle.vlc_codes.specs.Lookup.{codes_of_rows}
-use Rattle.vlc_codes.specs.WholeWords.{IsWordOf, IsWord, ArePrefixFree}
-use Rattle.vlc_codes.proofs.WordLaws.{is_prefix_length, is_prefix_self, is_prefix_both, whole-good}
+use Rattle.vlc_codes.specs.WholeWords.{IsWordOf, ArePrefixFree}
+use Rattle.vlc_codes.proofs.WordLaws.{is_prefix_self, is_prefix_both, whole-good}
 
 -- an element of a list
 abbrev pub Among : {A : Type 0} → A → List A → Type 0

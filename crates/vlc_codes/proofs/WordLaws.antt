@@ -9,7 +9,7 @@ use Rattle.pel_bits.proofs.Fields.{length-field, field-add, field-mod, number-fi
 use Rattle.pel_model.specs.Codes.{is_prefix, is_prefix_free}
 use Rattle.vlc_codes.specs.declared.lookup.Cell.{Cell}
 use Rattle.vlc_codes.specs.Lookup.{cell_of, no_cell, codes_of_rows}
-use Rattle.vlc_codes.specs.Inner.{code_word, cell_or_cause, place_of, TakesPlace}
+use Rattle.vlc_codes.specs.Inner.{code_word, cell_or_cause, found_cell, TakesIndex}
 use Rattle.pel_model.specs.Bits as model
 use Rattle.pel_model.specs.Walk.{Standing, Good, Bad, Row, cause, read, whole_word, word_at, TakesWord}
 use Rattle.pel_model.specs.declared.Why.{Why}
@@ -203,31 +203,31 @@ field-peeked bits n =
     let len : length seen ≡ n = length-take-le n (bits ++ zeros n) (omega (arith, length-append bits (zeros n), length-replicate n false)) in
     ap (field (number seen)) (sym len) ∙ field-number seen
 
-pub placed : (ws : List (List Bool)) (bits : List Bool) (cell : Cell) → is_prefix_free ws ≡ true → list_all (λ v. nat_le (length v) 32) ws ≡ true → cell ≡ cell_of ws 0 (take 32 (bits ++ zeros 32)) → place_of ws bits ≡ cell_or_cause ws bits (within (length bits) cell)
-placed ws bits cell free short is =
+pub cell_found : (ws : List (List Bool)) (bits : List Bool) (cell : Cell) → is_prefix_free ws ≡ true → list_all (λ v. nat_le (length v) 32) ws ≡ true → cell ≡ cell_of ws 0 (take 32 (bits ++ zeros 32)) → found_cell ws bits ≡ cell_or_cause ws bits (within (length bits) cell)
+cell_found ws bits cell free short is =
     ap (cell_or_cause ws bits) (cell-cut ws 0 bits (zeros 32) 32 free short ∙ ap (within (length bits)) (sym is))
 
-pub placed-found : (ws : List (List Bool)) (bits : List Bool) (cell : Cell) → cell.len ≢ 0 → cell.len ≤ length bits → cell_or_cause ws bits (within (length bits) cell) ≡ Ok cell
-placed-found ws bits cell some fits =
+pub cell_found-found : (ws : List (List Bool)) (bits : List Bool) (cell : Cell) → cell.len ≢ 0 → cell.len ≤ length bits → cell_or_cause ws bits (within (length bits) cell) ≡ Ok cell
+cell_found-found ws bits cell some fits =
     ap (cell_or_cause ws bits) (cond-true (nat_le cell.len (length bits)) cell no_cell (le-leb cell.len (length bits) fits))
     ∙ elim (cases_Bool (cell.len == 0)) [
       | inl none ↦ absurd (some (eqb-true cell.len 0 none))
       | inr h ↦ cond-false (cell.len == 0) (Err (cause ws bits)) (Ok cell) h
     ]
 
-pub placed-none : (ws : List (List Bool)) (bits : List Bool) (cell : Cell) → cell.len ≡ 0 → cell_or_cause ws bits (within (length bits) cell) ≡ Err (cause ws bits)
-placed-none ws bits cell none =
+pub cell_found-none : (ws : List (List Bool)) (bits : List Bool) (cell : Cell) → cell.len ≡ 0 → cell_or_cause ws bits (within (length bits) cell) ≡ Err (cause ws bits)
+cell_found-none ws bits cell none =
     ap (cell_or_cause ws bits) (cond-true (nat_le cell.len (length bits)) cell no_cell (le-leb cell.len (length bits) (omega arith)))
     ∙ cond-true (cell.len == 0) (Err (cause ws bits)) (Ok cell) (eq-eqb cell.len 0 none)
 
-pub placed-longer : (ws : List (List Bool)) (bits : List Bool) (cell : Cell) → length bits < cell.len → cell_or_cause ws bits (within (length bits) cell) ≡ Err (cause ws bits)
-placed-longer ws bits cell longer =
+pub cell_found-longer : (ws : List (List Bool)) (bits : List Bool) (cell : Cell) → length bits < cell.len → cell_or_cause ws bits (within (length bits) cell) ≡ Err (cause ws bits)
+cell_found-longer ws bits cell longer =
     elim (cases_Bool (nat_le cell.len (length bits))) [
       | inl h ↦ absurd (omega (arith, leb-true cell.len (length bits) h))
       | inr h ↦ ap (cell_or_cause ws bits) (cond-false (nat_le cell.len (length bits)) cell no_cell h)
     ]
 
-pub err_is : {why other : Why} {place : Result Cell Why} → why ≡ other → place ≡ Err other → ◌≡◌ {A = Result Cell Why} (Err why) place
+pub err_is : {why other : Why} {index : Result Cell Why} → why ≡ other → index ≡ Err other → ◌≡◌ {A = Result Cell Why} (Err why) index
 err_is same is = cc
 
 -- ---- the word of some rows
@@ -274,37 +274,37 @@ find_none (row ∷ rows) i bits some none =
           ∙ find_none rows (i + 1) bits (and_parts _ _ some).1 (sym (ap (λ (c : Cell). c.len) (cond-false front word later other)) ∙ none)
     ]
 
-place_ok : (ws : List (List Bool)) (bits : List Bool) (cell : Cell) → place_of ws bits ≡ Ok cell → (cell_of ws 0 bits ≡ cell) × (cell.len ≢ 0)
-place_ok ws bits cell is =
+index_ok : (ws : List (List Bool)) (bits : List Bool) (cell : Cell) → found_cell ws bits ≡ Ok cell → (cell_of ws 0 bits ≡ cell) × (cell.len ≢ 0)
+index_ok ws bits cell is =
     let found = cell_of ws 0 bits in
     elim (cases_Bool ((cell_of ws 0 bits).len == 0)) [
       | inl none ↦
-          let e : place_of ws bits ≡ Err (cause ws bits) = cond-true (found.len == 0) (Err (cause ws bits)) (Ok found) none in
+          let e : found_cell ws bits ≡ Err (cause ws bits) = cond-true (found.len == 0) (Err (cause ws bits)) (Ok found) none in
           absurd cc
       | inr some ↦
-          let e : place_of ws bits ≡ Ok found = cond-false (found.len == 0) (Err (cause ws bits)) (Ok found) some in
+          let e : found_cell ws bits ≡ Ok found = cond-false (found.len == 0) (Err (cause ws bits)) (Ok found) some in
           let same : found ≡ cell = cc in
           (same, λ zero_long. false≢true (sym some ∙ eq-eqb found.len 0 (ap (λ (c : Cell). c.len) same ∙ zero_long)))
     ]
 
-place_err : (ws : List (List Bool)) (bits : List Bool) (why : Why) → place_of ws bits ≡ Err why → ((cell_of ws 0 bits).len ≡ 0) × (cause ws bits ≡ why)
-place_err ws bits why is =
+index_err : (ws : List (List Bool)) (bits : List Bool) (why : Why) → found_cell ws bits ≡ Err why → ((cell_of ws 0 bits).len ≡ 0) × (cause ws bits ≡ why)
+index_err ws bits why is =
     let found = cell_of ws 0 bits in
     elim (cases_Bool ((cell_of ws 0 bits).len == 0)) [
       | inl none ↦
-          let e : place_of ws bits ≡ Err (cause ws bits) = cond-true (found.len == 0) (Err (cause ws bits)) (Ok found) none in
+          let e : found_cell ws bits ≡ Err (cause ws bits) = cond-true (found.len == 0) (Err (cause ws bits)) (Ok found) none in
           (eqb-true found.len 0 none, cc)
       | inr some ↦
-          let e : place_of ws bits ≡ Ok found = cond-false (found.len == 0) (Err (cause ws bits)) (Ok found) some in
+          let e : found_cell ws bits ≡ Ok found = cond-false (found.len == 0) (Err (cause ws bits)) (Ok found) some in
           absurd cc
     ]
 
-pub read-found : {E : Type 0} (rows : List (Row E)) (ws : List (List Bool)) (bits : List Bool) (cell : Cell) → codes_of_rows rows ≡ ws → place_of ws bits ≡ Ok cell → IsFound rows bits cell
+pub read-found : {E : Type 0} (rows : List (Row E)) (ws : List (List Bool)) (bits : List Bool) (cell : Cell) → codes_of_rows rows ≡ ws → found_cell ws bits ≡ Ok cell → IsFound rows bits cell
 read-found rows ws bits cell codes is =
-    let place = place_ok (codes_of_rows rows) bits cell (ap (λ (ws : List (List Bool)). place_of ws bits) codes ∙ is) in
-    let found = find_some rows 0 bits (λ none. place.1 (sym (ap (λ (c : Cell). c.len) place.0) ∙ none)) in
-    let value : cell.value ≡ found.1 = sym (ap (λ (c : Cell). c.value) place.0) ∙ (found.5 ∙ zero-add found.1) in
-    let long : length found.0.code ≡ cell.len = found.6 ∙ ap (λ (c : Cell). c.len) place.0 in
+    let index = index_ok (codes_of_rows rows) bits cell (ap (λ (ws : List (List Bool)). found_cell ws bits) codes ∙ is) in
+    let found = find_some rows 0 bits (λ none. index.1 (sym (ap (λ (c : Cell). c.len) index.0) ∙ none)) in
+    let value : cell.value ≡ found.1 = sym (ap (λ (c : Cell). c.value) index.0) ∙ (found.5 ∙ zero-add found.1) in
+    let long : length found.0.code ≡ cell.len = found.6 ∙ ap (λ (c : Cell). c.len) index.0 in
     record {
       row = found.0;
       at = λ d. ap (λ (k : ℕ). get_or rows k d) value ∙ found.3 d;
@@ -314,10 +314,10 @@ read-found rows ws bits cell codes is =
       is = ap (word_of_rows rows bits) found.2;
     }
 
-pub read-none : {E : Type 0} (rows : List (Row E)) (ws : List (List Bool)) (bits : List Bool) (why : Why) → codes_of_rows rows ≡ ws → list_all (λ w. nat_lt 0 (length w)) ws ≡ true → place_of ws bits ≡ Err why → read rows bits ≡ Bad why
+pub read-none : {E : Type 0} (rows : List (Row E)) (ws : List (List Bool)) (bits : List Bool) (why : Why) → codes_of_rows rows ≡ ws → list_all (λ w. nat_lt 0 (length w)) ws ≡ true → found_cell ws bits ≡ Err why → read rows bits ≡ Bad why
 read-none rows ws bits why codes some is =
-    let place = place_err (codes_of_rows rows) bits why (ap (λ (ws : List (List Bool)). place_of ws bits) codes ∙ is) in
-    ap (word_of_rows rows bits) (find_none rows 0 bits (ap (list_all (λ w. nat_lt 0 (length w))) codes ∙ some) place.0) ∙ ap Bad place.1
+    let index = index_err (codes_of_rows rows) bits why (ap (λ (ws : List (List Bool)). found_cell ws bits) codes ∙ is) in
+    ap (word_of_rows rows bits) (find_none rows 0 bits (ap (list_all (λ w. nat_lt 0 (length w))) codes ∙ some) index.0) ∙ ap Bad index.1
 
 pub whole-good : {E : Type 0} (row : Row E) (bits : List Bool) → length row.code + row.tail ≤ length bits → whole_word row bits ≡ Good (row.make (model.number (take row.tail (drop (length row.code) bits)))) (length row.code + row.tail)
 whole-good row bits fits =
@@ -337,8 +337,8 @@ codes-plain [] = refl
 codes-plain (w ∷ ws) = ap (λ (t : List (List Bool)). w ∷ t) (codes-plain ws)
 
 -- the word that stands at the front is one of the list, and is no longer than the bits
-pub place_within : (ws : List (List Bool)) (bits : List Bool) (cell : Cell) → place_of ws bits ≡ Ok cell → (cell.value < length ws) × (cell.len ≤ length bits)
-place_within ws bits cell is =
+pub cell_within : (ws : List (List Bool)) (bits : List Bool) (cell : Cell) → found_cell ws bits ≡ Ok cell → (cell.value < length ws) × (cell.len ≤ length bits)
+cell_within ws bits cell is =
     let found = read-found (map (λ w. plain_row w) ws) ws bits cell (codes-plain ws) is in
     (omega (arith, found.inside, length-map ws (λ w. plain_row w)), found.fits)
 
@@ -348,8 +348,8 @@ all_at test (x ∷ xs) zero d all inside = (and_parts (test x) (list_all test xs
 all_at test (x ∷ xs) (suc k) d all inside = all_at test xs k d (and_parts (test x) (list_all test xs) all).1 (omega arith)
 
 -- its length is that of the list's word
-pub place_length : (ws : List (List Bool)) (bits : List Bool) (cell : Cell) → place_of ws bits ≡ Ok cell → length (get_or ws cell.value []) ≡ cell.len
-place_length ws bits cell is =
+pub cell_length : (ws : List (List Bool)) (bits : List Bool) (cell : Cell) → found_cell ws bits ≡ Ok cell → length (get_or ws cell.value []) ≡ cell.len
+cell_length ws bits cell is =
     let found = read-found (map (λ w. plain_row w) ws) ws bits cell (codes-plain ws) is in
     let inside : cell.value < length ws = omega (arith, found.inside, length-map ws (λ w. plain_row w)) in
     let row : plain_row (get_or ws cell.value []) ≡ found.row = sym (get_or-map (λ w. plain_row w) ws cell.value [] found.row inside) ∙ found.at found.row in
@@ -357,26 +357,30 @@ place_length ws bits cell is =
 
 module _ {E X : Type 0} (rows : List (Row E)) (ws : List (List Bool)) (element : X → E) (meanings : List X) (codes : codes_of_rows rows ≡ ws) where
   -- the meaning of the word that stands at the front
-  pub took_word : map (λ row. row.tail) rows ≡ map (λ row. 0) rows → map (λ row. row.make 0) rows ≡ map element meanings → (place : ℕ) (d : X) (old new : List Bool × ℕ) → TakesPlace ws (Ok place) old new → TakesWord element (read rows old.0) (Ok (get_or meanings place d)) old new
+  pub took_word : map (λ row. row.tail) rows ≡ map (λ row. 0) rows → map (λ row. row.make 0) rows ≡ map element meanings → (index : ℕ) (d : X) (old new : List Bool × ℕ) → TakesIndex ws (Ok index) old new → TakesWord element (read rows old.0) (Ok (get_or meanings index d)) old new
   unfolding model.number
-  took_word tails makes place d old new took =
-      let found = read-found rows ws old.0 (record { len = took.0; value = place }) codes took.1 in
+  took_word tails makes index d old new took =
+      let found = read-found rows ws old.0 (record { len = took.len; value = index }) codes took.cell in
       let row = found.row in
-      let at : get_or rows place row ≡ row = found.at row in
+      let at : get_or rows index row ≡ row = found.at row in
       let tail : row.tail ≡ 0 =
-      ap (λ (row : Row E). row.tail) (sym at) ∙ (sym (get_or-map (λ (row : Row E). row.tail) rows place row 0 found.inside)
-      ∙ (ap (λ (ns : List ℕ). get_or ns place 0) tails ∙ get_or-map (λ (row : Row E). 0) rows place row 0 found.inside)) in
-      let inside : place < length meanings =
+      ap (λ (row : Row E). row.tail) (sym at) ∙ (sym (get_or-map (λ (row : Row E). row.tail) rows index row 0 found.inside)
+      ∙ (ap (λ (ns : List ℕ). get_or ns index 0) tails ∙ get_or-map (λ (row : Row E). 0) rows index row 0 found.inside)) in
+      let inside : index < length meanings =
       omega (arith, found.inside, length-map rows (λ row. row.make 0), ap length makes, length-map meanings element) in
-      let make : row.make 0 ≡ element (get_or meanings place d) =
-      ap (λ (row : Row E). row.make 0) (sym at) ∙ (sym (get_or-map (λ (row : Row E). row.make 0) rows place row (row.make 0) found.inside)
-      ∙ (ap (λ (es : List E). get_or es place (row.make 0)) makes ∙ get_or-map element meanings place d (row.make 0) inside)) in
-      let size : length row.code + row.tail ≡ took.0 = omega (arith, found.long, tail) in
+      let make : row.make 0 ≡ element (get_or meanings index d) =
+      ap (λ (row : Row E). row.make 0) (sym at) ∙ (sym (get_or-map (λ (row : Row E). row.make 0) rows index row (row.make 0) found.inside)
+      ∙ (ap (λ (es : List E). get_or es index (row.make 0)) makes ∙ get_or-map element meanings index d (row.make 0) inside)) in
+      let size : length row.code + row.tail ≡ took.len = omega (arith, found.long, tail) in
       let good : whole_word row old.0 ≡ Good (row.make (model.number (take row.tail (drop (length row.code) old.0)))) (length row.code + row.tail) = whole-good row old.0 (omega (arith, size, found.fits)) in
-      let element_is : row.make (model.number (take row.tail (drop (length row.code) old.0))) ≡ element (get_or meanings place d) =
+      let element_is : row.make (model.number (take row.tail (drop (length row.code) old.0))) ≡ element (get_or meanings index d) =
       ap (λ (n : ℕ). row.make (model.number (take n (drop (length row.code) old.0)))) tail ∙ make in
-      (took.0, found.is ∙ (good ∙ (ap (λ (e : E). Good e (length row.code + row.tail)) element_is ∙ ap (Good (element (get_or meanings place d))) size)), took.2)
+      record {
+        len = took.len;
+        good = found.is ∙ (good ∙ (ap (λ (e : E). Good e (length row.code + row.tail)) element_is ∙ ap (Good (element (get_or meanings index d))) size));
+        behind = took.behind;
+      }
 
   -- no word stands there
-  pub took_none : list_all (λ w. nat_lt 0 (length w)) ws ≡ true → (why : Why) (old new : List Bool × ℕ) → TakesPlace ws (Err why) old new → TakesWord {X = X} element (read rows old.0) (Err why) old new
-  took_none some why old new took = (read-none rows ws old.0 why codes some took.0, took.1)
+  pub took_none : list_all (λ w. nat_lt 0 (length w)) ws ≡ true → (why : Why) (old new : List Bool × ℕ) → TakesIndex ws (Err why) old new → TakesWord {X = X} element (read rows old.0) (Err why) old new
+  took_none some why old new took = record { bad = read-none rows ws old.0 why codes some took.none; kept = took.kept }

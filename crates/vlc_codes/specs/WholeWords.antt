@@ -1,4 +1,5 @@
--- Whole words: a code and the bits that follow it, as the sign of a coefficient, or the run and the level of an escape.
+-- Whole words: a codeword and the bits that follow it, as the sign of a coefficient, or the run and the level of an
+-- escape.
 use Rattle.std.specs.Prelude.{◌≡◌, ◌+◌, Bool, true, List, length, Any}
 use Rattle.pel_model.specs.Codes.{is_prefix}
 use Rattle.pel_model.specs.Walk.{Row}
@@ -11,6 +12,6 @@ pub record IsWordOf {E : Type 0} (row : Row E) (word : List Bool) : Type 0 where
 abbrev pub IsWord : {E : Type 0} → List (Row E) → List Bool → Type 0
 IsWord rows word = Any (λ row. IsWordOf row word) rows
 
--- a whole word that is a front of a whole word is that word
+-- no whole word is a prefix of another: one that is a prefix of one is that one
 abbrev pub ArePrefixFree : {E : Type 0} → List (Row E) → Type 0
 ArePrefixFree rows = (word other : List Bool) → IsWord rows word → IsWord rows other → is_prefix word other ≡ true → word ≡ other

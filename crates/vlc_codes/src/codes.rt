@@ -227,7 +227,7 @@ pub static FIRST_COEFFICIENT: [(u16, u8); 64] = [
     (0b000001, 6),
 ];
 
-// TCOEFF at every other place: the codes without their sign, then the escape and the end of a block.
+// TCOEFF everywhere else: the codes without their sign, then the escape and the end of a block.
 pub static COEFFICIENT: [(u16, u8); 65] = [
     (0b11, 2),
     (0b0100, 4),

@@ -1,4 +1,4 @@
-//! The words of H.261's code tables: which of them stands at a reader's place, or why none does.
+//! The codewords of H.261's code tables: which of them comes next to a reader, or why none does.
 #![tactic(auto)]
 
 mod cells;
@@ -22,10 +22,11 @@ ghost use Rattle.vlc_codes.specs.declared.lookup.Table.{Table};
 pub use lookup::{Cell, Table, look_up};
 pub use readers::{CoefRow, MbaRow, cbp, mba, mtype, mvd, tcoeff};
 
-/// The laws of the lists: no word of a list is the front of another, and no word that may stand at a place of a picture
-/// is the front of another that may stand there; nor is a whole word, with the sign of a coefficient or the run and the
-/// level of an escape. So what stands at a place lies within the bits, and what follows it does not change it. The bits of numbers and of octets, the numbers that bits spell, and the
-/// places of readings are in the model of pictures what they are to readers and buffers.
+/// The laws of the lists: no codeword of a list is a prefix of another, and no codeword that may stand behind some
+/// elements of a picture is a prefix of another that may stand there; nor is a whole word, with the sign of a coefficient
+/// or the run and the level of an escape. So a word that was read lies within the bits, and what follows it does not
+/// change it. The bits of numbers and of octets, the numbers that bits spell, and the
+/// positions of readings are in the model of pictures what they are to readers and buffers.
 pub fn list_laws()
     ensures free { (table : Table) → is_prefix_free (words table) ≡ true }
     ensures slots { (slot : Slot) → is_prefix_free (codes_of_rows (rows slot)) ≡ true }
@@ -35,5 +36,5 @@ pub fn list_laws()
     ensures fields { (n w : ℕ) → model_field n w ≡ field n w }
     ensures numbers { (bits : List Bool) → model_number bits ≡ number bits }
     ensures octets { (octets : List ℕ) → model_bits octets ≡ bits octets }
-    ensures places { (n : ℕ) (reading : List Bool × ℕ) → model_skipped n reading ≡ skipped n reading }
+    ensures positions { (n : ℕ) (reading : List Bool × ℕ) → model_skipped n reading ≡ skipped n reading }
 {}

@@ -1,4 +1,4 @@
-//! The word of a list that stands at the front of the next 32 bits, by one look at a table.
+//! The codeword of a list that is a prefix of the next 32 bits, by one look at a table.
 #![tactic(auto)]
 
 ghost use Rattle.std.specs.Prelude.{◌≡◌, ◌^◌, ◌<◌, ◌≤◌, ◌++◌, map, take};
@@ -8,7 +8,7 @@ ghost use Rattle.pel_bits.specs.Reading.{zeros};
 ghost use Rattle.pel_model.specs.Codes.{is_prefix};
 ghost use Rattle.pel_model.specs.Walk.{cause};
 ghost use Rattle.vlc_codes.specs.Lookup.{words, cell_of};
-ghost use Rattle.vlc_codes.specs.Inner.{cell_in, code_word, place_of};
+ghost use Rattle.vlc_codes.specs.Inner.{cell_in, code_word, found_cell};
 
 use crate::cells::Cells;
 use crate::{cells, codes};
@@ -29,7 +29,7 @@ pub enum Table {
     /// The codes of TCOEFF without their sign, then the escape without what follows it, where a block without INTRADC
     /// begins (H.261, 4.2.4.1).
     CoefFirst,
-    /// The same at every other place, then the end of a block.
+    /// The same everywhere else, then the end of a block.
     Coef,
 }
 
@@ -38,7 +38,7 @@ pub enum Table {
 pub struct Cell {
     /// The length in bits, at most 13.
     pub len: u8,
-    /// The place in the list, from 0.
+    /// The index in the list, from 0.
     pub value: u16,
 }
 
@@ -60,7 +60,7 @@ pub fn look_up(table: Table, top: u32) -> Cell
 // The cell of the number of leading zeros and the five bits behind the first 1. No word has more than 9 zeros first.
 #[inline]
 fn cell_at(cells: &Cells, top: u32) -> Cell
-    ensures { result ≡ cell_in cells.now.lens cells.now.places top }
+    ensures { result ≡ cell_in cells.now.lens cells.now.indices top }
 {
     let zeros = top.leading_zeros();
     if zeros > 9 {
@@ -70,15 +70,15 @@ fn cell_at(cells: &Cells, top: u32) -> Cell
     let index = (32 * zeros + six - 32) as usize;
     Cell {
         len: cells.lens[index],
-        value: u16::from(cells.places[index]),
+        value: u16::from(cells.indices[index]),
     }
 }
 
-/// The word of the list that stands at the reader's place, or why none does. `top` is what it peeks at in 32 bits.
+/// The codeword of the list that comes next to the reader, or why none does. `top` is what it peeks at in 32 bits.
 #[inline]
 pub fn word_at(table: Table, r: &Reader<'_>, top: u32) -> Result<Cell, Why>
     requires { top ≡ number (take 32 (r.now.0 ++ zeros 32)) }
-    ensures { result ≡ place_of (words table) r.now.0 }
+    ensures { result ≡ found_cell (words table) r.now.0 }
 {
     let cell = look_up(table, top);
     if cell.len == 0 || r.left() < u32::from(cell.len) {
@@ -87,7 +87,7 @@ pub fn word_at(table: Table, r: &Reader<'_>, top: u32) -> Result<Cell, Why>
     Ok(cell)
 }
 
-// Why no word of the list stands at the reader's place. It is inlined so that no reader has to stand in memory for it.
+// Why no codeword of the list comes next to the reader. It is inlined so that no reader has to stand in memory for it.
 #[inline(always)]
 fn why_none(table: Table, r: &Reader<'_>) -> Why
     ensures { result ≡ cause (words table) r.now.0 }
@@ -100,7 +100,7 @@ fn why_none(table: Table, r: &Reader<'_>) -> Why
     }
 }
 
-// Whether the last `len` bits of `front` are the front of a word of the list.
+// Whether the last `len` bits of `front` are a prefix of a codeword of the list.
 #[cold]
 #[inline(never)]
 fn begins_a_word(table: Table, front: u32, len: u32) -> bool

@@ -1,4 +1,4 @@
-//! The five readers: each takes the word of its list that stands at the reader's place, or says why none does and
+//! The five readers: each takes the word of its list that comes next to the reader, or says why none does and
 //! takes nothing.
 #![tactic(auto)]
 
@@ -10,7 +10,7 @@ ghost use Rattle.pel_model.specs.Records.{Axis};
 ghost use Rattle.pel_model.specs.Walk.{TakesWord, read, whole_word};
 ghost use Rattle.pel_model.specs.Grammar.{Mtype, Mvd, Cbp, mba_rows, table_rows, first_rows, later_rows, coefficient_row, escape_row, signed, from_twos_complement};
 ghost use Rattle.vlc_codes.specs.Lookup.{words};
-ghost use Rattle.vlc_codes.specs.Inner.{TakesPlace};
+ghost use Rattle.vlc_codes.specs.Inner.{TakesIndex};
 ghost use Rattle.vlc_codes.specs.declared.lookup.Table.TheVariants.{CoefFirst, Coef};
 ghost use Rattle.vlc_codes.specs.Rows.{mba_element, coefficient_element};
 
@@ -48,11 +48,11 @@ pub enum CoefRow {
     Eob,
 }
 
-// Takes a word of a list, and gives its place in it.
+// Takes a codeword of a list, and gives its index in the list.
 #[inline(always)]
 fn take_word(table: Table, r: &mut Reader<'_>) -> Result<u16, Why>
-    ensures place { TakesPlace (words table) result r.old r.new }
-    ensures inside { IfOk result (λ place. place < length (words table)) }
+    ensures index { TakesIndex (words table) result r.old r.new }
+    ensures inside { IfOk result (λ index. index < length (words table)) }
 {
     let cell = word_at(table, r, r.peek(32))?;
     r.skip(u32::from(cell.len));
@@ -64,9 +64,9 @@ fn take_word(table: Table, r: &mut Reader<'_>) -> Result<u16, Why>
 pub fn mba(r: &mut Reader<'_>) -> Result<MbaRow, Why>
     ensures { TakesWord mba_element (read mba_rows r.old.0) result r.old r.new }
 {
-    let place = take_word(Table::Mba, r)?;
-    if place < 33 {
-        Ok(MbaRow::Difference(place as u8 + 1))
+    let index = take_word(Table::Mba, r)?;
+    if index < 33 {
+        Ok(MbaRow::Difference(index as u8 + 1))
     } else {
         Ok(MbaRow::Stuffing)
     }
@@ -77,8 +77,8 @@ pub fn mba(r: &mut Reader<'_>) -> Result<MbaRow, Why>
 pub fn mtype(r: &mut Reader<'_>) -> Result<MbKind, Why>
     ensures { TakesWord Mtype (read (table_rows mtype_table Mtype) r.old.0) result r.old r.new }
 {
-    let place = take_word(Table::Mtype, r)?;
-    Ok(KINDS[usize::from(place)])
+    let index = take_word(Table::Mtype, r)?;
+    Ok(KINDS[usize::from(index)])
 }
 
 /// Takes a word of MVD (H.261, 4.2.3.4) and gives the two differences, -30 to 30, that it stands for, which are equal
@@ -88,8 +88,8 @@ pub fn mvd(r: &mut Reader<'_>) -> Result<(i8, i8), Why>
     ensures word { (axis : Axis) → TakesWord (Mvd axis) (read (table_rows mvd_table (Mvd axis)) r.old.0) result r.old r.new }
     ensures range { IfOk result (λ v. (negsuc 29 ≤ℤ v.0) × (v.0 ≤ℤ pos 30) × (negsuc 29 ≤ℤ v.1) × (v.1 ≤ℤ pos 30)) }
 {
-    let place = take_word(Table::Mvd, r)?;
-    Ok(DIFFERENCES[usize::from(place)])
+    let index = take_word(Table::Mvd, r)?;
+    Ok(DIFFERENCES[usize::from(index)])
 }
 
 /// Takes a word of CBP (H.261, 4.2.3.5) and gives the pattern: 32, 16, 8 and 4 for the luminance blocks, 2 for CB and 1
@@ -98,8 +98,8 @@ pub fn mvd(r: &mut Reader<'_>) -> Result<(i8, i8), Why>
 pub fn cbp(r: &mut Reader<'_>) -> Result<u8, Why>
     ensures { TakesWord Cbp (read (table_rows cbp_table Cbp) r.old.0) result r.old r.new }
 {
-    let place = take_word(Table::Cbp, r)?;
-    Ok(PATTERNS[usize::from(place)])
+    let index = take_word(Table::Cbp, r)?;
+    Ok(PATTERNS[usize::from(index)])
 }
 
 /// Takes a word of TCOEFF (H.261, 4.2.4.1); `first` says that a block without INTRADC begins. The levels of an escape

@@ -345,7 +345,7 @@ fn each_code_of_tcoeff(rt: HostRuntime) {
 }
 
 #[test]
-fn words_of_tcoeff_by_their_place(rt: HostRuntime) {
+fn words_of_tcoeff_by_where_they_stand(rt: HostRuntime) {
     let one = CoefRow::Pair { run: 0, level: 1 };
     let less = CoefRow::Pair { run: 0, level: -1 };
     let long = CoefRow::Escape {

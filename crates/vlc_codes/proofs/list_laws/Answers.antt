@@ -15,5 +15,5 @@ returns c = record {
   fields = same_field;
   numbers = same_number;
   octets = same_bits;
-  places = λ n r. refl;
+  positions = λ n r. refl;
 }

@@ -1,5 +1,5 @@
 use Rattle.std.proofs.Common.{◌∙◌, ap, length}
-use Rattle.pel_model.specs.Text.{picture_header_length}
+use Rattle.pel_model.specs.Headers.{picture_header_length}
 use Rattle.h261_pic.specs.Coded.{Coding}
 use Rattle.h261_pic.proofs.Texts.{length-views}
 use Rattle.h261_pic.proofs.parser_tests.parsed.Goals as goal

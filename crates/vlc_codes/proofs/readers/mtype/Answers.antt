@@ -10,14 +10,14 @@ use Rattle.vlc_codes.proofs.Computed.{mtype_codes, mtype_tails, mtype_makes, wor
 use Rattle.vlc_codes.proofs.WordLaws.{took_word, took_none}
 use Rattle.vlc_codes.proofs.readers.mtype.Goals as goal
 
-pub returns-in_err-place : goal.returns-in_err-place
-returns-in_err-place c =
+pub returns-in_err-index : goal.returns-in_err-index
+returns-in_err-index c =
     let p = err_from_is_err_and c.from_residual.result c.from_residual.ensures.1 in
-    rw (p.1, p.2) (took_none (table_rows mtype_table grammar.Mtype) (words Mtype) grammar.Mtype KINDS mtype_codes (words_some Mtype) _ c.args.r.now c.take_word.new.r c.in_err-place.ensures.place)
+    rw (p.1, p.2) (took_none (table_rows mtype_table grammar.Mtype) (words Mtype) grammar.Mtype KINDS mtype_codes (words_some Mtype) _ c.args.r.now c.take_word.new.r c.in_err-index.ensures.index)
 
 pub bounds-from : goal.bounds-from
-bounds-from c = omega (arith, c.from.ensures, c.in_ok-place.ensures.inside, words_counted Mtype)
+bounds-from c = omega (arith, c.from.ensures, c.in_ok-index.ensures.inside, words_counted Mtype)
 
 pub returns : goal.returns
 returns c =
-    rw c.from.ensures (took_word (table_rows mtype_table grammar.Mtype) (words Mtype) grammar.Mtype KINDS mtype_codes mtype_tails mtype_makes c.in_ok-place.place _ c.args.r.now c.take_word.new.r c.in_ok-place.ensures.place)
+    rw c.from.ensures (took_word (table_rows mtype_table grammar.Mtype) (words Mtype) grammar.Mtype KINDS mtype_codes mtype_tails mtype_makes c.in_ok-index.index _ c.args.r.now c.take_word.new.r c.in_ok-index.ensures.index)

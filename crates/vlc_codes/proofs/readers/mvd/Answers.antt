@@ -10,20 +10,20 @@ use Rattle.vlc_codes.proofs.Computed.{mvd_codes, mvd_tails, mvd_makes, words_som
 use Rattle.vlc_codes.proofs.WordLaws.{took_word, took_none}
 use Rattle.vlc_codes.proofs.readers.mvd.Goals as goal
 
-pub returns-in_err-place-clause-word : goal.returns-in_err-place-clause-word
-returns-in_err-place-clause-word c =
+pub returns-in_err-index-clause-word : goal.returns-in_err-index-clause-word
+returns-in_err-index-clause-word c =
     let p = err_from_is_err_and c.from_residual.result c.from_residual.ensures.1 in
-    rw (p.1, p.2) (λ axis. took_none (table_rows mvd_table (grammar.Mvd axis)) (words Mvd) (grammar.Mvd axis) DIFFERENCES (mvd_codes axis) (words_some Mvd) _ c.args.r.now c.take_word.new.r c.in_err-place.ensures.place)
+    rw (p.1, p.2) (λ axis. took_none (table_rows mvd_table (grammar.Mvd axis)) (words Mvd) (grammar.Mvd axis) DIFFERENCES (mvd_codes axis) (words_some Mvd) _ c.args.r.now c.take_word.new.r c.in_err-index.ensures.index)
 
 pub bounds-from : goal.bounds-from
-bounds-from c = omega (arith, c.from.ensures, c.in_ok-place.ensures.inside, words_counted Mvd)
+bounds-from c = omega (arith, c.from.ensures, c.in_ok-index.ensures.inside, words_counted Mvd)
 
 pub returns-clause-word : goal.returns-clause-word
 returns-clause-word c =
-    rw c.from.ensures (λ axis. took_word (table_rows mvd_table (grammar.Mvd axis)) (words Mvd) (grammar.Mvd axis) DIFFERENCES (mvd_codes axis) (mvd_tails axis) (mvd_makes axis) c.in_ok-place.place _ c.args.r.now c.take_word.new.r c.in_ok-place.ensures.place)
+    rw c.from.ensures (λ axis. took_word (table_rows mvd_table (grammar.Mvd axis)) (words Mvd) (grammar.Mvd axis) DIFFERENCES (mvd_codes axis) (mvd_tails axis) (mvd_makes axis) c.in_ok-index.index _ c.args.r.now c.take_word.new.r c.in_ok-index.ensures.index)
 
 pub offset_bounds-from : goal.offset_bounds-from
-offset_bounds-from c = omega (arith, c.from.ensures, c.in_ok-place.ensures.inside, words_counted Mvd)
+offset_bounds-from c = omega (arith, c.from.ensures, c.in_ok-index.ensures.inside, words_counted Mvd)
 
 pub returns-clause-range : goal.returns-clause-range
-returns-clause-range c = differences_bounds c.from.result _ (omega (arith, c.from.ensures, c.in_ok-place.ensures.inside, words_counted Mvd))
+returns-clause-range c = differences_bounds c.from.result _ (omega (arith, c.from.ensures, c.in_ok-index.ensures.inside, words_counted Mvd))

@@ -5,4 +5,4 @@ use Rattle.vlc_codes.proofs.readers.pair.Goals as goal
 
 pub returns : goal.returns
 returns c = λ code long.
-    (c.args.len + 1, pair-good c.args.r.now.0 code c.args.top c.args.len c.args.run c.args.level _ c.requires.top long (omega arith) c.requires.short (to_z-of_z w8 c.with_sign.result (search rules) ∙ c.with_sign.ensures), c.skip.ensures)
+    record { len = c.args.len + 1; good = pair-good c.args.r.now.0 code c.args.top c.args.len c.args.run c.args.level _ c.requires.top long (omega arith) c.requires.short (to_z-of_z w8 c.with_sign.result (search rules) ∙ c.with_sign.ensures); behind = c.skip.ensures }
