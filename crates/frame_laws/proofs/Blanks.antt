@@ -1,15 +1,14 @@
 -- Pictures that send nothing, and places whose groups send nothing.
-use Rattle.std.proofs.Common.{◌≡◌, ◌⊎◌, ℕ, ◌*◌, ◌/◌, ◌==◌, Bool, true, false, if◌then◌else◌, List, [], ◌∷◌, Option, None, Some, All, refl, sym, ◌∙◌, ap, arith}
+use Rattle.std.proofs.Common.{◌≡◌, ℕ, ◌*◌, ◌/◌, ◌==◌, Bool, true, false, if◌then◌else◌, [], ◌∷◌, Option, None, All, refl, sym, ◌∙◌, ap}
 use Rattle.std.proofs.Math.Path.{fun_ext}
 use Rattle.std.proofs.lemmas.List.Elements.{All-nil, All-cons}
-use Rattle.pel_model.specs.declared.Format.TheVariants.{Qcif, Cif}
+use Rattle.pel_model.specs.declared.Format.TheVariants.{Qcif}
 use Rattle.pel_model.specs.declared.Quad.{Quad}
-use Rattle.pel_model.specs.Composed.{groups_in}
 use Rattle.pel_model.specs.Crop.{crop}
 use Rattle.pel_model.specs.Decode.{Quantised, group_of, macroblock_at, decoded, decode}
 use Rattle.pel_model.specs.Frames.{Plane, Frame, ratio, is_inside, cut}
-use Rattle.pel_model.specs.Records.{Across, Down, Macroblock, Group, Picture}
-use Rattle.pel_model.specs.Regions.{moved, blank, empty_group}
+use Rattle.pel_model.specs.Records.{Across, Down, Macroblock, Group}
+use Rattle.pel_model.specs.Regions.{blank, empty_group}
 use Rattle.pel_model.specs.Transform.{Transform}
 use Rattle.frame_laws.specs.Laws.{StaysInside, VectorsStayInside, BlankLaw, UnchangedLaw}
 use Rattle.frame_laws.proofs.Quadrants.{law, decode-inside, decode-outside, crop-outside}

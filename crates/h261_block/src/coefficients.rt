@@ -4,7 +4,7 @@
 ghost use Rattle.std.specs.Prelude.{◌≡◌, ◌≤◌, ◌+◌, ◌==◌, nat_lt, cond, List, IfOk, IfNone};
 ghost use Rattle.pel_model.specs.declared.Format.{Format};
 ghost use Rattle.pel_model.specs.Grammar.{Element, Dc, slot, AtDc, AtFirst, AtCoefficient, filled as filled_before, faults, first_why, next};
-ghost use Rattle.pel_model.specs.Levels.{dc_level};
+ghost use Rattle.pel_model.specs.Levels.{dc_level as level_of_dc};
 ghost use Rattle.pel_model.specs.Walk.{Takes};
 ghost use Rattle.pel_model.specs.declared.Why.TheVariants.{TooMany};
 ghost use Rattle.vlc_codes.specs.Rows.{coefficient_element};

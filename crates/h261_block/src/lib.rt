@@ -1,6 +1,8 @@
 //! Blocks of H.261 (4.2.4): one is read past, or its levels are read, or its first fault is found.
 #![tactic(auto)]
 
+mod ahead;
+mod cells;
 mod coefficients;
 
 ghost use Rattle.std.specs.Prelude.{◌≡◌, cond, List, is_some};
@@ -11,6 +13,7 @@ ghost use Rattle.pel_model.specs.Grammar.{Element, slot, AtDc, AtFirst, next};
 ghost use Rattle.pel_model.specs.Records.{Block};
 ghost use Rattle.pel_model.specs.Walk.{Walked};
 
+use ahead::some_words;
 use coefficients::{coefficient, dc, dc_level, run_and_level};
 use pel_bits::Reader;
 use pel_model::Fault;
@@ -27,8 +30,8 @@ pub fn scan_block(r: &mut Reader<'_>, intra: bool) -> Result<(), Fault>
         dc(r)?;
         filled = 1;
     }
-    while let Some((run, _)) = run_and_level(coefficient(r, filled)?) {
-        filled += u32::from(run) + 1;
+    while let Some(behind) = some_words(r, filled)? {
+        filled = behind;
     }
     Ok(())
 }
@@ -60,21 +63,36 @@ mod tests {
     use pel_bits::Bits;
     use pel_model::Why;
 
-    // Up to 64 digits, at the front of eight octets.
-    fn octets(digits: &str) -> [u8; 8] {
-        let mut bits: u64 = 0;
-        let mut place: u64 = 0x8000_0000_0000_0000;
-        for digit in digits.bytes() {
-            if digit == b'1' {
-                bits |= place;
-            }
-            place >>= 1;
+    // Digits, then some times 110, then more digits, at the front of 32 octets.
+    fn octets(front: &str, times: usize, behind: &str) -> [u8; 32] {
+        let mut octets = [0; 32];
+        let mut place = 0;
+        for digit in front.bytes() {
+            write(&mut octets, &mut place, digit);
         }
-        bits.to_be_bytes()
+        for _ in 0..times {
+            for digit in "110".bytes() {
+                write(&mut octets, &mut place, digit);
+            }
+        }
+        for digit in behind.bytes() {
+            write(&mut octets, &mut place, digit);
+        }
+        octets
     }
 
-    fn reader<'a>(octets: &'a [u8; 8], digits: &str) -> Reader<'a> {
-        Reader::new(Bits::new(octets, 0, digits.len().min(64) as u32))
+    fn write(octets: &mut [u8; 32], place: &mut usize, digit: u8) {
+        if let Some(octet) = octets.get_mut(*place / 8) {
+            if digit == b'1' {
+                *octet |= 0x80 >> (*place % 8);
+            }
+            *place += 1;
+        }
+    }
+
+    // A reader of the digits alone.
+    fn reader<'a>(octets: &'a [u8; 32], digits: &str) -> Reader<'a> {
+        Reader::new(Bits::new(octets, 0, digits.len().min(256) as u32))
     }
 
     #[test]
@@ -85,7 +103,7 @@ mod tests {
             ("1111111110", true, 1024),
             ("0000000110", true, 8),
         ] {
-            let octets = octets(digits);
+            let octets = octets(digits, 0, "");
             let mut r = reader(&octets, digits);
             assert_eq!(rt; scan_block(&mut r, intra), Ok(()));
             assert_eq!(rt; r.left(), 0);
@@ -103,7 +121,7 @@ mod tests {
     fn levels_in_the_order_of_transmission(rt: HostRuntime) {
         // INTRADC 2, run 2 and level -1, an escape of run 3 and level 127, run 0 and level 2, the end
         let digits = "0000001001011000001000011011111110100010";
-        let octets = octets(digits);
+        let octets = octets(digits, 0, "");
         let mut levels = [0; 64];
         assert_eq!(rt;
             read_levels(&mut reader(&octets, digits), true, &mut levels),
@@ -132,13 +150,59 @@ mod tests {
             ("1111111100000111111110000001", true, 8, Why::TooMany),
             ("00000111111110000001110", false, 20, Why::TooMany),
         ] {
-            let octets = octets(digits);
+            let octets = octets(digits, 0, "");
             let mut r = reader(&octets, digits);
             let fault = Fault { place, why };
             assert_eq!(rt; scan_block(&mut r, intra), Err(fault));
             assert_eq!(rt; r.place(), place);
             let mut r = reader(&octets, digits);
             assert_eq!(rt; read_levels(&mut r, intra, &mut [0; 64]), Err(fault));
+            assert_eq!(rt; r.place(), place);
+        }
+    }
+
+    // Behind the first coefficient 110 is run 0 and level 1. Zeros stand behind the digits up to the 256th bit.
+    #[test]
+    fn words_of_a_window(rt: HostRuntime) {
+        for (front, times, behind, intra, len) in [
+            // several words of one look, and the end of the block among them
+            ("10", 1, "11110", false, 10),
+            ("0110", 1, "11110", false, 12),
+            ("00001000", 1, "0100011010", true, 21),
+            // run 22 as a code of 14 bits, and escapes before and behind a word
+            ("10", 0, "0000000011111011010", false, 21),
+            (
+                "1000000100001000000010",
+                1,
+                "0000010000011000000110",
+                false,
+                47,
+            ),
+            // an escape that begins in one window and ends in the next, and all 64 coefficients
+            ("10", 12, "0000010000011000000110", false, 60),
+            ("10", 63, "10", false, 193),
+        ] {
+            let octets = octets(front, times, behind);
+            let mut r = Reader::new(Bits::new(&octets, 0, 256));
+            assert_eq!(rt; scan_block(&mut r, intra), Ok(()));
+            assert_eq!(rt; r.place(), len);
+        }
+    }
+
+    #[test]
+    fn first_faults_behind_words_of_a_window(rt: HostRuntime) {
+        for (front, times, behind, place, why) in [
+            ("10", 5, "0000000001", 17, Why::NoCode),
+            ("10", 14, "0000000001", 44, Why::NoCode),
+            ("10", 12, "00000100000100000000", 38, Why::BadLevel),
+            ("10", 16, "00000100000110000000", 50, Why::BadLevel),
+            ("10", 10, "00000111111100000010", 32, Why::TooMany),
+            ("10", 64, "10", 191, Why::TooMany),
+        ] {
+            let octets = octets(front, times, behind);
+            let mut r = Reader::new(Bits::new(&octets, 0, 256));
+            let fault = Fault { place, why };
+            assert_eq!(rt; scan_block(&mut r, false), Err(fault));
             assert_eq!(rt; r.place(), place);
         }
     }

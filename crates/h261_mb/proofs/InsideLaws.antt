@@ -16,8 +16,8 @@ pub inside-blocks : (bs : List Block) → AreInside (flat_map block_elements bs)
 inside-blocks [] = tt
 inside-blocks (b ∷ bs) = inside-append (block_elements b) (flat_map block_elements bs) (inside-block b) (inside-blocks bs)
 
-pub inside-head : (es : List Element) (d : ℕ) (k : MbKind) (mquant : Option ℕ) → es ≡ Mba d ∷ Mtype k ∷ mquant_elements mquant → AreInside (drop 1 es)
-inside-head es d k mquant is = subst (λ (es : List Element). AreInside (drop 1 es)) (sym is) (inside-mquant mquant)
+pub inside-front : (es : List Element) (d : ℕ) (k : MbKind) (mquant : Option ℕ) → es ≡ Mba d ∷ Mtype k ∷ mquant_elements mquant → AreInside (drop 1 es)
+inside-front es d k mquant is = subst (λ (es : List Element). AreInside (drop 1 es)) (sym is) (inside-mquant mquant)
 
 pub inside-read_vector : (es : List Element) (k : MbKind) (across down : ℤ × ℤ) → es ≡ vector_elements k across down → AreInside es
 inside-read_vector es k across down is = subst AreInside (sym is) (inside-vector k across down)
@@ -46,7 +46,7 @@ still before xs ys h = ap (λ (b : List Element). may_end (slot b)) (after-appen
 pub stays_later : (before xs ys : List Element) → AreInside xs → StaysInside (after before xs) ys → StaysInside before (xs ++ ys)
 stays_later before xs ys here there = (inside-append xs ys here there.0, still before xs ys there.1)
 
--- a head, and more that stay inside
+-- a front, and more that stay inside
 pub so_far_later : (before xs ys : List Element) → 1 ≤ length xs → AreInside (drop 1 xs) → StaysInside (after before xs) ys → IsMacroblockSoFar before (xs ++ ys)
 so_far_later before xs ys some here there =
     (subst AreInside (sym (drop-append-le 1 xs ys some)) (inside-append (drop 1 xs) ys here there.0), inr (still before xs ys there.1))

@@ -5,6 +5,7 @@ pub mod Vectors
 pub mod Patterns
 pub mod Passing
 pub mod Placing
-pub mod Heads
+pub mod Fronts
 pub mod Steps
 pub mod SentBlocks
+pub mod HeaderLaws

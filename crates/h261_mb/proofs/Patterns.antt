@@ -1,5 +1,5 @@
 -- The six bits of CBP.
-use Rattle.std.proofs.Common.{◌≡◌, ℕ, ◌<◌, ◌==◌, ◌&&◌, Bool, true, List, length, count_by, get_or, refl, sym, ◌∙◌, ap}
+use Rattle.std.proofs.Common.{◌≡◌, ℕ, zero, suc, ◌<◌, ◌/◌, ◌%◌, ◌==◌, ◌&&◌, Bool, true, List, [], ◌∷◌, length, slice_get, slice_index, Some, arith, count_by, get_or, refl, sym, ◌∙◌, ap}
 use Rattle.std.proofs.lemmas.Bool.{eqb-true, and_parts}
 use Rattle.std.specs.Prelude.{count_ones}
 use Rattle.std.specs.Int.Count.{ones as ones_set, ones_in}
@@ -28,6 +28,17 @@ six_counted c within =
 pub six_number : (c : ℕ) → c < 64 → number (field c 6) ≡ c
 six_number c within =
     eqb-true (number (field c 6)) c (and_parts (count_by (λ b. b) (field c 6) == ones c) _ (and_parts (count_ones c == ones c) _ (told c within)).1).1
+
+-- a block's bit
+pub bit-of-six : (n i : ℕ) → i < 6 → slice_get (field n 6) i ≡ Some (n / slice_index (32 ∷ 16 ∷ 8 ∷ 4 ∷ 2 ∷ 1 ∷ []) i % 2 == 1)
+unfolding field
+bit-of-six n zero below = refl
+bit-of-six n (suc zero) below = refl
+bit-of-six n (suc (suc zero)) below = refl
+bit-of-six n (suc (suc (suc zero))) below = refl
+bit-of-six n (suc (suc (suc (suc zero)))) below = refl
+bit-of-six n (suc (suc (suc (suc (suc zero))))) below = refl
+bit-of-six n (suc (suc (suc (suc (suc (suc i)))))) below = absurd (omega arith)
 
 pub six_long : (c : ℕ) → length (field c 6) ≡ 6
 unfolding field

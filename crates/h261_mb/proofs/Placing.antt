@@ -1,11 +1,12 @@
 -- Blocks in their places: those that are sent stand where CBP has a one.
-use Rattle.std.proofs.Common.{◌≡◌, ℕ, suc, ◌+◌, Bool, true, false, cond, List, [], ◌∷◌, ◌++◌, ℤ, length, map, flat_map, count_by, Option, Some, None, is_some, refl, sym, ◌∙◌, ap, arith}
+use Rattle.std.proofs.Common.{◌≡◌, ℕ, suc, ◌+◌, Bool, true, false, cond, List, [], ◌∷◌, ◌++◌, ℤ, length, map, flat_map, count_by, Option, Some, None, is_some, refl, sym, ◌∙◌, ap, arith, append_assoc}
 use Rattle.std.proofs.lemmas.List.Sums.{sum_by-cons}
 use Rattle.pel_model.specs.Bits.{number}
 use Rattle.pel_model.specs.Records.{Block, Macroblock}
 use Rattle.pel_model.specs.Text.{coded_block_pattern}
 use Rattle.pel_model.specs.Elements.{block_elements, mquant_elements, vector_elements, cbp_elements, blocks_elements, macroblock_elements}
 use Rattle.pel_model.specs.Grammar.{Element, Mba, Mtype}
+use Rattle.h261_mb.specs.State.{header_elements}
 
 abbrev pub placed : List Bool → List Block → List (Option Block)
 placed [] bs = []
@@ -43,11 +44,14 @@ module _ (m : Macroblock) (d : ℕ) (across down : ℤ × ℤ) (pattern : List B
   blocks_is : blocks_elements m.blocks ≡ flat_map block_elements bs
   blocks_is = ap blocks_elements blocks_are ∙ placed-elements pattern bs counted
 
-  -- the four parts of a macroblock are its elements
-  pub whole_elements : (head vector cbp blocks : List Element) → head ≡ Mba d ∷ Mtype m.kind ∷ mquant_elements m.mquant → vector ≡ vector_elements m.kind across down → cbp ≡ cbp_elements m.kind (number pattern) → blocks ≡ flat_map block_elements bs → head ++ (vector ++ (cbp ++ blocks)) ≡ macroblock_elements d across down m
-  whole_elements head vector cbp blocks head_is vector_is cbp_is last_is =
-      let first : List Element = Mba d ∷ Mtype m.kind ∷ mquant_elements m.mquant in
-      ap (λ (es : List Element). es ++ (vector ++ (cbp ++ blocks))) head_is
-      ∙ (ap (λ (es : List Element). first ++ (es ++ (cbp ++ blocks))) vector_is
-      ∙ (ap (λ (es : List Element). first ++ (vector_elements m.kind across down ++ (es ++ blocks))) (cbp_is ∙ ap (cbp_elements m.kind) (sym pattern_is))
-      ∙ ap (λ (es : List Element). first ++ (vector_elements m.kind across down ++ (cbp_elements m.kind (coded_block_pattern m.blocks) ++ es))) (last_is ∙ sym blocks_is)))
+  -- its header and its blocks are its elements
+  pub whole_elements : (head blocks : List Element) → head ≡ header_elements d m.kind m.mquant across down (number pattern) → blocks ≡ flat_map block_elements bs → head ++ blocks ≡ macroblock_elements d across down m
+  whole_elements head blocks head_is last_is =
+      let front : List Element = mquant_elements m.mquant in
+      let vector : List Element = vector_elements m.kind across down in
+      let cbp : List Element = cbp_elements m.kind (coded_block_pattern m.blocks) in
+      let joined : (front ++ (vector ++ cbp)) ++ blocks_elements m.blocks ≡ front ++ (vector ++ (cbp ++ blocks_elements m.blocks)) =
+      append_assoc front (vector ++ cbp) (blocks_elements m.blocks) ∙ ap (λ (es : List Element). front ++ es) (append_assoc vector cbp (blocks_elements m.blocks)) in
+      ap (λ (es : List Element). es ++ blocks) (head_is ∙ ap (header_elements d m.kind m.mquant across down) (sym pattern_is))
+      ∙ (ap (λ (es : List Element). header_elements d m.kind m.mquant across down (coded_block_pattern m.blocks) ++ es) (last_is ∙ sym blocks_is)
+      ∙ ap (λ (es : List Element). Mba d ∷ (Mtype m.kind ∷ es)) joined)

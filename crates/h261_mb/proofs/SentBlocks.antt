@@ -9,7 +9,7 @@ use Rattle.pel_model.specs.declared.MbKind.TheVariants.{Intra, IntraQuant, Inter
 use Rattle.pel_model.specs.Codes.{is_intra, has_cbp}
 use Rattle.pel_model.specs.Records.{Block}
 use Rattle.pel_model.specs.Elements.{block_elements}
-use Rattle.pel_model.specs.Walk.{Standing, after, Goes}
+use Rattle.pel_model.specs.Walk.{Standing, after, Goes, AreTaken}
 use Rattle.pel_model.specs.Grammar.{Element, Mtype, Cbp, AtCbp, AtDc, AtFirst, slot, block_slot, cbp_slot, kind, blocks, may_end, next}
 use Rattle.pel_model.proofs.Walks.{after-append, goes-append}
 use Rattle.pel_model.proofs.BlockElements.{block-blocks, block-slot}
@@ -74,12 +74,12 @@ block_is_inside false = refl
 abbrev BlockRead : Bool → List Bool × ℕ → List Bool × ℕ → Type 0
 BlockRead intra old new =
     (format : Format) (before : List Element) → slot before ≡ cond intra AtDc AtFirst
-    → (es : List Element) × Goes (next format) before old es new × ((b : Block) × (es ≡ block_elements b) × (is_some b.dc ≡ intra))
+    → AreTaken (next format) before (λ es new. (b : Block) × (es ≡ block_elements b) × (is_some b.dc ≡ intra)) old new
 
 pub block_onward : (intra : Bool) (old new : List Bool × ℕ) → BlockRead intra old new → old.1 ≤ new.1
 block_onward true old new read =
     let walk = read Qcif (Mtype Intra ∷ []) refl in
-    goes_onward (next Qcif) (Mtype Intra ∷ []) old new walk.0 walk.1
+    goes_onward (next Qcif) (Mtype Intra ∷ []) old new walk.elements walk.walk
 block_onward false old new read =
     let walk = read Qcif (Cbp 1 ∷ Mtype Inter ∷ []) refl in
-    goes_onward (next Qcif) (Cbp 1 ∷ Mtype Inter ∷ []) old new walk.0 walk.1
+    goes_onward (next Qcif) (Cbp 1 ∷ Mtype Inter ∷ []) old new walk.elements walk.walk

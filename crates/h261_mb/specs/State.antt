@@ -1,13 +1,14 @@
 -- What the state of a group's macroblocks is to the elements before, and what a macroblock adds to both.
-use Rattle.std.specs.Prelude.{◌≡◌, ℕ, ◌-◌, ◌≤◌, Bool, cond, ℤ, pos, negsuc, ◌≤ℤ◌, List, length}
+use Rattle.std.specs.Prelude.{◌≡◌, ℕ, ◌-◌, ◌<◌, ◌≤◌, Bool, ℤ, pos, negsuc, ◌≤ℤ◌, List, ◌∷◌, ◌++◌, length, Option, MatchBool}
 use Rattle.pel_model.specs.declared.Mark.{Mark}
-use Rattle.pel_model.specs.Codes.{is_intra}
+use Rattle.pel_model.specs.declared.MbKind.{MbKind}
+use Rattle.pel_model.specs.Codes.{is_intra, has_cbp}
 use Rattle.pel_model.specs.Records.{Across, Down, Macroblock}
 use Rattle.pel_model.specs.Walk.{after}
-use Rattle.pel_model.specs.Grammar.{Element, slot, AtMacroblock, vector_slot, cbp_slot, kind, blocks, group, address, quantiser, vector_component}
+use Rattle.pel_model.specs.Grammar.{Element, Mba, Mtype, slot, AtMacroblock, block_slot, kind, ones, blocks, group, address, quantiser, vector_component}
+use Rattle.pel_model.specs.Elements.{mquant_elements, vector_elements, cbp_elements, macroblock_elements}
 use Rattle.h261_mb.specs.declared.state.MbState.{MbState}
-use Rattle.h261_mb.specs.declared.state.Head.{Head}
-use Rattle.pel_model.specs.Elements.{macroblock_elements}
+use Rattle.h261_mb.specs.declared.header.Header.{Header}
 
 -- ---- what the code asks of a state
 
@@ -35,19 +36,34 @@ pub record Stands (number : ℕ) (state : MbState) (before : List Element) : Typ
   pub due : slot before ≡ AtMacroblock
   pub say : Say number state.address state.quant state.h state.v before
 
--- a macroblock was begun, up to its vector
-pub record IsBegun (number : ℕ) (head : Head) (before : List Element) : Type 0 where
-  pub due : slot before ≡ vector_slot head.kind
-  pub kind_is : kind before ≡ head.kind
-  pub blocks_are : blocks before ≡ cond (is_intra head.kind) 6 0
-  pub say : Say number head.address head.quant head.h head.v before
+-- ---- a header that was read
 
--- and its vector, if it has one
-pub record IsMoved (number : ℕ) (head : Head) (h v : ℤ) (before : List Element) : Type 0 where
-  pub due : slot before ≡ cbp_slot head.kind
-  pub kind_is : kind before ≡ head.kind
-  pub blocks_are : blocks before ≡ cond (is_intra head.kind) 6 0
-  pub say : Say number head.address head.quant h v before
+-- the coded block pattern: all six blocks where the kind is Intra, those of CBP where it has one, else none (4.2.3.5)
+abbrev pub PatternFits : MbKind → ℕ → Type 0
+PatternFits kind pattern =
+    MatchBool (is_intra kind) (pattern ≡ 63) (MatchBool (has_cbp kind) (pattern < 64) (pattern ≡ 0))
+
+-- from MBA to CBP
+abbrev pub header_elements : ℕ → MbKind → Option ℕ → (across down : ℤ × ℤ) → ℕ → List Element
+header_elements difference kind mquant across down pattern =
+    Mba difference ∷ (Mtype kind ∷ (mquant_elements mquant ++ (vector_elements kind across down ++ cbp_elements kind pattern)))
+
+-- its elements, what they say, and that behind them the blocks of the pattern come
+pub record IsHeader (number : ℕ) (before : List Element) (header : Header) (es : List Element) (new : List Bool × ℕ) : Type 0 where
+  pub difference : ℕ
+  pub mquant : Option ℕ
+  pub across : ℤ × ℤ
+  pub down : ℤ × ℤ
+  pub elements : es ≡ header_elements difference header.kind mquant across down header.pattern
+  pub pattern : PatternFits header.kind header.pattern
+  pub due : slot (after before es) ≡ block_slot header.kind (ones header.pattern)
+  pub kind_is : kind (after before es) ≡ header.kind
+  pub to_come : blocks (after before es) ≡ ones header.pattern
+  pub say : Say number header.address header.quant header.h header.v (after before es)
+
+-- the state behind the macroblock of a header
+abbrev pub state_behind : Header → MbState
+state_behind header = record { address = header.address; quant = header.quant; h = header.h; v = header.v }
 
 -- ---- a macroblock that was read
 

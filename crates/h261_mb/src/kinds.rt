@@ -1,21 +1,20 @@
 //! What a kind of macroblock has: the columns of the table of MTYPE (H.261, 4.2.3.2).
-#![tactic(auto)]
 
 ghost use Rattle.std.specs.Prelude.{◌≡◌};
-ghost use Rattle.pel_model.specs.Codes.{is_intra as intra_by_table, has_mquant as mquant_by_table, has_vector as vector_by_table, has_cbp as cbp_by_table};
+ghost use Rattle.pel_model.specs.Codes.{is_intra, has_mquant, has_vector, has_cbp};
 
 use pel_model::MbKind;
 
 #[inline]
 pub fn is_intra(kind: MbKind) -> bool
-    ensures { result ≡ intra_by_table kind }
+    ensures { result ≡ is_intra kind }
 {
     matches!(kind, MbKind::Intra | MbKind::IntraQuant)
 }
 
 #[inline]
 pub fn has_mquant(kind: MbKind) -> bool
-    ensures { result ≡ mquant_by_table kind }
+    ensures { result ≡ has_mquant kind }
 {
     matches!(
         kind,
@@ -25,7 +24,7 @@ pub fn has_mquant(kind: MbKind) -> bool
 
 #[inline]
 pub fn has_vector(kind: MbKind) -> bool
-    ensures { result ≡ vector_by_table kind }
+    ensures { result ≡ has_vector kind }
 {
     !matches!(
         kind,
@@ -35,7 +34,7 @@ pub fn has_vector(kind: MbKind) -> bool
 
 #[inline]
 pub fn has_cbp(kind: MbKind) -> bool
-    ensures { result ≡ cbp_by_table kind }
+    ensures { result ≡ has_cbp kind }
 {
     !matches!(
         kind,

@@ -1,9 +1,12 @@
-//! Macroblocks of H.261 (4.2.3): one is read past and its mark is given, or its first fault is found.
+//! Macroblocks of H.261 (4.2.3): the header of one is read, or one is read past and its mark is given, or the first fault
+//! is found.
 #![tactic(auto)]
 
 mod blocks;
-mod head;
+mod front;
+mod header;
 mod kinds;
+mod pattern;
 mod state;
 mod vector;
 
@@ -15,13 +18,11 @@ ghost use Rattle.pel_model.specs.Walk.{Good, Bad, read, Walked};
 ghost use Rattle.h261_mb.specs.Inside.{IsMacroblockSoFar};
 ghost use Rattle.h261_mb.specs.State.{IsReady, Stands, IsRead};
 
-use blocks::{count_blocks, skip_blocks};
-use head::read_head;
-use kinds::is_intra;
+use blocks::skip_blocks;
+pub use header::{Header, read_header};
 use pel_bits::Reader;
 use pel_model::{Fault, Format, Mark};
 pub use state::MbState;
-use vector::vector_after;
 
 /// Reads one macroblock, from its MBA on, and gives its mark, whose place counts from the reader's first bit. `state` is
 /// that behind a group header or a macroblock of the group, and becomes that behind this one. Stuffing stands before the
@@ -38,9 +39,10 @@ pub fn scan_mb(
 ) -> Result<Mark, Fault>
     requires group { is_group format group ≡ true }
     requires ready { IsReady state.old }
-    ensures walk { (before : List Element) (d n : ℕ) → Stands group state.old before →
-        read mba_rows r.old.0 ≡ Good (Mba d) n →
-        Walked (next format) before (IsRead group r.old.1 before state.new) (IsMacroblockSoFar before) result r.old r.new }
+    ensures walk { (before : List Element) (d n : ℕ) →
+        Stands group state.old before → read mba_rows r.old.0 ≡ Good (Mba d) n →
+        Walked (next format) before (IsRead group r.old.1 before state.new)
+        (IsMacroblockSoFar before) result r.old r.new }
     ensures no_word { (why : Why) → read mba_rows r.old.0 ≡ Bad why →
         (result ≡ Err (record { place = r.old.1; why = why })) × (r.new ≡ r.old) }
     ensures stuffing { (n : ℕ) → read mba_rows r.old.0 ≡ Good Stuffing n →
@@ -49,25 +51,18 @@ pub fn scan_mb(
     ensures ready { IfOk result (λ _. IsReady state.new) }
 {
     let at = r.place();
-    let head = read_head(r, state)?;
-    let (h, v) = vector_after(r, format, group, &head)?;
-    let count = count_blocks(r, head.kind)?;
-    let intra = is_intra(head.kind);
-    skip_blocks(r, intra, count)?;
-    *state = MbState {
-        address: head.address,
-        quant: head.quant,
-        h,
-        v,
-    };
+    let header = read_header(r, format, group, state)?;
+    let intra = header.is_intra();
+    skip_blocks(r, intra, header.pattern.count_ones())?;
+    *state = header.state_behind();
     Ok(Mark {
         at,
         len: r.place() - at,
         group,
-        address: head.address,
-        quant_after: head.quant,
-        h_after: h,
-        v_after: v,
+        address: header.address,
+        quant_after: header.quant,
+        h_after: header.h,
+        v_after: header.v,
         intra,
     })
 }
@@ -76,7 +71,7 @@ pub fn scan_mb(
 mod tests {
     use super::*;
     use pel_bits::Bits;
-    use pel_model::Why;
+    use pel_model::{MbKind, Why};
 
     // Up to 64 digits, at the front of eight octets.
     fn octets(digits: &str) -> [u8; 8] {
@@ -194,6 +189,50 @@ mod tests {
             assert_eq!(rt; scan_mb(&mut r, Format::Qcif, 3, &mut state), Ok(mark));
         }
         assert_eq!(rt; state.quant, 5);
+    }
+
+    #[test]
+    fn headers_of_macroblocks(rt: HostRuntime) {
+        let header = |kind, quant, h, v, pattern| Header {
+            address: 3,
+            kind,
+            quant,
+            h,
+            v,
+            pattern,
+        };
+        for (digits, expected, len) in [
+            ("0100001", header(MbKind::Intra, 8, 0, 0, 63), 7),
+            (
+                "010000000100101",
+                header(MbKind::IntraQuant, 5, 0, 0, 63),
+                15,
+            ),
+            ("01011010", header(MbKind::Inter, 8, 0, 0, 32), 8),
+            (
+                "010000011111101011",
+                header(MbKind::InterQuant, 31, 0, 0, 1),
+                18,
+            ),
+            ("010000000001010011", header(MbKind::Mc, 8, 1, -1, 0), 18),
+            (
+                "0100111000000010",
+                header(MbKind::McFilCoded, 8, 0, 0, 39),
+                16,
+            ),
+        ] {
+            let octets = octets(digits);
+            let mut r = reader(&octets, digits);
+            let header = read_header(&mut r, Format::Qcif, 3, &beginning());
+            assert_eq!(rt; header, Ok(expected));
+            assert_eq!(rt; r.place(), len);
+        }
+        let sent = header(MbKind::McFilCoded, 8, 0, 0, 39);
+        let luminance = [sent.sends(0), sent.sends(1), sent.sends(2), sent.sends(3)];
+        assert_eq!(rt; luminance, [true, false, false, true]);
+        assert_eq!(rt; (sent.sends(4), sent.sends(5)), (true, true));
+        assert!(rt; !sent.is_intra());
+        assert_eq!(rt; sent.state_behind().address, 3);
     }
 
     #[test]

@@ -17,7 +17,7 @@ pub struct MbState {
 
 /// A macroblock up to its vector; `h` and `v` are the predictor, 0 where the kind has no vector.
 #[derive(Clone, Copy, Debug, PartialEq, Eq)]
-pub struct Head {
+pub struct Front {
     pub address: u8,
     pub kind: MbKind,
     pub quant: u8,

@@ -1,76 +1,77 @@
 //! The vector of a macroblock: MVD, horizontal then vertical (H.261, 4.2.3.4), and the picture area (3.2.2).
-#![tactic(auto)]
 
 ghost use Rattle.std.specs.Prelude.{◌≡◌, ℕ, ◌<◌, ◌≤◌, ℤ, negsuc, pos, ◌≤ℤ◌, cond, true, List, [], ◌∷◌, IfOk, IfSome};
 ghost use Rattle.pel_model.specs.declared.Format.{Format as PictureFormat};
-ghost use Rattle.pel_model.specs.Valid.{side as side_of, corner, stays_within};
+ghost use Rattle.pel_model.specs.declared.Format.TheVariants.{Cif};
+ghost use Rattle.pel_model.specs.Valid.{side as side_of, corner, stays_within as stays};
 ghost use Rattle.pel_model.specs.Records.{Axis, Across, Down};
 ghost use Rattle.pel_model.specs.Grammar.{Element, Mvd, slot, AtMvd, group as group_before, address as address_before, vector_component, component_from, in_range as is_in_range, is_group, next};
-ghost use Rattle.pel_model.specs.Walk.{after, Walked};
+ghost use Rattle.pel_model.specs.Walk.{Walked};
 ghost use Rattle.h261_mb.specs.Inside.{StaysInside};
-ghost use Rattle.pel_model.specs.Elements.{vector_elements};
-ghost use Rattle.h261_mb.specs.State.{IsNear, IsBegun, IsMoved};
+ghost use Rattle.h261_mb.specs.Parts.{IsBegun, AreComponents, IsVector, IsMvd};
+ghost use Rattle.h261_mb.specs.State.{IsNear};
 
 use crate::kinds::has_vector;
-use crate::state::Head;
+use crate::state::Front;
 use pel_bits::Reader;
 use pel_model::{Fault, Format, Why};
 use vlc_codes::mvd;
 
 /// Takes the vector where the kind has one; else it is its predictor, (0, 0).
-pub fn vector_after(
+pub fn read_vector(
     r: &mut Reader<'_>,
     format: Format,
     group: u8,
-    head: &Head,
+    front: &Front,
 ) -> Result<(i8, i8), Fault>
     requires group { is_group format group ≡ true }
-    requires address { (0 < head.now.address) × (head.now.address ≤ 33) }
-    requires near { IsNear head.now.h × IsNear head.now.v }
-    ensures walk { (before : List Element) → IsBegun group head.now before →
-        Walked (next format) before
-        (λ vector es new. (across : ℤ × ℤ) × (down : ℤ × ℤ) × (es ≡ vector_elements head.now.kind across down) × IsMoved group head.now vector.0 vector.1 (after before es))
+    requires address { (0 < front.now.address) × (front.now.address ≤ 33) }
+    requires near { IsNear front.now.h × IsNear front.now.v }
+    ensures walk { (before : List Element) → IsBegun group front.now before →
+        Walked (next format) before (IsVector group front.now before)
         (StaysInside before) result r.old r.new }
     ensures near { IfOk result (λ vector. IsNear vector.0 × IsNear vector.1) }
     ensures onward { IfOk result (λ _. r.old.1 ≤ r.new.1) }
 {
-    if has_vector(head.kind) {
-        read_vector(r, format, group, head)
+    if has_vector(front.kind) {
+        take_components(r, format, group, front)
     } else {
-        Ok((head.h, head.v))
+        Ok((front.h, front.v))
     }
 }
 
-// Takes both components of the vector; `head` has their predictor.
-fn read_vector(
+// Takes both components of the vector; `front` has their predictor.
+fn take_components(
     r: &mut Reader<'_>,
     format: Format,
     group: u8,
-    head: &Head,
+    front: &Front,
 ) -> Result<(i8, i8), Fault>
     requires group { is_group format group ≡ true }
-    requires address { (0 < head.now.address) × (head.now.address ≤ 33) }
-    requires near { IsNear head.now.h × IsNear head.now.v }
-    ensures walk { (before : List Element) → slot before ≡ AtMvd Across → group_before before ≡ group → address_before before ≡ head.now.address →
-        vector_component Across before ≡ head.now.h → vector_component Down before ≡ head.now.v →
-        Walked (next format) before
-        (λ vector es new. (across : ℤ × ℤ) × (down : ℤ × ℤ) × (es ≡ Mvd Across across ∷ Mvd Down down ∷ []) × (component_from head.now.h across ≡ vector.0) × (component_from head.now.v down ≡ vector.1))
+    requires address { (0 < front.now.address) × (front.now.address ≤ 33) }
+    requires near { IsNear front.now.h × IsNear front.now.v }
+    ensures walk { (before : List Element) → slot before ≡ AtMvd Across →
+        group_before before ≡ group → address_before before ≡ front.now.address →
+        vector_component Across before ≡ front.now.h → vector_component Down before ≡ front.now.v →
+        Walked (next format) before (AreComponents front.now)
         (StaysInside before) result r.old r.new }
     ensures near { IfOk result (λ vector. IsNear vector.0 × IsNear vector.1) }
     ensures onward { IfOk result (λ _. r.old.1 ≤ r.new.1) }
 {
-    let h = take_component(r, head.h, left_edge(group, head.address), width(format))?;
-    let v = take_component(r, head.v, top_edge(group, head.address), height(format))?;
+    let h = take_mvd(r, front.h, left_edge(group, front.address), width(format))?;
+    let v = take_mvd(r, front.v, top_edge(group, front.address), height(format))?;
     Ok((h, v))
 }
 
 // Takes one MVD and gives the component, whose macroblock has its first sample at `first` on this axis.
-fn take_component(r: &mut Reader<'_>, last: i8, first: u32, side: u32) -> Result<i8, Fault>
+fn take_mvd(r: &mut Reader<'_>, last: i8, first: u32, side: u32) -> Result<i8, Fault>
     requires near { IsNear last }
-    requires first { first ≤ 1000 }
-    ensures walk { (format : PictureFormat) (before : List Element) (axis : Axis) → slot before ≡ AtMvd axis → vector_component axis before ≡ last →
-        side_of format axis ≡ side → corner axis (group_before before) (address_before before) ≡ first →
-        Walked (next format) before (λ component es new. (values : ℤ × ℤ) × (es ≡ Mvd axis values ∷ []) × (component_from last values ≡ component)) (StaysInside before) result r.old r.new }
+    requires first { first ≤ side_of Cif Across }
+    ensures walk { (format : PictureFormat) (before : List Element) (axis : Axis) →
+        slot before ≡ AtMvd axis → vector_component axis before ≡ last → side_of format axis ≡ side →
+        corner axis (group_before before) (address_before before) ≡ first →
+        Walked (next format) before (IsMvd axis last)
+        (StaysInside before) result r.old r.new }
     ensures near { IfOk result (λ component. IsNear component) }
     ensures onward { IfOk result (λ _. r.old.1 ≤ r.new.1) }
 {
@@ -100,8 +101,10 @@ fn take_component(r: &mut Reader<'_>, last: i8, first: u32, side: u32) -> Result
 // The predictor plus that value which gives -15 to 15.
 fn component(last: i8, values: (i8, i8)) -> Option<i8>
     requires near { IsNear last }
-    requires values { (negsuc 29 ≤ℤ values.0) × (values.0 ≤ℤ pos 30) × (negsuc 29 ≤ℤ values.1) × (values.1 ≤ℤ pos 30) }
-    ensures value { result ≡ cond (is_in_range (component_from last values)) (Some (component_from last values)) None }
+    requires first { (negsuc 29 ≤ℤ values.0) × (values.0 ≤ℤ pos 30) }
+    requires second { (negsuc 29 ≤ℤ values.1) × (values.1 ≤ℤ pos 30) }
+    ensures value { result ≡ cond (is_in_range (component_from last values))
+        (Some (component_from last values)) None }
     ensures near { IfSome result IsNear }
 {
     let first = last + values.0;
@@ -123,7 +126,7 @@ fn in_range(component: i8) -> bool
 
 // 16 samples from `first` on, moved by the component, lie within the side.
 fn stays_within(first: u32, side: u32, component: i8) -> bool
-    requires { first ≤ 1000 }
+    requires { first ≤ side_of Cif Across }
     ensures { result ≡ stays side first component }
 {
     let shift = u32::from(component.unsigned_abs());
@@ -156,7 +159,7 @@ fn height(format: Format) -> u32
 fn left_edge(group: u8, address: u8) -> u32
     requires { (0 < group) × (0 < address) }
     ensures value { result ≡ corner Across group address }
-    ensures within { result ≤ 1000 }
+    ensures within { result ≤ side_of Cif Across }
 {
     176 * (u32::from(group - 1) % 2) + 16 * (u32::from(address - 1) % 11)
 }
@@ -164,7 +167,7 @@ fn left_edge(group: u8, address: u8) -> u32
 fn top_edge(group: u8, address: u8) -> u32
     requires { (0 < group) × (group ≤ 12) × (0 < address) × (address ≤ 33) }
     ensures value { result ≡ corner Down group address }
-    ensures within { result ≤ 1000 }
+    ensures within { result ≤ side_of Cif Across }
 {
     48 * (u32::from(group - 1) / 2) + 16 * (u32::from(address - 1) / 11)
 }

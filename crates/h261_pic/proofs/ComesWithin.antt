@@ -45,23 +45,23 @@ past Cif n place h = omega arith
 module _ (format : Format) (before : List Element) (old : List Bool × ℕ) where
   -- a fault is one of the picture
   pub bad-within : (f : Fault) (new : List Bool × ℕ) → Comes (next format before old) (Err f) old new → Comes (next_within_limit format before old) (Err f) old old
-  bad-within f new h = (picture-bad format before old f.why h.0, h.1, refl)
+  bad-within f new h = record { bad = picture-bad format before old f.why h.bad; place = h.place; kept = refl }
 
   module _ (n : ℕ) (begun_is : begun before ≡ n) (new : List Bool × ℕ) where
     -- what ends within the limit comes in the picture
     pub comes-within : (here : Coming) → Comes (next format before old) (Ok here) old new → new.1 ≤ last_place format (begun_with here n) → Comes (next_within_limit format before old) (Ok here) old new
-    comes-within coming.End h fits = (picture-stops format before old h.0, h.1)
+    comes-within coming.End h fits = record { stop = picture-stops format before old h.stop; kept = h.kept }
     comes-within coming.Macroblock h fits = h
     comes-within coming.Group h fits =
-        let moved : new.1 ≡ old.1 + h.0 = ap (λ (r : List Bool × ℕ). r.1) h.2 in
+        let moved : new.1 ≡ old.1 + h.len = ap (λ (r : List Bool × ℕ). r.1) h.behind in
         let most = within format (n + 1) new.1 fits in
-        let counts : counted format (Gbsc ∷ before) (old.1 + h.0) ≡ old.1 + h.0 + group_header_length * (group_count format - (n + 1)) = ap (λ (k : ℕ). old.1 + h.0 + group_header_length * (group_count format - (k + 1))) begun_is in
-        (h.0, picture-good format before old Gbsc h.0 h.1 (omega (arith, moved, most, counts)), h.2)
+        let counts : counted format (Gbsc ∷ before) (old.1 + h.len) ≡ old.1 + h.len + group_header_length * (group_count format - (n + 1)) = ap (λ (k : ℕ). old.1 + h.len + group_header_length * (group_count format - (k + 1))) begun_is in
+        record { len = h.len; good = picture-good format before old Gbsc h.len h.good (omega (arith, moved, most, counts)); behind = h.behind }
     comes-within coming.Stuffing h fits =
-        let moved : new.1 ≡ old.1 + h.0 = ap (λ (r : List Bool × ℕ). r.1) h.2 in
+        let moved : new.1 ≡ old.1 + h.len = ap (λ (r : List Bool × ℕ). r.1) h.behind in
         let most = within format n new.1 fits in
-        let counts : counted format (Stuffing ∷ before) (old.1 + h.0) ≡ old.1 + h.0 + group_header_length * (group_count format - n) = ap (λ (k : ℕ). old.1 + h.0 + group_header_length * (group_count format - k)) begun_is in
-        (h.0, picture-good format before old Stuffing h.0 h.1 (omega (arith, moved, most, counts)), h.2)
+        let counts : counted format (Stuffing ∷ before) (old.1 + h.len) ≡ old.1 + h.len + group_header_length * (group_count format - n) = ap (λ (k : ℕ). old.1 + h.len + group_header_length * (group_count format - k)) begun_is in
+        record { len = h.len; good = picture-good format before old Stuffing h.len h.good (omega (arith, moved, most, counts)); behind = h.behind }
 
     -- what is not taken ends no later than what stands before it
     not_moved : counted format before old.1 ≤ limit format → new ≡ old → last_place format n < new.1 → ⊥
@@ -73,18 +73,18 @@ module _ (format : Format) (before : List Element) (old : List Bool × ℕ) wher
 
     -- what ends past it is too long
     pub comes-long : (here : Coming) → counted format before old.1 ≤ limit format → Comes (next format before old) (Ok here) old new → last_place format (begun_with here n) < new.1 → next_within_limit format before old ≡ Bad TooLong
-    comes-long coming.End inside h far = absurd (not_moved inside h.1 far)
-    comes-long coming.Macroblock inside h far = absurd (not_moved inside h.3 far)
+    comes-long coming.End inside h far = absurd (not_moved inside h.kept far)
+    comes-long coming.Macroblock inside h far = absurd (not_moved inside h.kept far)
     comes-long coming.Group inside h far =
-        let moved : new.1 ≡ old.1 + h.0 = ap (λ (r : List Bool × ℕ). r.1) h.2 in
+        let moved : new.1 ≡ old.1 + h.len = ap (λ (r : List Bool × ℕ). r.1) h.behind in
         let more = past format (n + 1) new.1 far in
-        let counts : counted format (Gbsc ∷ before) (old.1 + h.0) ≡ old.1 + h.0 + group_header_length * (group_count format - (n + 1)) = ap (λ (k : ℕ). old.1 + h.0 + group_header_length * (group_count format - (k + 1))) begun_is in
-        picture-long format before old Gbsc h.0 h.1 (omega (arith, moved, more, counts))
+        let counts : counted format (Gbsc ∷ before) (old.1 + h.len) ≡ old.1 + h.len + group_header_length * (group_count format - (n + 1)) = ap (λ (k : ℕ). old.1 + h.len + group_header_length * (group_count format - (k + 1))) begun_is in
+        picture-long format before old Gbsc h.len h.good (omega (arith, moved, more, counts))
     comes-long coming.Stuffing inside h far =
-        let moved : new.1 ≡ old.1 + h.0 = ap (λ (r : List Bool × ℕ). r.1) h.2 in
+        let moved : new.1 ≡ old.1 + h.len = ap (λ (r : List Bool × ℕ). r.1) h.behind in
         let more = past format n new.1 far in
-        let counts : counted format (Stuffing ∷ before) (old.1 + h.0) ≡ old.1 + h.0 + group_header_length * (group_count format - n) = ap (λ (k : ℕ). old.1 + h.0 + group_header_length * (group_count format - k)) begun_is in
-        picture-long format before old Stuffing h.0 h.1 (omega (arith, moved, more, counts))
+        let counts : counted format (Stuffing ∷ before) (old.1 + h.len) ≡ old.1 + h.len + group_header_length * (group_count format - n) = ap (λ (k : ℕ). old.1 + h.len + group_header_length * (group_count format - k)) begun_is in
+        picture-long format before old Stuffing h.len h.good (omega (arith, moved, more, counts))
 
 -- ---- behind a picture header
 
@@ -107,4 +107,4 @@ module _ (format : Format) (before : List Element) (old new : List Bool × ℕ) 
   pub end-within : IsGroupOrEnd here → ((here ≡ coming.End) ⊎ ((here ≡ coming.Stuffing) ⊎ (here ≡ coming.Macroblock))) → Follows (next_within_limit format before old) false old new
   end-within ok is =
       let end = subst (λ (x : Coming). Comes (next format before old) (Ok x) old new) (ended here ok is) comes in
-      (picture-stops format before old end.0, end.1)
+      record { stop = picture-stops format before old end.stop; kept = end.kept }

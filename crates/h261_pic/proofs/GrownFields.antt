@@ -1,5 +1,5 @@
 -- The fields of a coded picture that has one more group.
-use Rattle.std.proofs.Common.{◌≡◌, ℕ, ◌+◌, ◌-◌, ◌*◌, ◌<◌, ◌≤◌, Bool, List, [], ◌∷◌, ◌++◌, length, sym, ◌∙◌, ap, subst, slice_index, arith, length-append}
+use Rattle.std.proofs.Common.{◌≡◌, ℕ, ◌+◌, ◌-◌, ◌*◌, ◌^◌, ◌<◌, ◌≤◌, Bool, List, [], ◌∷◌, ◌++◌, length, sym, ◌∙◌, ap, subst, slice_index, arith, length-append}
 use Rattle.h261_pic.specs.declared.coded.GroupView.{GroupView}
 use Rattle.h261_pic.specs.Coded.{Coding, placed, grown, next_number, HasPicture}
 use Rattle.h261_pic.proofs.Texts.{length-group_header}
@@ -11,7 +11,7 @@ use Rattle.pel_model.specs.Text.{text, group_header}
 use Rattle.pel_model.specs.Valid.{group_numbers, group_count, limit}
 use Rattle.pel_bits.specs.Buffer.{Buffer}
 use Rattle.h261_pic.proofs.Grows.{marks-fit, has-grown, written-grown}
-use Rattle.h261_pic.specs.Adding.{IsGroupText}
+use Rattle.h261_pic.specs.Adding.{IsGroupText, room_of}
 
 pub length-grown : (list list' bits : List Bool) (number quant : ℕ) → list' ≡ list ++ group_header number quant ++ bits → length list' ≡ length list + 26 + length bits
 length-grown list list' bits number quant is =
@@ -23,6 +23,11 @@ pub few_groups : (format : Format) → group_count format ≤ 12
 few_groups Qcif = omega arith
 few_groups Cif = omega arith
 
+-- a picture's bits have places of 32 bits
+pub few_bits : (format : Format) → limit format < 2 ^ 32
+few_bits Qcif = omega arith
+few_bits Cif = omega arith
+
 -- what is asked of a picture that is to grow
 pub record MayGrow (c : Coding) (quant : ℕ) (bits : List Bool) (marks : List Mark) : Type 0 where
   pub begun : 0 < length c.bits
@@ -30,6 +35,16 @@ pub record MayGrow (c : Coding) (quant : ℕ) (bits : List Bool) (marks : List M
   pub room : length c.bits + length bits + 26 * (group_count c.format - length c.groups) ≤ limit c.format
   pub text : IsGroupText c.format (next_number c) quant bits marks
   pub marks_before : length c.marks ≤ 33 * length c.groups
+
+-- the fields may grow where what contracts see of them may
+pub may-grow : (fields c : Coding) (quant : ℕ) (bits : List Bool) (marks : List Mark) → fields ≡ c → 0 < length c.bits → length c.groups < group_count c.format
+    → length bits ≤ room_of c → IsGroupText c.format (next_number c) quant bits marks → length fields.marks ≤ 33 * length fields.groups
+    → (0 < length fields.bits → length fields.bits + 26 * (group_count fields.format - length fields.groups) ≤ limit fields.format)
+    → MayGrow fields quant bits marks
+may-grow fields c quant bits marks is begun next fits text few room =
+    let P : Coding → Type 0 = λ k. length k.marks ≤ 33 * length k.groups
+    → (0 < length k.bits → length k.bits + 26 * (group_count k.format - length k.groups) ≤ limit k.format) → MayGrow k quant bits marks in
+    subst P (sym is) (λ few room. record { begun = begun; next = next; room = omega (arith, fits, room begun); text = text; marks_before = few }) few room
 
 -- the fields of a picture that has grown
 pub record IsGrown (format : Format) (tr : ℕ) (text : Buffer) (groups : List GroupView) (all : List Mark) : Type 0 where

@@ -90,7 +90,7 @@ view-quant at before [] i below = absurd (omega arith)
 view-quant at before (g ∷ gs) zero below = refl
 view-quant at before (g ∷ gs) (suc i) below = view-quant (at + length (group_text g)) (before + length g.macroblocks) gs i (omega arith)
 
-view-len : (at before : ℕ) (gs : List Group) (i : ℕ) → i < length gs
+pub view-len : (at before : ℕ) (gs : List Group) (i : ℕ) → i < length gs
     → length (macroblocks_text None (slice_index_or gs i no_group).macroblocks) ≡ (slice_index_or (views at before gs) i no_view).len
 view-len at before [] i below = absurd (omega arith)
 view-len at before (g ∷ gs) zero below = refl
@@ -118,7 +118,7 @@ placed-of-view format p i at number below =
     ap (placed at number) (marks-of-view format p i below)
     ∙ placed-macroblock_marks (view_of (coding format p) i).from at g.number number g.quant None g.macroblocks
 
-view-stands : (format : Format) (p : Picture) (i : ℕ) → i < length p.groups
+pub view-stands : (format : Format) (p : Picture) (i : ℕ) → i < length p.groups
     → StandsIn (coding format p).bits (view_of (coding format p) i).from (macroblocks_text None (slice_index_or p.groups i no_group).macroblocks)
 view-stands format p i below =
     subst (λ (n : ℕ). StandsIn (text format p) (slice_index_or (views n 0 p.groups) i no_view).from (macroblocks_text None (slice_index_or p.groups i no_group).macroblocks))

@@ -1,5 +1,7 @@
+pub mod Codings
 pub mod ComesWithin
 pub mod Comings
+pub mod CutTexts
 pub mod EmptyGroups
 pub mod GroupMarks
 pub mod GroupReading

@@ -115,9 +115,9 @@ first-groups format bits tr mid r another into h written follows =
 pub group-comes : (format : Format) (bits : List Bool) (last groups : ℕ) (into : Coding) (r : List Bool × ℕ) → (s : PictureSoFar format bits last groups true into r) → GroupComes format bits last (groups + 1) (after [] s.es) s.mid r
 group-comes format bits last groups into r s = record {
   due = s.due;
-  size = s.follows.0;
-  starts = s.follows.1;
-  behind = s.follows.2;
+  size = s.follows.len;
+  starts = s.follows.good;
+  behind = s.follows.behind;
   last_is = s.last_is;
   begun_is = ap (λ (k : ℕ). k + 1) s.groups_are;
   place = walk-place format bits [] (start bits) s.mid s.es s.walk refl;
@@ -126,7 +126,13 @@ group-comes format bits last groups into r s = record {
 -- a fault behind what was read
 pub fails-later : (format : Format) (bits : List Bool) (mid end : List Bool × ℕ) (es more : List Element) (place : ℕ) (why : Why) → Goes (next_within_limit format) [] (start bits) es mid → Goes (next_within_limit format) (after [] es) mid more end → next_within_limit format (after (after [] es) more) end ≡ Bad why → place ≡ end.1 → FirstFault (next_within_limit format) bits place why
 fails-later format bits mid end es more place why here there bad at =
-    (es ++ more, end, goes-append (next_within_limit format) [] (start bits) mid end es more here there, subst (λ (b : List Element). next_within_limit format b end ≡ Bad why) (sym (after-append [] es more)) bad, at)
+    record {
+      elements = es ++ more;
+      end = end;
+      walk = goes-append (next_within_limit format) [] (start bits) mid end es more here there;
+      bad = subst (λ (b : List Element). next_within_limit format b end ≡ Bad why) (sym (after-append [] es more)) bad;
+      place_is = at;
+    }
 
 -- where the next group stands, by its number
 pub record StandsNext (format : Format) (last number place : ℕ) (p : Picture) : Type 0 where
@@ -219,7 +225,7 @@ all-read format bits last groups into into' r s is =
     let n : ℕ = group_count format - length s.pic.groups in
     let q : Picture = filled format n s.pic in
     let whole : length q.groups ≡ group_count format = length-filled format n s.pic ∙ omega (arith, s.count) in
-    (q, picture-accepted format q bits s.es (filled-so-far format n s.pic s.es s.so_far (omega (arith, s.count))) whole (s.mid, s.walk, s.follows.0), is ∙ left-out format bits last groups (group_count format) false into r s s.count)
+    (q, picture-accepted format q bits s.es (filled-so-far format n s.pic s.es s.so_far (omega (arith, s.count))) whole (record { end = s.mid; walk = s.walk; stop = s.follows.stop }), is ∙ left-out format bits last groups (group_count format) false into r s s.count)
 
 -- something was written
 pub begun-text : (format : Format) (bits : List Bool) (last groups : ℕ) (another : Bool) (into : Coding) (r : List Bool × ℕ) → PictureSoFar format bits last groups another into r → (into.format ≡ format) × (0 < length into.bits)

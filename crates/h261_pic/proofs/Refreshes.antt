@@ -1,14 +1,17 @@
 -- A coded picture is a refresh where it has 99 marks, all of them of Intra macroblocks.
-use Rattle.std.proofs.Common.{◌≡◌, ℕ, ◌+◌, true, List, [], ◌∷◌, ◌++◌, length, All, Option, Some, None, sym, ◌∙◌, ap, subst}
+use Rattle.std.proofs.Common.{◌≡◌, ℕ, ◌+◌, ◌==◌, ◌&&◌, Bool, true, List, [], ◌∷◌, ◌++◌, length, All, Option, Some, None, refl, sym, ◌∙◌, ap, subst}
+use Rattle.std.specs.List.{list_all}
+use Rattle.std.proofs.lemmas.Bool.{and_parts, eqb-true, eq-eqb}
 use Rattle.std.proofs.lemmas.List.Elements.{All-nil, All-cons, All-head, All-tail, All-append}
 use Rattle.h261_pic.specs.Coded.{Coding, coding}
 use Rattle.h261_pic.proofs.GroupMarks.{length-group_marks}
-use Rattle.pel_model.specs.declared.Format.TheVariants.{Qcif}
+use Rattle.pel_model.specs.declared.Format.{Format}
+use Rattle.pel_model.specs.declared.Format.TheVariants.{Qcif, Cif}
 use Rattle.pel_model.specs.declared.Mark.{Mark}
 use Rattle.pel_model.specs.Codes.{is_intra}
 use Rattle.pel_model.specs.Marks.{mark_of, macroblock_marks, group_marks, marks_of}
 use Rattle.pel_model.specs.Records.{Macroblock, Group, Picture, quantiser_after}
-use Rattle.pel_model.specs.Refresh.{IsRefresh}
+use Rattle.pel_model.specs.Refresh.{sent_macroblocks, is_all_intra, IsRefresh}
 use Rattle.pel_model.specs.Text.{macroblock_text, group_text}
 
 All-front : {X : Type 0} (P : X → Type 0) (xs ys : List X) → All P (xs ++ ys) → All P xs
@@ -57,6 +60,48 @@ group_marks_intra at (g ∷ gs) all =
     All-cons IsIntraGroup g gs (marks_intra (at + 26) g.number g.quant None g.macroblocks (All-front IsIntraMark here rest all))
     (group_marks_intra (at + length (group_text g)) gs (All-back IsIntraMark here rest all))
 
+-- ---- the test of a picture
+
+all-from : {X : Type 0} (p : X → Bool) (xs : List X) → list_all p xs ≡ true → All (λ (x : X). p x ≡ true) xs
+all-from {X} p [] h = All-nil (λ (x : X). p x ≡ true)
+all-from {X} p (x ∷ xs) h =
+    let parts = and_parts (p x) (list_all p xs) h in
+    All-cons (λ (x : X). p x ≡ true) x xs parts.0 (all-from p xs parts.1)
+
+all-to : {X : Type 0} (p : X → Bool) (xs : List X) → All (λ (x : X). p x ≡ true) xs → list_all p xs ≡ true
+all-to p [] h = refl
+all-to {X} p (x ∷ xs) h =
+    ap (λ (b : Bool). b && list_all p xs) (All-head (λ (x : X). p x ≡ true) x xs h) ∙ all-to p xs (All-tail (λ (x : X). p x ≡ true) x xs h)
+
+abbrev is_intra_macroblock : Macroblock → Bool
+is_intra_macroblock m = is_intra m.kind
+
+abbrev is_intra_group : Group → Bool
+is_intra_group g = list_all is_intra_macroblock g.macroblocks
+
+groups-from : (gs : List Group) → list_all is_intra_group gs ≡ true → All IsIntraGroup gs
+groups-from [] h = All-nil IsIntraGroup
+groups-from (g ∷ gs) h =
+    let parts = and_parts (is_intra_group g) (list_all is_intra_group gs) h in
+    All-cons IsIntraGroup g gs (all-from is_intra_macroblock g.macroblocks parts.0) (groups-from gs parts.1)
+
+groups-to : (gs : List Group) → All IsIntraGroup gs → list_all is_intra_group gs ≡ true
+groups-to [] h = refl
+groups-to (g ∷ gs) h =
+    ap (λ (b : Bool). b && list_all is_intra_group gs) (all-to is_intra_macroblock g.macroblocks (All-head IsIntraGroup g gs h))
+    ∙ groups-to gs (All-tail IsIntraGroup g gs h)
+
+refresh-tells : (format : Format) (p : Picture) → IsRefresh format p → (format ≡ Qcif) × (sent_macroblocks p ≡ 99) × All IsIntraGroup p.groups
+refresh-tells Qcif p h =
+    let parts = and_parts (sent_macroblocks p == 99) (is_all_intra p) h in
+    (refl, eqb-true (sent_macroblocks p) 99 parts.0, groups-from p.groups parts.1)
+refresh-tells Cif p h = absurd cc
+
+refresh-from : (format : Format) (p : Picture) → format ≡ Qcif → sent_macroblocks p ≡ 99 → All IsIntraGroup p.groups → IsRefresh format p
+refresh-from Qcif p qcif all_sent all_intra =
+    ap (λ (b : Bool). b && is_all_intra p) (eq-eqb (sent_macroblocks p) 99 all_sent) ∙ groups-to p.groups all_intra
+refresh-from Cif p qcif all_sent all_intra = absurd cc
+
 -- what the marks of a refresh are
 pub record HasRefreshMarks (c : Coding) : Type 0 where
   pub qcif : c.format ≡ Qcif
@@ -66,17 +111,15 @@ pub record HasRefreshMarks (c : Coding) : Type 0 where
 pub refresh_from_marks : (c : Coding) (picture : Picture) → c ≡ coding c.format picture → HasRefreshMarks c → IsRefresh c.format picture
 refresh_from_marks c picture is has =
     let marks_are : c.marks ≡ marks_of picture = ap (λ (k : Coding). k.marks) is in
-    record {
-      qcif = has.qcif;
-      all_sent = sym (length-group_marks 32 picture.groups) ∙ sym (ap length marks_are) ∙ has.count;
-      all_intra = group_marks_intra 32 picture.groups (subst (All IsIntraMark) marks_are has.intra);
-    }
+    refresh-from c.format picture has.qcif (sym (length-group_marks 32 picture.groups) ∙ sym (ap length marks_are) ∙ has.count)
+    (group_marks_intra 32 picture.groups (subst (All IsIntraMark) marks_are has.intra))
 
 pub marks_from_refresh : (c : Coding) (picture : Picture) → c ≡ coding c.format picture → IsRefresh c.format picture → HasRefreshMarks c
 marks_from_refresh c picture is refresh =
     let marks_are : c.marks ≡ marks_of picture = ap (λ (k : Coding). k.marks) is in
+    let told = refresh-tells c.format picture refresh in
     record {
-      qcif = refresh.qcif;
-      count = ap length marks_are ∙ length-group_marks 32 picture.groups ∙ refresh.all_sent;
-      intra = subst (All IsIntraMark) (sym marks_are) (intra_group_marks 32 picture.groups refresh.all_intra);
+      qcif = told.0;
+      count = ap length marks_are ∙ length-group_marks 32 picture.groups ∙ told.1;
+      intra = subst (All IsIntraMark) (sym marks_are) (intra_group_marks 32 picture.groups told.2);
     }

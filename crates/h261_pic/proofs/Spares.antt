@@ -2,7 +2,7 @@
 use Rattle.std.proofs.Common.{◌≡◌, ℕ, Bool, true, false, List, [], ◌∷◌, ◌++◌, refl, sym, ◌∙◌, ap, subst, append_assoc}
 use Rattle.std.proofs.lemmas.Grind.{flat_map-append}
 use Rattle.pel_model.specs.declared.Fault.{Fault}
-use Rattle.pel_model.specs.Walk.{Standing, Good, Bad, skipped, after, Goes}
+use Rattle.pel_model.specs.Walk.{Standing, Good, Bad, skipped, after, Goes, FailsBehind}
 use Rattle.pel_model.specs.Grammar.{Element, slot}
 use Rattle.pel_model.proofs.Walks.{after-append, goes-append, goes_more}
 use Rattle.h261_pic.specs.HeaderElements.{Layer, OfPicture, OfGroup, flag_of, spare_of, flag_slot, spare_slot, spares_so_far, spares_of, AreSparesSoFar}
@@ -29,18 +29,14 @@ module _ (next : List Element → List Bool × ℕ → Standing Element) (before
   pub none_yet : (old : List Bool × ℕ) → slot before ≡ flag_slot layer → SparesSoFar next before layer old old
   none_yet old due = record { octets = []; walk = refl; due = due }
 
-  abbrev StopsAt : Fault → List Bool × ℕ → List Bool × ℕ → Type 0
-  StopsAt f old new =
-      (es : List Element) × Goes next before old es new × AreSparesSoFar layer es × (next (after before es) new ≡ Bad f.why) × (f.place ≡ new.1)
-
   module _ (old mid : List Bool × ℕ) (so_far : SparesSoFar next before layer old mid) where
     abbrev pub had : List Element
     had = spares_so_far layer so_far.octets
 
     -- the flag is cut
-    pub cut_flag : (new : List Bool × ℕ) (f : Fault) → next (after before had) mid ≡ Bad f.why → f.place ≡ mid.1 → new ≡ mid → StopsAt f old new
+    pub cut_flag : (new : List Bool × ℕ) (f : Fault) → next (after before had) mid ≡ Bad f.why → f.place ≡ mid.1 → new ≡ mid → FailsBehind next before (AreSparesSoFar layer) f old new
     cut_flag new f bad at stayed =
-        subst (StopsAt f old) (sym stayed) (had, so_far.walk, (so_far.octets, flag_of layer false, [], refl), bad, at)
+        subst (FailsBehind next before (AreSparesSoFar layer) f old) (sym stayed) record { elements = had; walk = so_far.walk; part = (so_far.octets, flag_of layer false, [], refl); bad = bad; place = at }
 
     -- the flag is 0
     pub all_passed : (new : List Bool × ℕ) (m : ℕ) → next (after before had) mid ≡ Good (flag_of layer false) m → new ≡ skipped m mid → Goes next before old (spares_of layer so_far.octets) new
@@ -62,10 +58,10 @@ module _ (next : List Element → List Bool × ℕ → Standing Element) (before
           ∙ (sym (append_assoc had (flag_of layer true ∷ spare_of layer 0 ∷ []) (flag_of layer false ∷ []))
           ∙ ap (λ (es : List Element). es ++ flag_of layer false ∷ []) (sym (one_more layer so_far.octets 0)))
 
-      pub cut_spare : (new : List Bool × ℕ) (f : Fault) → next (flag_of layer true ∷ after before had) flag ≡ Bad f.why → f.place ≡ flag.1 → new ≡ flag → StopsAt f old new
+      pub cut_spare : (new : List Bool × ℕ) (f : Fault) → next (flag_of layer true ∷ after before had) flag ≡ Bad f.why → f.place ≡ flag.1 → new ≡ flag → FailsBehind next before (AreSparesSoFar layer) f old new
       cut_spare new f bad at stayed =
           let behind : next (after before (had ++ flag_of layer true ∷ [])) flag ≡ Bad f.why = ap (λ (es : List Element). next es flag) behind_flag ∙ bad in
-          subst (StopsAt f old) (sym stayed) (had ++ flag_of layer true ∷ [], to_flag, (so_far.octets ++ 0 ∷ [], spare_of layer 0, flag_of layer false ∷ [], goes_on), behind, at)
+          subst (FailsBehind next before (AreSparesSoFar layer) f old) (sym stayed) record { elements = had ++ flag_of layer true ∷ []; walk = to_flag; part = (so_far.octets ++ 0 ∷ [], spare_of layer 0, flag_of layer false ∷ [], goes_on); bad = behind; place = at }
 
       -- a byte was passed
       pub one_passed : (new : List Bool × ℕ) (octet n : ℕ) → next (flag_of layer true ∷ after before had) flag ≡ Good (spare_of layer octet) n → new ≡ skipped n flag → SparesSoFar next before layer old new

@@ -1,5 +1,6 @@
 -- A valid picture stays valid when it gets its next group, and a group stays valid where it may stand.
-use Rattle.std.proofs.Common.{◌≡◌, ℕ, ◌%◌, ◌<◌, Bool, true, false, List, [], ◌∷◌, ◌++◌, length, take, slice_index, slice_index_or, refl, sym, ◌∙◌, ap, ap₂, subst, ℤ, pos, negsuc, MatchBool, arith, length-append}
+use Rattle.std.proofs.Common.{◌≡◌, ℕ, ◌+◌, ◌%◌, ◌<◌, ◌≤◌, Bool, true, false, List, [], ◌∷◌, ◌++◌, length, take, slice_index, slice_index_or, refl, sym, ◌∙◌, ap, ap₂, subst, ℤ, pos, negsuc, MatchBool, arith, length-append}
+use Rattle.std.proofs.lemmas.Bool.{leb-true, le-leb}
 use Rattle.std.proofs.lemmas.List.{take_more, get_or-map, get_or-take, map-append}
 use Rattle.std.proofs.lemmas.List.Elements.{All-push}
 use Rattle.h261_pic.specs.Coded.{Belongs}
@@ -10,7 +11,20 @@ use Rattle.pel_model.specs.declared.Quad.TheVariants.{One, Two, Three, Four}
 use Rattle.pel_model.specs.Codes.{has_vector}
 use Rattle.pel_model.specs.Records.{Axis, Across, Down, Macroblock, Group, Picture, component, with_group}
 use Rattle.pel_model.specs.Regions.{number_in, renumbered, below}
-use Rattle.pel_model.specs.Valid.{side, corner, StaysWithin, ComponentFits, IsValidMacroblock, IsValidGroup, IsValidSoFar, group_numbers, group_count}
+use Rattle.pel_model.specs.Valid.{side, corner, stays_within, ComponentFits, IsValidMacroblock, IsValidGroup, IsValidSoFar, group_numbers, group_count}
+
+-- what the test of a component says
+abbrev StaysWithin : ℕ → ℕ → ℤ → Type 0
+StaysWithin side first (pos n) = first + n + 16 ≤ side
+StaysWithin side first (negsuc n) = n + 1 ≤ first
+
+stays-from : (side first : ℕ) (c : ℤ) → stays_within side first c ≡ true → StaysWithin side first c
+stays-from side first (pos n) stays = leb-true (first + n + 16) side stays
+stays-from side first (negsuc n) stays = leb-true (n + 1) first stays
+
+stays-to : (side first : ℕ) (c : ℤ) → StaysWithin side first c → stays_within side first c ≡ true
+stays-to side first (pos n) stays = le-leb (first + n + 16) side stays
+stays-to side first (negsuc n) stays = le-leb (n + 1) first stays
 
 -- a vector that stays in the QCIF picture stays in the CIF picture
 within_place : (axis : Axis) (place : Quad) (number address : ℕ) (c : ℤ) → number % 2 ≡ 1
@@ -41,7 +55,12 @@ component_in_place : (axis : Axis) (place : Quad) (number : ℕ) (m : Macroblock
     → ComponentFits Qcif number axis m → ComponentFits Cif (number_in place number) axis m
 component_in_place axis place number m odd fits =
     fits_by (has_vector m.kind) _ _ _
-    (λ stays. (stays.0, within_place axis place number m.address (component axis m) odd stays.1)) fits
+    (λ stays. (
+      stays.0,
+      stays-to (side Cif axis) (corner axis (number_in place number) m.address) (component axis m)
+          (within_place axis place number m.address (component axis m) odd
+          (stays-from (side Qcif axis) (corner axis number m.address) (component axis m) stays.1)),
+    )) fits
 
 macroblock_in_place : (place : Quad) (number : ℕ) (m : Macroblock) → number % 2 ≡ 1
     → IsValidMacroblock Qcif number m → IsValidMacroblock Cif (number_in place number) m

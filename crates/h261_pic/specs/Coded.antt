@@ -11,7 +11,7 @@ use Rattle.pel_model.specs.Records.{Group, Picture}
 use Rattle.pel_model.specs.Headers.{picture_header_length, group_header_length}
 use Rattle.pel_model.specs.Text.{text, group_header, group_text, macroblocks_text}
 use Rattle.pel_model.specs.Regions.{number_in, empty_group}
-use Rattle.pel_model.specs.Valid.{group_numbers, group_count, IsValidSoFar}
+use Rattle.pel_model.specs.Valid.{group_numbers, group_count, IsValidSoFar, IsValid}
 
 pub record Coding : Type 0 where
   pub format : Format
@@ -88,3 +88,8 @@ Belongs Cif from Qcif to = ⊥
 abbrev pub HasPicture : Coding → Type 0
 HasPicture coded =
     ∥ ((picture : Picture) × (coded ≡ coding coded.format picture) × IsValidSoFar coded.format picture) ∥₁
+
+-- some valid picture was written
+abbrev pub IsWhole : Coding → Type 0
+IsWhole coded =
+    ∥ ((picture : Picture) × (coded ≡ coding coded.format picture) × IsValid coded.format picture) ∥₁

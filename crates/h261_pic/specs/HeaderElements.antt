@@ -3,7 +3,8 @@
 use Rattle.std.specs.Prelude.{◌≡◌, ℕ, Bool, true, false, List, [], ◌∷◌, ◌++◌, flat_map}
 use Rattle.pel_model.specs.declared.Format.{Format}
 use Rattle.pel_model.specs.Grammar.{Element, Psc, Tr, Ptype, Pei, Pspare, Gn, Gquant, Gei, Gspare, Slot, AtPei, AtPspare, AtGei, AtGspare, at_slot, field_rows, faults}
-use Rattle.pel_model.specs.Walk.{read}
+use Rattle.pel_model.specs.Walk.{Reading, read}
+use Rattle.h261_pic.specs.declared.input_headers.GroupHeader.{GroupHeader}
 
 -- the two layers that have spare bytes
 pub data Layer : Type 0 where
@@ -39,6 +40,22 @@ picture_header_elements tr ptype spares = Psc ∷ Tr tr ∷ Ptype ptype ∷ spar
 -- a group's header behind its start code
 abbrev pub group_header_elements : (number quant : ℕ) → (spares : List ℕ) → List Element
 group_header_elements number quant spares = Gn number ∷ Gquant quant ∷ spares_of OfGroup spares
+
+-- a picture header with this TR
+pub record IsPictureHeader (tr : ℕ) (es : List Element) (new : Reading) : Type 0 where
+  pub ptype : ℕ
+  pub spares : List ℕ
+  pub elements : es ≡ picture_header_elements tr ptype spares
+
+-- a group header, behind its start code
+pub record IsGroupHeader (header : GroupHeader) (es : List Element) (new : Reading) : Type 0 where
+  pub spares : List ℕ
+  pub elements : es ≡ group_header_elements header.number header.quant spares
+
+-- spare bytes, up to the flag behind the last
+pub record AreSpares {X : Type 0} (layer : Layer) (x : X) (es : List Element) (new : Reading) : Type 0 where
+  pub octets : List ℕ
+  pub elements : es ≡ spares_of layer octets
 
 -- the elements are a front of such a list, and not the whole
 abbrev pub AreSparesSoFar : Layer → List Element → Type 0

@@ -5,3 +5,4 @@ pub mod HeaderElements
 pub mod Comes
 pub mod Reached
 pub mod ReadGroup
+pub mod Laws

@@ -8,12 +8,12 @@ use Rattle.pel_model.specs.Marks.{macroblock_marks}
 use Rattle.pel_model.specs.Records.{Macroblock}
 use Rattle.pel_model.specs.Headers.{group_header_length}
 use Rattle.pel_model.specs.Text.{macroblocks_text}
-use Rattle.pel_model.specs.Walk.{Good, Bad, skipped, after, Goes}
+use Rattle.pel_model.specs.Walk.{Good, skipped, after, Goes}
 use Rattle.pel_model.specs.Grammar.{Element, Gbsc, begun as begun_before, group as group_before, slot, may_end, next_within_limit}
 use Rattle.picture_laws.specs.SoFar.{IsGroupSoFar}
 use Rattle.h261_pic.specs.declared.group.SentGroup.{SentGroup}
 use Rattle.h261_pic.specs.Coded.{placed}
-use Rattle.h261_pic.specs.Reached.{Follows}
+use Rattle.h261_pic.specs.Reached.{MeetsFault, Follows}
 use Rattle.h261_pic.specs.Adding.{bits_at}
 
 -- behind these elements, at `from`, the start code of a group was taken; group `last` came before, and this is the one
@@ -45,6 +45,4 @@ pub record IsGroupRead (format : Format) (bits : List Bool) (before : List Eleme
 abbrev pub GroupIsReadOrFails : Format → List Bool → List Element → List Bool × ℕ → Result SentGroup Fault → List Bool × ℕ → Type 0
 GroupIsReadOrFails format bits before from (Ok g) new =
     IsGroupRead format bits before from g.header.number g.header.quant g.marks.items g.another new
-GroupIsReadOrFails format bits before from (Err f) new =
-    (es : List Element) × (end : List Bool × ℕ) × Goes (next_within_limit format) before from es end
-    × (next_within_limit format (after before es) end ≡ Bad f.why) × (f.place ≡ end.1)
+GroupIsReadOrFails format bits before from (Err f) new = MeetsFault format before f from

@@ -1,5 +1,4 @@
 //! A picture's strict text, as far as it was written, where the macroblocks of its groups stand, and their marks.
-#![tactic(auto)]
 
 ghost use Rattle.std.specs.Prelude.{◌≡◌, ℕ, ◌+◌, ◌-◌, ◌*◌, ◌^◌, ◌<◌, ◌≤◌, ◌↔◌, [], ◌++◌, length, All, IsTrue, IsFalse, IfOk, slice_get, slice_index};
 ghost use Rattle.pel_bits.specs.Bits.{bits};
@@ -11,10 +10,10 @@ ghost use Rattle.pel_model.specs.Regions.{renumbered, empty_group as group_witho
 ghost use Rattle.pel_model.specs.Headers.{group_header_length};
 ghost use Rattle.pel_model.specs.Text.{picture_header, group_header};
 ghost use Rattle.pel_model.specs.Valid.{group_numbers, group_count, limit};
-ghost use Rattle.h261_pic.specs.Coded.{Coding, nothing, coding, grown, next_number, view_of, group_in, macroblock_bits, marks_in, placed, Belongs, IsFinished, HasPicture};
-ghost use Rattle.h261_pic.specs.Adding.{emptied, bits_at, IsGroupText};
+ghost use Rattle.h261_pic.specs.Coded.{Coding, nothing, coding, grown, next_number, view_of, group_in, macroblock_bits, marks_in, placed, Belongs, IsFinished, HasPicture, IsWhole};
+ghost use Rattle.h261_pic.specs.Adding.{emptied, bits_at, most_marks, room_of, IsGroupText};
 
-use crate::formats::{group_number, longest};
+use crate::formats::{group_number, last_end, longest};
 use arrayvec::ArrayVec;
 use pel_bits::{BitBuf, Bits, NoMemory};
 use pel_model::{Format, Mark};
@@ -100,25 +99,24 @@ impl Coded {
         self.tr
     }
 
-    /// The strict text, as far as it was written. What is written is a valid picture as far as it goes, within the
-    /// greatest number of bits that its format allows.
+    /// The strict text, as far as it was written. What is written is a valid picture as far as it goes, and a valid
+    /// picture where all its groups are there, within the greatest number of bits that its format allows.
     pub fn bits(&self) -> Bits<'_>
         ensures bits { result ≡ self.now.bits }
         ensures picture { 0 < length self.now.bits → HasPicture self.now }
+        ensures whole { IsFinished self.now → IsWhole self.now }
         ensures within { length self.now.bits ≤ limit self.now.format }
     {
         self.text.bits()
     }
 
-    /// What is written is a valid picture as far as it goes, within the greatest number of bits that its format
-    /// allows, and leaves room for the headers of the groups to come.
-    pub fn valid_so_far(&self)
-        ensures picture { 0 < length self.now.bits → HasPicture self.now }
-        ensures within { length self.now.bits ≤ limit self.now.format }
-        ensures room { 0 < length self.now.bits → length self.now.bits + group_header_length * (group_count self.now.format - length self.now.groups) ≤ limit self.now.format }
+    /// How many macroblock bits the next group may have, so that the headers of the groups behind it still fit.
+    pub fn room(&self) -> u32
+        ensures { result + length self.now.bits
+            + group_header_length * (group_count self.now.format - length self.now.groups)
+            ≡ limit self.now.format }
     {
-        // naming a field tells what is true of the fields
-        let _text = &self.text;
+        last_end(self.format, self.groups.len() as u32) - self.text.len()
     }
 
     /// The octets of the strict text, with zeros from its last bit to the end of the octet.
@@ -138,7 +136,8 @@ impl Coded {
 
     /// Whether this is a refresh: a QCIF picture that sends all its 99 macroblocks, each of them Intra (H.261, 3.2.1).
     pub fn is_refresh(&self) -> bool
-        ensures refresh { (picture : Picture) → self.now ≡ coding self.now.format picture → (IsTrue result ↔ IsRefresh self.now.format picture) }
+        ensures refresh { (picture : Picture) → self.now ≡ coding self.now.format picture →
+            (IsTrue result ↔ IsRefresh self.now.format picture) }
         ensures empty { self.now.bits ≡ [] → IsFalse result }
     {
         self.format == Format::Qcif
@@ -169,10 +168,8 @@ impl Coded {
         requires { tr < 32 }
         ensures { self.new ≡ coding self.old.format (record { tr = tr; groups = [] }) }
     {
+        self.clear();
         self.tr = tr;
-        self.text.clear();
-        self.groups.clear();
-        self.marks.clear();
         push_picture_header(&mut self.text, self.format, tr);
     }
 
@@ -182,9 +179,9 @@ impl Coded {
         requires next { length self.old.groups < group_count self.old.format }
         ensures grown { self.new ≡ grown self.old 1 [] [] }
         ensures picture { (p : Picture) → self.old ≡ coding self.old.format p →
-            self.new ≡ coding self.old.format (with_group p (group_without_macroblocks (next_number self.old))) }
+            self.new ≡ coding self.old.format
+            (with_group p (group_without_macroblocks (next_number self.old))) }
     {
-        self.valid_so_far();
         self.add_group(1, &Bits::new(&[], 0, 0), &[]);
     }
 
@@ -196,11 +193,17 @@ impl Coded {
         requires next { length self.old.groups < group_count self.old.format }
         requires finished { IsFinished from.now }
         requires there { i < length from.now.groups }
-        requires belongs { Belongs from.now.format (view_of from.now i).number self.old.format (next_number self.old) }
-        requires room { length self.old.bits + (view_of from.now i).len + group_header_length * (group_count self.old.format - length self.old.groups) ≤ limit self.old.format }
-        ensures grown { self.new ≡ grown self.old (view_of from.now i).quant (macroblock_bits from.now i) (marks_in from.now i) }
-        ensures picture { (p q : Picture) → self.old ≡ coding self.old.format p → from.now ≡ coding from.now.format q →
-            self.new ≡ coding self.old.format (with_group p (renumbered (next_number self.old) (group_in q i))) }
+        requires belongs { Belongs from.now.format (view_of from.now i).number
+            self.old.format (next_number self.old) }
+        requires room { length self.old.bits + (view_of from.now i).len
+            + group_header_length * (group_count self.old.format - length self.old.groups)
+            ≤ limit self.old.format }
+        ensures grown { self.new ≡ grown self.old (view_of from.now i).quant
+            (macroblock_bits from.now i) (marks_in from.now i) }
+        ensures picture { (p q : Picture) →
+            self.old ≡ coding self.old.format p → from.now ≡ coding from.now.format q →
+            self.new ≡ coding self.old.format
+            (with_group p (renumbered (next_number self.old) (group_in q i))) }
     {
         let view = from.groups[i];
         let first = usize::from(view.first_mark);
@@ -209,7 +212,7 @@ impl Coded {
     }
 
     // Adds groups with GQUANT 1 and no macroblocks, up to the one with this place, from 0 on.
-    pub(crate) fn leave_out(&mut self, place: usize)
+    pub(crate) fn add_empty_groups(&mut self, place: usize)
         requires begun { 0 < length self.old.bits }
         requires there { place ≤ group_count self.old.format }
         ensures { self.new ≡ emptied (place - length self.old.groups) self.old }
@@ -224,8 +227,10 @@ impl Coded {
         requires begun { 0 < length self.old.bits }
         requires next { length self.old.groups < group_count self.old.format }
         requires inside { All (λ (m : MarkOf). m.at + m.len ≤ length source.now) marks.now }
-        requires room { length self.old.bits + length (bits_at source.now marks.now) + group_header_length * (group_count self.old.format - length self.old.groups) ≤ limit self.old.format }
-        requires text { IsGroupText self.old.format (next_number self.old) quant (bits_at source.now marks.now) marks.now }
+        requires small { length source.now < 2 ^ 32 }
+        requires room { length (bits_at source.now marks.now) ≤ room_of self.old }
+        requires text { IsGroupText self.old.format (next_number self.old) quant
+            (bits_at source.now marks.now) marks.now }
         ensures { self.new ≡ grown self.old quant (bits_at source.now marks.now) marks.now }
     {
         let number = group_number(self.format, self.groups.len());
@@ -255,13 +260,13 @@ fn append_macroblocks(
 )
     requires inside { All (λ (m : MarkOf). m.at + m.len ≤ length source.now) found.now }
     requires room { length text.old.list + length (bits_at source.now found.now) ≤ text.old.capacity }
-    requires places { length marks.old.items + length found.now ≤ 396 }
-    requires small { text.old.capacity < 2 ^ 32 }
-    ensures text { text.new ≡ record text.old { list = text.old.list ++ bits_at source.now found.now } }
-    ensures marks { marks.new.items ≡ marks.old.items ++ placed (length text.old.list) group found.now }
+    requires places { length marks.old.items + length found.now ≤ most_marks }
+    requires small { (text.old.capacity < 2 ^ 32) × (length source.now < 2 ^ 32) }
+    ensures text { text.new ≡
+        record text.old { list = text.old.list ++ bits_at source.now found.now } }
+    ensures marks { marks.new.items ≡
+        marks.old.items ++ placed (length text.old.list) group found.now }
 {
-    // asking for the length tells that the places in the source fit
-    let _len = source.len();
     let mut from = 0;
     let mut len = 0;
     for mark in found {

@@ -1,11 +1,10 @@
 //! What may come behind a picture's header, a group's header, a macroblock or stuffing: the end, a group, stuffing or a
 //! macroblock (H.261, 4.2.1 to 4.2.3).
-#![tactic(auto)]
 
 ghost use Rattle.std.specs.Prelude.{◌≡◌, ◌≤◌, false, List, IfOk};
 ghost use Rattle.pel_model.specs.declared.Format.{Format};
 ghost use Rattle.pel_model.specs.declared.Why.TheVariants.{NoCode};
-ghost use Rattle.pel_model.specs.Grammar.{Element, slot, AtGroup, AtMacroblock, is_end as is_end_of, mba_rows, next};
+ghost use Rattle.pel_model.specs.Grammar.{Element, slot, AtGroup, AtMacroblock, is_end, mba_rows, next};
 ghost use Rattle.pel_model.specs.Walk.{Bad, read};
 ghost use Rattle.h261_pic.specs.Comes.{Comes, IsGroupOrEnd};
 
@@ -42,7 +41,7 @@ pub fn take_coming(r: &mut Reader<'_>) -> Result<Coming, Fault>
             *r = ahead;
             Ok(Coming::Stuffing)
         }
-        Err(why) => take_group_code(r, why),
+        Err(why) => take_gbsc(r, why),
     }
 }
 
@@ -56,12 +55,12 @@ pub fn take_group_or_end(r: &mut Reader<'_>) -> Result<Coming, Fault>
     if is_end(r) {
         return Ok(Coming::End);
     }
-    take_group_code(r, Why::NoCode)
+    take_gbsc(r, Why::NoCode)
 }
 
 // At most 7 bits are left, and all are 0.
 fn is_end(r: &Reader<'_>) -> bool
-    ensures { result ≡ is_end_of r.now.0 }
+    ensures { result ≡ is_end r.now.0 }
 {
     let left = r.left();
     left < 8 && r.peek(left) == 0
@@ -69,10 +68,12 @@ fn is_end(r: &Reader<'_>) -> bool
 
 // Takes GBSC (4.2.2.1). `why` is the reason why no word of MBA stands here, or NoCode behind a picture header, where none
 // may.
-fn take_group_code(r: &mut Reader<'_>, why: Why) -> Result<Coming, Fault>
-    ensures behind_a_group { (format : Format) (before : List Element) → slot before ≡ AtMacroblock → is_end_of r.old.0 ≡ false →
+fn take_gbsc(r: &mut Reader<'_>, why: Why) -> Result<Coming, Fault>
+    ensures behind_a_group { (format : Format) (before : List Element) →
+        slot before ≡ AtMacroblock → is_end r.old.0 ≡ false →
         read mba_rows r.old.0 ≡ Bad why → Comes (next format before r.old) result r.old r.new }
-    ensures behind_a_header { (format : Format) (before : List Element) → slot before ≡ AtGroup → is_end_of r.old.0 ≡ false →
+    ensures behind_a_header { (format : Format) (before : List Element) →
+        slot before ≡ AtGroup → is_end r.old.0 ≡ false →
         why ≡ NoCode → Comes (next format before r.old) result r.old r.new }
     ensures of_these { IfOk result IsGroupOrEnd }
 {

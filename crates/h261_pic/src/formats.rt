@@ -1,16 +1,15 @@
 //! What the format of a picture decides: its groups of blocks with their numbers (H.261, 4.2.2) and its greatest number of
 //! bits (5.2).
-#![tactic(auto)]
 
-ghost use Rattle.std.specs.Prelude.{◌≡◌, ◌<◌, ◌≤◌, true, slice_index};
-ghost use Rattle.pel_model.specs.Grammar.{is_group as is_group_of};
+ghost use Rattle.std.specs.Prelude.{◌≡◌, ◌-◌, ◌*◌, ◌<◌, ◌≤◌, true, slice_index};
+ghost use Rattle.pel_model.specs.Grammar.{is_group};
 ghost use Rattle.pel_model.specs.Headers.{group_header_length};
-ghost use Rattle.pel_model.specs.Valid.{group_numbers, group_count as group_count_of, limit};
+ghost use Rattle.pel_model.specs.Valid.{group_numbers, group_count, limit};
 
 use pel_model::Format;
 
 /// The number of bits of a group header: GBSC, GN, GQUANT and a GEI of 0 (4.2.2).
-pub const GROUP_HEADER_BITS: u32 = 26;
+const GROUP_HEADER_BITS: u32 = 26;
 
 /// The greatest number of bits of a picture.
 pub fn longest(format: Format) -> u32
@@ -24,7 +23,7 @@ pub fn longest(format: Format) -> u32
 
 /// How many groups a picture has.
 pub fn group_count(format: Format) -> usize
-    ensures { result ≡ group_count_of format }
+    ensures { result ≡ group_count format }
 {
     match format {
         Format::Qcif => 3,
@@ -32,9 +31,17 @@ pub fn group_count(format: Format) -> usize
     }
 }
 
+/// The last place at which an element may end, where so many groups were begun.
+pub fn last_end(format: Format, begun: u32) -> u32
+    ensures { result ≡ limit format - group_header_length * (group_count format - begun) }
+{
+    let groups = group_count(format) as u32;
+    longest(format) - GROUP_HEADER_BITS * groups.saturating_sub(begun)
+}
+
 /// Whether this is the number of a group: 1, 3 or 5 in QCIF, 1 to 12 in CIF.
 pub fn is_group(format: Format, number: u8) -> bool
-    ensures { result ≡ is_group_of format number }
+    ensures { result ≡ is_group format number }
 {
     match format {
         Format::Qcif => matches!(number, 1 | 3 | 5),
@@ -44,7 +51,7 @@ pub fn is_group(format: Format, number: u8) -> bool
 
 /// The number of a group, by its place from 0 on.
 pub fn group_number(format: Format, place: usize) -> u8
-    requires { place < group_count_of format }
+    requires { place < group_count format }
     ensures { result ≡ slice_index (group_numbers format) place }
 {
     match format {
@@ -55,8 +62,8 @@ pub fn group_number(format: Format, place: usize) -> u8
 
 /// The place of a group, from 0 on, by its number.
 pub fn group_place(format: Format, number: u8) -> usize
-    requires { is_group_of format number ≡ true }
-    ensures there { result < group_count_of format }
+    requires { is_group format number ≡ true }
+    ensures there { result < group_count format }
     ensures number { slice_index (group_numbers format) result ≡ number }
 {
     match format {

@@ -1,13 +1,13 @@
 //! A group of blocks as a sender may send it: header, macroblocks and stuffing, read within the picture's limit.
-#![tactic(auto)]
 
 ghost use Rattle.std.specs.Prelude.{◌≡◌, ◌<◌, ◌≤◌, ℕ, Bool, true, List, Result, IfOk};
-ghost use Rattle.pel_model.specs.Grammar.{Element, is_group as is_group_of};
+ghost use Rattle.pel_model.specs.Grammar.{Element, is_group};
 ghost use Rattle.h261_pic.specs.ReadGroup.{GroupComes, GroupIsReadOrFails};
 
 use crate::coming::Coming;
+use crate::formats::last_end;
 use crate::input_headers::GroupHeader;
-use crate::limited::{coming_within, group_header_within, last_end, macroblock_within};
+use crate::limited::{coming_within, group_header_within, macroblock_within};
 use arrayvec::ArrayVec;
 use h261_mb::MbState;
 use pel_bits::Reader;
@@ -34,11 +34,14 @@ pub fn read_group(
     last: u8,
     begun: u32,
 ) -> Result<SentGroup, Fault>
-    requires here { (bits : List Bool) × (before : List Element) × (from : List Bool × ℕ) × GroupComes format bits last begun before from r.old }
+    requires here { (bits : List Bool) × (before : List Element) × (from : List Bool × ℕ)
+        × GroupComes format bits last begun before from r.old }
     requires few { begun ≤ 13 }
-    ensures read { (bits : List Bool) (before : List Element) (from : List Bool × ℕ) → GroupComes format bits last begun before from r.old →
+    ensures read { (bits : List Bool) (before : List Element) (from : List Bool × ℕ) →
+        GroupComes format bits last begun before from r.old →
         GroupIsReadOrFails format bits before from result r.new }
-    ensures within { IfOk result (λ group. (is_group_of format group.header.number ≡ true) × (last < group.header.number)) }
+    ensures within { IfOk result (λ group.
+        (is_group format group.header.number ≡ true) × (last < group.header.number)) }
 {
     let end = last_end(format, begun);
     let header = group_header_within(r, format, last, end)?;

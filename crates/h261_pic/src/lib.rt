@@ -5,11 +5,15 @@ mod coded;
 mod coming;
 mod formats;
 mod group;
+mod hand;
 mod input_headers;
+mod laws;
 mod limited;
 mod parser;
 
 pub use coded::{Coded, GroupView};
+pub use hand::Hand;
+pub use laws::codings_of_pictures;
 pub use parser::parse;
 
 #[cfg(test)]

@@ -1,37 +1,27 @@
 //! The parts of a coded picture, each read within the limit of its format (H.261, 5.2): an element that ends past the limit
 //! is too long. A group's header that is still to come counts as if it were sent, so that the strict text has room for it.
-#![tactic(auto)]
 
-ghost use Rattle.std.specs.Prelude.{◌≡◌, ◌+◌, ◌-◌, ◌*◌, ◌<◌, ◌≤◌, ℕ, true, List, [], take, IfOk};
+ghost use Rattle.std.specs.Prelude.{◌≡◌, ◌-◌, ◌<◌, ◌≤◌, ℕ, true, List, [], take, IfOk};
 ghost use Rattle.pel_model.specs.declared.Format.{Format as PictureFormat};
-ghost use Rattle.pel_model.specs.Headers.{group_header_length};
-ghost use Rattle.pel_model.specs.Valid.{group_count as group_count_of, limit};
-ghost use Rattle.pel_model.specs.Grammar.{Element, Mba, mba_rows, slot, AtGn, AtGroup, AtMacroblock, group as group_before, begun as begun_before, is_group as is_group_of, counted, next_within_limit};
+ghost use Rattle.pel_model.specs.Valid.{limit};
+ghost use Rattle.pel_model.specs.Grammar.{Element, Mba, mba_rows, slot, AtGn, AtGroup, AtMacroblock, group as group_before, begun as begun_before, is_group, counted, next_within_limit};
 ghost use Rattle.pel_model.specs.Walk.{Good, read};
 ghost use Rattle.h261_mb.specs.State.{IsReady, Stands, IsRead};
-ghost use Rattle.h261_pic.specs.HeaderElements.{picture_header_elements, group_header_elements};
+ghost use Rattle.h261_pic.specs.HeaderElements.{IsPictureHeader, IsGroupHeader};
 ghost use Rattle.h261_pic.specs.Comes.{Comes};
 ghost use Rattle.h261_pic.specs.Reached.{EndsAt, Reached, FollowsOrFails};
 
 use crate::coming::{Coming, take_coming, take_group_or_end};
-use crate::formats::{GROUP_HEADER_BITS, group_count, longest};
+use crate::formats::last_end;
 use crate::input_headers::{GroupHeader, read_group_header, read_picture_header};
 use h261_mb::{MbState, scan_mb};
 use pel_bits::Reader;
 use pel_model::{Fault, Format, Mark, Why};
 
-/// The last place at which an element may end, where so many groups were begun.
-pub fn last_end(format: Format, begun: u32) -> u32
-    ensures { result ≡ limit format - group_header_length * (group_count_of format - begun) }
-{
-    let groups = group_count(format) as u32;
-    longest(format) - GROUP_HEADER_BITS * groups.saturating_sub(begun)
-}
-
 /// Takes a picture header as `read_picture_header` does, from the first bit on.
 pub fn picture_header_within(r: &mut Reader<'_>, format: Format) -> Result<u8, Fault>
     requires { r.old.1 ≡ 0 }
-    ensures walk { Reached format [] (λ tr es new. (ptype : ℕ) × (spares : List ℕ) × (es ≡ picture_header_elements tr ptype spares)) result r.old r.new }
+    ensures walk { Reached format [] IsPictureHeader result r.old r.new }
     ensures within { IfOk result (λ tr. tr < 32) }
 {
     let end = last_end(format, 0);
@@ -52,9 +42,12 @@ pub fn group_header_within(
     last: u8,
     end: u32,
 ) -> Result<GroupHeader, Fault>
-    ensures walk { (before : List Element) → slot before ≡ AtGn → group_before before ≡ last → EndsAt format before end → r.old.1 ≤ end →
-        Reached format before (λ header es new. (spares : List ℕ) × (es ≡ group_header_elements header.number header.quant spares)) result r.old r.new }
-    ensures within { IfOk result (λ header. (is_group_of format header.number ≡ true) × (last < header.number) × (0 < header.quant) × (header.quant < 32)) }
+    ensures walk { (before : List Element) → slot before ≡ AtGn → group_before before ≡ last →
+        EndsAt format before end → r.old.1 ≤ end →
+        Reached format before IsGroupHeader result r.old r.new }
+    ensures number { IfOk result (λ header.
+        (is_group format header.number ≡ true) × (last < header.number)) }
+    ensures quant { IfOk result (λ header. (0 < header.quant) × (header.quant < 32)) }
 {
     let begin = r.copy();
     let header = read_group_header(r, format, last);
@@ -74,10 +67,10 @@ pub fn macroblock_within(
     state: &mut MbState,
     end: u32,
 ) -> Result<Mark, Fault>
-    requires group { is_group_of format group ≡ true }
+    requires group { is_group format group ≡ true }
     requires ready { IsReady state.old }
-    ensures walk { (before : List Element) (d n : ℕ) → Stands group state.old before → read mba_rows r.old.0 ≡ Good (Mba d) n →
-        EndsAt format before end → r.old.1 ≤ end →
+    ensures walk { (before : List Element) (d n : ℕ) → Stands group state.old before →
+        read mba_rows r.old.0 ≡ Good (Mba d) n → EndsAt format before end → r.old.1 ≤ end →
         Reached format before (IsRead group r.old.1 before state.new) result r.old r.new }
     ensures ready { IsReady state.new }
 {
@@ -95,7 +88,8 @@ pub fn macroblock_within(
 /// Says what comes where a macroblock may, as `take_coming` does, behind so many groups begun.
 pub fn coming_within(r: &mut Reader<'_>, format: Format, begun: u32) -> Result<Coming, Fault>
     requires { begun ≤ 13 }
-    ensures { (before : List Element) → slot before ≡ AtMacroblock → begun_before before ≡ begun → counted format before r.old.1 ≤ limit format →
+    ensures { (before : List Element) → slot before ≡ AtMacroblock → begun_before before ≡ begun →
+        counted format before r.old.1 ≤ limit format →
         Comes (next_within_limit format before r.old) result r.old r.new }
 {
     let mut ahead = r.copy();
@@ -113,7 +107,8 @@ pub fn coming_within(r: &mut Reader<'_>, format: Format, begun: u32) -> Result<C
 
 /// Says whether a group comes behind a picture header, and then takes its start code; else the picture ends.
 pub fn group_follows(r: &mut Reader<'_>, format: Format) -> Result<bool, Fault>
-    ensures { (before : List Element) → slot before ≡ AtGroup → begun_before before ≡ 0 → counted format before r.old.1 ≤ limit format →
+    ensures { (before : List Element) → slot before ≡ AtGroup → begun_before before ≡ 0 →
+        counted format before r.old.1 ≤ limit format →
         FollowsOrFails (next_within_limit format before r.old) result r.old r.new }
 {
     let place = r.place();

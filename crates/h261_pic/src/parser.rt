@@ -1,13 +1,12 @@
 //! A picture in any input form, or its first fault.
-#![tactic(auto)]
 
 ghost use Rattle.std.specs.Prelude.{◌≡◌, ℕ, IfOk, IfErr, IsOk};
-ghost use Rattle.pel_model.specs.declared.Why.{Why as Reason};
+ghost use Rattle.pel_model.specs.declared.Why.{Why};
 ghost use Rattle.pel_model.specs.Records.{Picture};
 ghost use Rattle.pel_model.specs.Accepts.{Accepts};
 ghost use Rattle.pel_model.specs.Grammar.{next_within_limit};
 ghost use Rattle.pel_model.specs.Walk.{FirstFault};
-ghost use Rattle.h261_pic.specs.Coded.{nothing, coding};
+ghost use Rattle.h261_pic.specs.Coded.{nothing, coding, IsFinished};
 
 use crate::coded::Coded;
 use crate::formats::{group_count, group_place};
@@ -26,10 +25,16 @@ use pel_model::{Fault, Format};
 /// header.
 pub fn parse(bits: Bits<'_>, want: Format, into: &mut Coded) -> Result<(), Fault>
     requires { into.old.format ≡ want }
-    ensures accepted { IfOk result (λ _. (picture : Picture) × Accepts want bits.entry picture × (into.new ≡ coding want picture)) }
-    ensures only { (picture : Picture) → Accepts want bits.entry picture → IsOk result × (into.new ≡ coding want picture) }
-    ensures refused { IfErr result (λ fault. FirstFault (next_within_limit want) bits.entry fault.place fault.why × (into.new ≡ nothing want)) }
-    ensures faults { (place : ℕ) (why : Reason) → FirstFault (next_within_limit want) bits.entry place why → result ≡ Err (record { place = place; why = why }) }
+    ensures accepted { IfOk result (λ _.
+        (picture : Picture) × Accepts want bits.entry picture × (into.new ≡ coding want picture)) }
+    ensures finished { IfOk result (λ _. IsFinished into.new) }
+    ensures only { (picture : Picture) → Accepts want bits.entry picture →
+        IsOk result × (into.new ≡ coding want picture) }
+    ensures refused { IfErr result (λ fault.
+        FirstFault (next_within_limit want) bits.entry fault.place fault.why × (into.new ≡ nothing want)) }
+    ensures faults { (place : ℕ) (why : Why) →
+        FirstFault (next_within_limit want) bits.entry place why →
+        result ≡ Err (record { place = place; why = why }) }
 {
     let result = read_picture(&bits, want, into);
     if result.is_err() {
@@ -42,8 +47,10 @@ pub fn parse(bits: Bits<'_>, want: Format, into: &mut Coded) -> Result<(), Fault
 fn read_picture(bits: &Bits<'_>, format: Format, into: &mut Coded) -> Result<(), Fault>
     requires { into.old.format ≡ format }
     ensures format { into.new.format ≡ format }
-    ensures accepted { IfOk result (λ _. (picture : Picture) × Accepts format bits.now picture × (into.new ≡ coding format picture)) }
-    ensures refused { IfErr result (λ fault. FirstFault (next_within_limit format) bits.now fault.place fault.why) }
+    ensures accepted { IfOk result (λ _.
+        (picture : Picture) × Accepts format bits.now picture × (into.new ≡ coding format picture)) }
+    ensures refused { IfErr result (λ fault.
+        FirstFault (next_within_limit format) bits.now fault.place fault.why) }
 {
     let mut r = Reader::new(bits.slice(0, bits.len()));
     into.start(picture_header_within(&mut r, format)?);
@@ -54,10 +61,10 @@ fn read_picture(bits: &Bits<'_>, format: Format, into: &mut Coded) -> Result<(),
         begun += 1;
         let group = read_group(&mut r, format, last, begun)?;
         last = group.header.number;
-        into.leave_out(group_place(format, last));
+        into.add_empty_groups(group_place(format, last));
         into.add_group(group.header.quant, bits, &group.marks);
         another = group.another;
     }
-    into.leave_out(group_count(format));
+    into.add_empty_groups(group_count(format));
     Ok(())
 }

@@ -548,6 +548,37 @@ fn groups_copied_into_a_place(rt: HostRuntime) -> Result<(), Fail> {
 }
 
 #[test]
+fn a_group_copied_within_a_format(rt: HostRuntime) -> Result<(), Fail> {
+    let macroblock = "011 000000001 010 1";
+    let sent = Sent::of(rt.alloc(), &[QCIF_HEADER, GROUP_1, macroblock])?;
+    let coded = parsed(rt.alloc(), Qcif, sent.bits())?;
+    let mut other = Coded::reserve(rt.alloc(), Qcif)?;
+    other.start(7);
+    assert_eq!(rt; other.bits().len(), 32);
+    assert_eq!(rt; other.room(), 65_426);
+    let group = coded.group(0);
+    assert_eq!(rt; group.number, 1);
+    assert_eq!(rt; group.len, 16);
+    other.copy_group(&coded, 0);
+    assert_eq!(rt; other.room(), 65_410);
+    other.empty_group();
+    other.empty_group();
+    let text = Sent::of(
+        rt.alloc(),
+        &[
+            "00000000000000010000 00111 000011 0",
+            GROUP_1,
+            macroblock,
+            "0000000000000001 0011 00001 0",
+            "0000000000000001 0101 00001 0",
+        ],
+    )?;
+    assert_eq!(rt; other.octets(), text.octets.as_slice());
+    assert_eq!(rt; other.marks(), coded.marks());
+    Ok(())
+}
+
+#[test]
 fn a_fault_leaves_nothing(rt: HostRuntime) -> Result<(), Fail> {
     let sent = Sent::of(rt.alloc(), &TURN)?;
     let mut coded = parsed(rt.alloc(), Qcif, sent.bits())?;

@@ -8,7 +8,7 @@ use Rattle.pel_bits.specs.Bits.{bits, field, number}
 use Rattle.pel_bits.specs.Reading.{zeros}
 use Rattle.pel_bits.specs.Buffer.{Buffer, filled_up, whole}
 use Rattle.pel_bits.proofs.Fields.{length-field, field-mod, field-join, field-shift, take-field, drop-field, number-field, number_below, number-append, field-number}
-use Rattle.pel_bits.proofs.OctetBits.{length-bits, bits-append, take-bits, drop-bits}
+use Rattle.pel_bits.proofs.OctetBits.{length-bits, bits-append, take-bits, drop-bits, length-part, length-front}
 
 mul-more : (k : ℕ) → 8 * (k + 1) ≡ 8 * k + 8
 mul-more k = omega arith
@@ -245,27 +245,63 @@ front-of-filled octets bs n len is =
     sym (take-take n (whole n) (bits octets) (omega arith))
     ∙ (ap (take n) is ∙ take_at bs (zeros (whole (length bs) - length bs)) n len)
 
-pub copy-step : (old cur new source : List ℕ) (at from done w : ℕ) → at ≤ 8 * length old → from + (done + w) ≤ 8 * length source → take (whole (at + done)) (bits cur) ≡ filled_up (take at (bits old) ++ take done (drop from (bits source))) → take (whole (at + done + w)) (bits new) ≡ filled_up (take (at + done) (bits cur) ++ field (number (take w (drop (from + done) (bits source)))) w) → take (whole (at + (done + w))) (bits new) ≡ filled_up (take at (bits old) ++ take (done + w) (drop from (bits source)))
-copy-step old cur new source at from done w room inside before put =
+pub copy-step : (old cur new source : List ℕ) (at from done w : ℕ) → at ≤ 8 * length old → from + (done + w) ≤ 8 * length source → take (whole (at + done)) (bits cur) ≡ filled_up (take at (bits old) ++ take done (drop from (bits source))) → take (whole (at + done + w)) (bits new) ≡ filled_up (take (at + done) (bits cur) ++ take w (drop (from + done) (bits source))) → take (whole (at + (done + w))) (bits new) ≡ filled_up (take at (bits old) ++ take (done + w) (drop from (bits source)))
+copy-step old cur new source at from done w room inside before copied =
     let rest : List Bool = drop from (bits source) in
     let rest_len : length rest ≡ 8 * length source - from = length-drop from (bits source) ∙ ap (λ (n : ℕ). n - from) (length-bits source) in
     let had : List Bool = take at (bits old) ++ take done rest in
     let had_len : length had ≡ at + done =
     length-append (take at (bits old)) (take done rest) ∙ omega (arith, length-take at (bits old), length-bits old, length-take done rest, rest_len) in
     let piece : List Bool = take w (drop (from + done) (bits source)) in
-    let piece_len : length piece ≡ w =
-    length-take w (drop (from + done) (bits source)) ∙ omega (arith, length-drop (from + done) (bits source), length-bits source) in
-    let piece_is : field (number piece) w ≡ piece = ap (field (number piece)) (sym piece_len) ∙ field-number piece in
     let piece_at : piece ≡ take w (drop done rest) = sym (ap (take w) (drop-drop done from (bits source))) in
     let joined : had ++ piece ≡ take at (bits old) ++ take (done + w) rest =
     ap (λ (t : List Bool). had ++ t) piece_at
     ∙ (append_assoc (take at (bits old)) (take done rest) (take w (drop done rest))
     ∙ ap (λ (t : List Bool). take at (bits old) ++ t) (sym (take-add done w rest))) in
-    let now : take (at + done) (bits cur) ++ field (number piece) w ≡ take at (bits old) ++ take (done + w) rest =
-    ap (λ (t : List Bool). t ++ field (number piece) w) (front-of-filled cur had (at + done) had_len before)
-    ∙ (ap (λ (t : List Bool). had ++ t) piece_is ∙ joined) in
+    let now : take (at + done) (bits cur) ++ piece ≡ take at (bits old) ++ take (done + w) rest =
+    ap (λ (t : List Bool). t ++ piece) (front-of-filled cur had (at + done) had_len before) ∙ joined in
     let place : at + (done + w) ≡ at + done + w = omega arith in
-    ap (λ (n : ℕ). take (whole n) (bits new)) place ∙ (put ∙ ap filled_up now)
+    ap (λ (n : ℕ). take (whole n) (bits new)) place ∙ (copied ∙ ap filled_up now)
+
+-- a run that lies within the octets is the field of the number that it spells
+pub field-of-part : (source : List ℕ) (from w : ℕ) → from + w ≤ 8 * length source → field (number (take w (drop from (bits source)))) w ≡ take w (drop from (bits source))
+field-of-part source from w inside =
+    let piece : List Bool = take w (drop from (bits source)) in
+    ap (field (number piece)) (sym (length-part source from w inside)) ∙ field-number piece
+
+pub part_below : (source : List ℕ) (from w : ℕ) → from + w ≤ 8 * length source → number (take w (drop from (bits source))) < 2 ^ w
+part_below source from w inside =
+    let piece : List Bool = take w (drop from (bits source)) in
+    subst (λ (n : ℕ). number piece < 2 ^ n) (length-part source from w inside) (number_below piece)
+
+-- 64 bits are copied as the numbers of their halves
+pub copied-word : (old new source : List ℕ) (at from high low : ℕ) → at % 8 ≡ 0 → at / 8 + 8 ≤ length old → from / 8 + 12 ≤ length source → high ≡ number (take 32 (drop from (bits source))) → low ≡ number (take 32 (drop (from + 32) (bits source))) → take (8 * (at / 8 + 8)) (bits new) ≡ take (8 * (at / 8)) (bits old) ++ field (high * 2 ^ 32 % 2 ^ 64 + low) 64 → take (whole (at + 64)) (bits new) ≡ filled_up (take at (bits old) ++ take 64 (drop from (bits source)))
+copied-word old new source at from high low even room inside high_is low_is stored =
+    let high_below : high < 2 ^ 32 = subst (λ (n : ℕ). n < 2 ^ 32) (sym high_is) (part_below source from 32 (omega arith)) in
+    let low_below : low < 2 ^ 32 = subst (λ (n : ℕ). n < 2 ^ 32) (sym low_is) (part_below source (from + 32) 32 (omega arith)) in
+    let word : high * 2 ^ 32 % 2 ^ 64 ≡ high * 2 ^ 32 = shl_whole high 32 32 64 high_below (omega arith) in
+    let first : field high 32 ≡ take 32 (drop from (bits source)) = ap (λ (n : ℕ). field n 32) high_is ∙ field-of-part source from 32 (omega arith) in
+    let second : field low 32 ≡ take 32 (drop 32 (drop from (bits source))) =
+    ap (λ (n : ℕ). field n 32) low_is ∙ (field-of-part source (from + 32) 32 (omega arith) ∙ ap (take 32) (sym (drop-drop 32 from (bits source)))) in
+    let run : field (high * 2 ^ 32 % 2 ^ 64 + low) 64 ≡ take 64 (drop from (bits source)) =
+    ap (λ (n : ℕ). field (n + low) 64) word
+    ∙ (field-join high low 32 32 low_below
+    ∙ (ap (λ (t : List Bool). t ++ field low 32) first
+    ∙ (ap (λ (t : List Bool). take 32 (drop from (bits source)) ++ t) second ∙ sym (take-add 32 32 (drop from (bits source)))))) in
+    let place : 8 * (at / 8) ≡ at = omega arith in
+    let now : List Bool = take at (bits old) ++ take 64 (drop from (bits source)) in
+    let len : length now ≡ at + 64 =
+    length-append (take at (bits old)) (take 64 (drop from (bits source)))
+    ∙ omega (arith, length-front old at (omega arith), length-part source from 64 (omega arith)) in
+    let none : whole (length now) - length now ≡ 0 = omega (arith, len) in
+    ap (λ (n : ℕ). take n (bits new)) (omega arith)
+    ∙ (stored
+    ∙ (ap (λ (n : ℕ). take n (bits old) ++ field (high * 2 ^ 32 % 2 ^ 64 + low) 64) place
+    ∙ (ap (λ (t : List Bool). take at (bits old) ++ t) run
+    ∙ (sym (append-nil now) ∙ ap (λ (n : ℕ). now ++ zeros n) (sym none)))))
+
+pub word_fits : (high low : ℕ) → low < 2 ^ 32 → high < 2 ^ 32 → high * 4294967296 % 18446744073709551616 + low < 18446744073709551616
+word_fits high low p q = omega arith
 
 -- the run that was written behind the first n bits stands there
 pub now-holds : (octets : List ℕ) (bs run : List Bool) (n w : ℕ) → length bs ≡ n → length run ≡ w → take (whole (n + w)) (bits octets) ≡ filled_up (bs ++ run) → take (n + w) (bits octets) ≡ bs ++ run

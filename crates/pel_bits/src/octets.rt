@@ -123,12 +123,46 @@ pub fn copy_run(octets: &mut [u8], at: usize, source: &[u8], from: usize, len: u
     ensures { take (whole (at + len)) (bits octets.new)
         ≡ filled_up (take at (bits octets.old) ++ take len (drop from (bits source.now))) }
 {
-    let mut done = 0;
-    while done < len {
-        // after the first run the place is at the beginning of an octet
-        let width = (len - done).min(56 - (at + done) % 8) as u32;
-        let run = number_at(source, from + done, width);
-        put(octets, at + done, run, width);
-        done += width as usize;
+    let mut done = len.min(56 - at % 8);
+    copy_piece(octets, at, source, from, done);
+    // from here on the place is at the beginning of an octet; where 96 bits are left, so are twelve octets
+    while len - done >= 96 {
+        copy_word(octets, at + done, source, from + done);
+        done += 64;
     }
+    while done < len {
+        let width = (len - done).min(56);
+        copy_piece(octets, at + done, source, from + done, width);
+        done += width;
+    }
+}
+
+// The same for a run of at most 56 bits, which ends in the eighth octet from the one in which it begins.
+#[inline]
+fn copy_piece(octets: &mut [u8], at: usize, source: &[u8], from: usize, len: usize)
+    requires short { at % 8 + len ≤ 56 }
+    requires room { at / 8 + 8 ≤ length octets.old }
+    requires inside { from + len ≤ 8 * length source.now }
+    requires small { from + len < 2 ^ 40 }
+    ensures { take (whole (at + len)) (bits octets.new)
+        ≡ filled_up (take at (bits octets.old) ++ take len (drop from (bits source.now))) }
+{
+    let width = len as u32;
+    let run = number_at(source, from, width);
+    put(octets, at, run, width);
+}
+
+// The same for 64 bits, where `at` is the beginning of an octet.
+#[inline]
+fn copy_word(octets: &mut [u8], at: usize, source: &[u8], from: usize)
+    requires whole { at % 8 ≡ 0 }
+    requires room { at / 8 + 8 ≤ length octets.old }
+    requires inside { from / 8 + 12 ≤ length source.now }
+    requires small { from < 2 ^ 40 }
+    ensures { take (whole (at + 64)) (bits octets.new)
+        ≡ filled_up (take at (bits octets.old) ++ take 64 (drop from (bits source.now))) }
+{
+    let high = word_at(source, from, 32);
+    let low = word_at(source, from + 32, 32);
+    store(octets, at / 8, (high << 32) + low);
 }

@@ -95,6 +95,15 @@ impl<'a> Reader<'a> {
         }
     }
 
+    /// The number that the next 56 bits spell, which stay.
+    #[inline]
+    pub fn window(&self) -> u64
+        requires { 56 ≤ length self.now.0 }
+        ensures { result ≡ number (take 56 self.now.0) }
+    {
+        self.bits.wide_number(self.place, 56)
+    }
+
     /// Moves past `count` bits.
     #[inline]
     pub fn skip(&mut self, count: u32)

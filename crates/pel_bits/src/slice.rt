@@ -68,7 +68,17 @@ impl<'a> Bits<'a> {
         requires inside { from + width ≤ length self.now }
         ensures { result ≡ number (take width (drop from self.now)) }
     {
-        number_at(self.octets, self.from + from as usize, width) as u32
+        self.wide_number(from, width) as u32
+    }
+
+    // The same for 56 bits at most.
+    #[inline]
+    pub(crate) fn wide_number(&self, from: u32, width: u32) -> u64
+        requires width { width ≤ 56 }
+        requires inside { from + width ≤ length self.now }
+        ensures { result ≡ number (take width (drop from self.now)) }
+    {
+        number_at(self.octets, self.from + from as usize, width)
     }
 
     /// Copies the bits behind the first `at` bits of `octets`, and writes zeros to the end of their last octet.

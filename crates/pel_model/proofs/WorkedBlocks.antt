@@ -1,9 +1,9 @@
 -- Worked values of transforms and residuals, that were computed apart from these definitions.
-use Rattle.std.specs.Prelude.{◌≡◌, ℕ, ◌/◌, ◌%◌, ℤ, pos, List, [], ◌∷◌, map, replicate, Option, Some, None, Bool, true, false, refl}
+use Rattle.std.specs.Prelude.{◌≡◌, ℕ, ◌/◌, ◌%◌, ℤ, pos, List, [], ◌∷◌, map, replicate, Some, None, true, false, refl}
 use Rattle.std.specs.List.{range_with_len}
-use Rattle.pel_model.specs.Records.{Coefficient, Block}
+use Rattle.pel_model.specs.Records.{Coefficient}
 use Rattle.pel_model.specs.Residual.{reconstructed, with_zeros, transmission_order, coefficients_of, residual}
-use Rattle.pel_model.specs.Transform.{Transform, minus, fixed, sum_below, kernel_rows}
+use Rattle.pel_model.specs.Transform.{minus, fixed, sum_below, kernel_rows}
 
 -- what is given at the 64 places of a block, by rows
 abbrev in_rows : (ℕ → ℕ → ℤ) → List ℤ

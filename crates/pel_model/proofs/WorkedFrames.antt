@@ -1,6 +1,6 @@
 -- Worked frames: what decoders show of pictures with each kind of prediction, with values that were computed apart from
 -- these definitions.
-use Rattle.std.specs.Prelude.{◌≡◌, ℕ, ◌+◌, ◌*◌, ◌%◌, ℤ, pos, List, [], ◌∷◌, ◌++◌, map, replicate, Option, Some, None, Bool, true, false, refl}
+use Rattle.std.specs.Prelude.{◌≡◌, ℕ, ◌+◌, ◌*◌, ◌%◌, ℤ, pos, List, [], ◌∷◌, map, replicate, Option, Some, None, false, refl}
 use Rattle.pel_model.specs.declared.Format.TheVariants.{Qcif, Cif}
 use Rattle.pel_model.specs.declared.MbKind.{MbKind}
 use Rattle.pel_model.specs.declared.MbKind.TheVariants.{Intra, Inter, InterQuant, Mc, McFil}
@@ -10,10 +10,10 @@ use Rattle.pel_model.specs.Decode.{decode}
 use Rattle.pel_model.specs.Frames.{Plane, Luminance, Cb, Cr, Frame}
 use Rattle.pel_model.specs.Lanes.{Arrival, Received, Missing}
 use Rattle.pel_model.specs.Own.{own}
-use Rattle.pel_model.specs.Records.{Coefficient, Block, Macroblock, Group, Picture}
+use Rattle.pel_model.specs.Records.{Block, Macroblock, Group, Picture}
 use Rattle.pel_model.specs.Regions.{empty_group}
 use Rattle.pel_model.specs.Residual.{reconstructed, with_zeros, transmission_order, coefficients_of, residual}
-use Rattle.pel_model.specs.Transform.{Transform, minus, fixed, sum_below, kernel_rows}
+use Rattle.pel_model.specs.Transform.{minus, fixed, sum_below, kernel_rows}
 
 -- the samples at these planes, columns and rows
 abbrev samples : Frame → List (Plane × ℕ × ℕ) → List ℕ

@@ -1,5 +1,5 @@
 -- The four places of a CIF frame, each a QCIF frame (H.261, 3.1 and 4.2.2).
-use Rattle.std.specs.Prelude.{ℕ, ◌+◌, ◌*◌, ◌/◌}
+use Rattle.std.specs.Prelude.{◌+◌, ◌*◌, ◌/◌}
 use Rattle.pel_model.specs.declared.Format.TheVariants.{Qcif}
 use Rattle.pel_model.specs.declared.Quad.{Quad}
 use Rattle.pel_model.specs.Frames.{Frame, ratio, cut}

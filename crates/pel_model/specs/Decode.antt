@@ -1,9 +1,9 @@
 -- Decoding (H.261, 3.2): the frame that a decoder shows after a picture, sample by sample, from the frame before.
-use Rattle.std.specs.Prelude.{ℕ, suc, ◌+◌, ◌*◌, ◌/◌, ◌%◌, ◌==◌, min, ℤ, pos, negsuc, ◌+ℤ◌, List, [], ◌∷◌, slice_index_or, Option, None, Some, if◌then◌else◌}
+use Rattle.std.specs.Prelude.{ℕ, ◌+◌, ◌*◌, ◌/◌, ◌%◌, ◌==◌, min, ℤ, pos, negsuc, ◌+ℤ◌, List, [], ◌∷◌, slice_index_or, Option, None, Some, if◌then◌else◌}
 use Rattle.pel_model.specs.declared.Format.{Format}
 use Rattle.pel_model.specs.Frames.{Plane, Luminance, Cb, Cr, Frame, ratio, cut}
 use Rattle.pel_model.specs.Prediction.{predicted}
-use Rattle.pel_model.specs.Records.{Block, Macroblock, Group, Picture, quantiser_after}
+use Rattle.pel_model.specs.Records.{Macroblock, Group, Picture, quantiser_after}
 use Rattle.pel_model.specs.Residual.{residual}
 use Rattle.pel_model.specs.Transform.{Transform}
 

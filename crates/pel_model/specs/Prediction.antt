@@ -4,7 +4,7 @@ use Rattle.std.specs.Prelude.{ℕ, ◌+◌, ◌-◌, ◌*◌, ◌/◌, ◌%◌, 
 use Rattle.pel_model.specs.declared.MbKind.{MbKind}
 use Rattle.pel_model.specs.declared.MbKind.TheVariants.{McFil, McFilCoded, McFilQuant}
 use Rattle.pel_model.specs.Codes.{is_intra}
-use Rattle.pel_model.specs.Frames.{Plane, Frame, ratio}
+use Rattle.pel_model.specs.Frames.{Frame, ratio}
 use Rattle.pel_model.specs.Records.{Macroblock}
 
 -- the kinds of MTYPE that say FIL (4.2.3.2)

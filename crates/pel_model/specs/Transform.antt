@@ -1,5 +1,5 @@
 -- Inverse transforms (H.261, 3.2.4): what a decoder makes of a block's 64 coefficients, and one that is said exactly.
-use Rattle.std.specs.Prelude.{ℕ, zero, suc, ◌+◌, ◌*◌, ◌^◌, ℤ, pos, negsuc, ◌+ℤ◌, ◌*ℤ◌, neg_ℤ, int_lt, List, [], ◌∷◌, slice_index_or, if◌then◌else◌}
+use Rattle.std.specs.Prelude.{ℕ, zero, suc, ◌+◌, ◌*◌, ◌^◌, ℤ, pos, ◌+ℤ◌, ◌*ℤ◌, neg_ℤ, int_lt, List, [], ◌∷◌, slice_index_or, if◌then◌else◌}
 use Rattle.std.specs.Int.{int_div_euclid}
 
 -- any function of the 64 coefficients of a block, and of the column x and the row y in the block; the coefficient of

@@ -18,7 +18,7 @@ returns-in_err-n c =
     let p = err_from_is_err_and c.from_residual.result c.from_residual.ensures.1 in
     rw (p.1, p.2) (λ format before due.
     let took = c.in_err-n.ensures format before (due_at _ c.args.intra true due c.if-intra.true) in
-    failed (next format) before c.args.r.now c.args.r.now c.dc.new.r no_elements _ refl took.0 took.1 took.2)
+    failed (next format) before c.args.r.now c.args.r.now c.dc.new.r no_elements _ refl took.bad took.place took.kept)
 
 pub loop-run-init : goal.loop-run-init
 loop-run-init c =
@@ -28,7 +28,7 @@ loop-run-init c =
             within = omega (arith, w.filled-is);
             so_far = λ format before due.
                 let took = w.in_ok-n.ensures format before (due_at _ c.args.intra true due w.if-intra.true) in
-                rw (w.filled-is, w.r-is, w.if-intra.true, w.out-is) (dc_level_only (next format) before c.args.r.now w.dc.new.r w.in_ok-n.n took.0 _ took.1 took.2 (to_z-of_z w16 w.dc_level.result (search rules) ∙ w.dc_level.ensures));
+                rw (w.filled-is, w.r-is, w.if-intra.true, w.out-is) (dc_level_only (next format) before c.args.r.now w.dc.new.r w.in_ok-n.n took.len _ took.good took.behind (to_z-of_z w16 w.dc_level.result (search rules) ∙ w.dc_level.ensures));
           }
       | else-intra w ↦
           record {
@@ -44,7 +44,7 @@ returns-in_err-coefficient c =
     rw (p.1, p.2) (λ format before due.
     let so_far = (c.loop-run.invariant.so_far format before due).so_far in
     let took = c.in_err-coefficient.ensures.taken format (after before (coefficient_elements so_far.block)) so_far.due so_far.full in
-    failed (next format) before c.args.r.now c.loop-run.r c.coefficient.new.r so_far.block _ so_far.walk took.0 took.1 took.2)
+    failed (next format) before c.args.r.now c.loop-run.r c.coefficient.new.r so_far.block _ so_far.walk took.bad took.place took.kept)
 
 pub loop-run-preserved : goal.loop-run-preserved
 loop-run-preserved c =
@@ -62,8 +62,8 @@ loop-run-preserved c =
           let block = so_far.so_far.block in
           let took = c.in_ok-coefficient.ensures.taken format (after before (coefficient_elements block)) so_far.so_far.due so_far.so_far.full in
           let sent = row-coefficient row run level is in
-          let step = took.1 ∙ ap (λ (e : Element). Good e took.0) sent.1 in
-          rw count (more_levels (next format) before c.args.intra c.args.r.now c.loop-run.r c.coefficient.new.r c.loop-run.filled _ c.loop-run.out so_far (record { run = run; level = level; long = sent.0 }) _ took.0 step took.2 place (omega arith) (to_z-of_z w16 c.from-in-Some.result (search rules) ∙ (c.from-in-Some.ensures ∙ to_z-of_z w8 c.in-Some.level (search rules))));
+          let step = took.good ∙ ap (λ (e : Element). Good e took.len) sent.1 in
+          rw count (more_levels (next format) before c.args.intra c.args.r.now c.loop-run.r c.coefficient.new.r c.loop-run.filled _ c.loop-run.out so_far (record { run = run; level = level; long = sent.0 }) _ took.len step took.behind place (omega arith) (to_z-of_z w16 c.from-in-Some.result (search rules) ∙ (c.from-in-Some.ensures ∙ to_z-of_z w8 c.in-Some.level (search rules))));
     }
 
 pub returns : goal.returns
@@ -71,5 +71,9 @@ returns c = λ format before due.
     let so_far = c.loop-run.invariant.so_far format before due in
     let block = so_far.so_far.block in
     let took = c.in_ok-coefficient.ensures.taken format (after before (coefficient_elements block)) so_far.so_far.due so_far.so_far.full in
-    let step = took.1 ∙ ap (λ (e : Element). Good e took.0) (row-end c.in_ok-coefficient.field-0 (sym c.run_and_level.ensures ∙ c.in_default.is)) in
-    (block_elements block, whole_walk (next format) before c.args.intra c.args.r.now c.loop-run.r c.coefficient.new.r c.loop-run.filled so_far.so_far took.0 step took.2, (block, refl, so_far.so_far.kind, so_far.out_is))
+    let step = took.good ∙ ap (λ (e : Element). Good e took.len) (row-end c.in_ok-coefficient.field-0 (sym c.run_and_level.ensures ∙ c.in_default.is)) in
+    record {
+      elements = block_elements block;
+      walk = whole_walk (next format) before c.args.intra c.args.r.now c.loop-run.r c.coefficient.new.r c.loop-run.filled so_far.so_far took.len step took.behind;
+      wanted = (block, refl, so_far.so_far.kind, so_far.out_is);
+    }

@@ -5,7 +5,7 @@ use Rattle.pel_model.specs.Elements.{coefficient_elements, block_elements}
 use Rattle.pel_model.specs.Walk.{Good, after}
 use Rattle.pel_model.specs.Grammar.{Element, next}
 use Rattle.h261_block.proofs.BlockSteps.{due_at}
-use Rattle.h261_block.proofs.SoFar.{none_yet, dc_only, more, whole_walk, failed, row-end, row-coefficient, row-filled}
+use Rattle.h261_block.proofs.SoFar.{none_yet, dc_only, failed, failed_taken, more_taken, whole_taken}
 use Rattle.h261_block.proofs.scan_block.Goals as goal
 use Rattle.h261_block.proofs.scan_block.Goals.{then-intra+in_ok-dc, else-intra}
 
@@ -17,17 +17,17 @@ returns-in_err-dc c =
     let p = err_from_is_err_and c.from_residual.result c.from_residual.ensures.1 in
     rw (p.1, p.2) (λ format before due.
     let took = c.in_err-dc.ensures format before (due_at _ c.args.intra true due c.if-intra.true) in
-    failed (next format) before c.args.r.now c.args.r.now c.dc.new.r no_elements _ refl took.0 took.1 took.2)
+    failed (next format) before c.args.r.now c.args.r.now c.dc.new.r no_elements _ refl took.bad took.place took.kept)
 
-pub loop-run-init : goal.loop-run-init
-loop-run-init c =
+pub loop-behind-init : goal.loop-behind-init
+loop-behind-init c =
     elim c.if-intra.branch [
       | then-intra+in_ok-dc w ↦
           record {
             within = omega (arith, w.filled-is);
             so_far = λ format before due.
                 let took = w.in_ok-dc.ensures format before (due_at _ c.args.intra true due w.if-intra.true) in
-                rw (w.filled-is, w.r-is, w.if-intra.true) (dc_only (next format) before c.args.r.now w.dc.new.r w.in_ok-dc.field-0 took.0 took.1 took.2);
+                rw (w.filled-is, w.r-is, w.if-intra.true) (dc_only (next format) before c.args.r.now w.dc.new.r w.in_ok-dc.field-0 took.len took.good took.behind);
           }
       | else-intra w ↦
           record {
@@ -37,35 +37,23 @@ loop-run-init c =
           }
     ]
 
-pub returns-in_err-coefficient : goal.returns-in_err-coefficient
-returns-in_err-coefficient c =
-    let p = err_from_is_err_and c.from_residual-in_err-coefficient.result c.from_residual-in_err-coefficient.ensures.1 in
+pub returns-in_err-behind : goal.returns-in_err-behind
+returns-in_err-behind c =
+    let p = err_from_is_err_and c.from_residual-in_err-behind.result c.from_residual-in_err-behind.ensures.1 in
     rw (p.1, p.2) (λ format before due.
-    let so_far = c.loop-run.invariant.so_far format before due in
-    let took = c.in_err-coefficient.ensures.taken format (after before (coefficient_elements so_far.block)) so_far.due so_far.full in
-    failed (next format) before c.args.r.now c.loop-run.r c.coefficient.new.r so_far.block _ so_far.walk took.0 took.1 took.2)
+    let so_far = c.loop-behind.invariant.so_far format before due in
+    failed_taken (next format) before c.args.intra c.args.r.now c.loop-behind.r c.some_words.new.r c.loop-behind.filled so_far _ (c.in_err-behind.ensures.taken format (after before (coefficient_elements so_far.block)) so_far.due so_far.full))
 
-pub loop-run-preserved : goal.loop-run-preserved
-loop-run-preserved c =
-    let row = c.in_ok-coefficient.field-0 in
-    let run = c.in-Some.run' in
-    let level = c.in-Some.field-0-1 in
-    let is = sym c.run_and_level.ensures ∙ c.in-Some.is in
-    let count : c.loop-run.filled + (c.from.result + 1) ≡ c.loop-run.filled + run + 1 = omega (arith, c.from.ensures) in
-    let within = c.in_ok-coefficient.ensures.within in
+pub loop-behind-preserved : goal.loop-behind-preserved
+loop-behind-preserved c =
     record {
-      within = omega (arith, count, row-filled c.loop-run.filled row run level is, within);
+      within = (c.in_ok-behind.ensures.more c.in-Some.behind (cc)).1;
       so_far = λ format before due.
-          let so_far = c.loop-run.invariant.so_far format before due in
-          let took = c.in_ok-coefficient.ensures.taken format (after before (coefficient_elements so_far.block)) so_far.due so_far.full in
-          let sent = row-coefficient row run level is in
-          let step = took.1 ∙ ap (λ (e : Element). Good e took.0) sent.1 in
-          rw count (more (next format) before c.args.intra c.args.r.now c.loop-run.r c.coefficient.new.r c.loop-run.filled so_far (record { run = run; level = level; long = sent.0 }) took.0 step took.2);
+          let so_far = c.loop-behind.invariant.so_far format before due in
+          more_taken (next format) before c.args.intra c.args.r.now c.loop-behind.r c.some_words.new.r c.loop-behind.filled so_far _ c.in-Some.behind c.in-Some.is (c.in_ok-behind.ensures.taken format (after before (coefficient_elements so_far.block)) so_far.due so_far.full);
     }
 
 pub returns : goal.returns
 returns c = λ format before due.
-    let so_far = c.loop-run.invariant.so_far format before due in
-    let took = c.in_ok-coefficient.ensures.taken format (after before (coefficient_elements so_far.block)) so_far.due so_far.full in
-    let step = took.1 ∙ ap (λ (e : Element). Good e took.0) (row-end c.in_ok-coefficient.field-0 (sym c.run_and_level.ensures ∙ c.in_default.is)) in
-    (block_elements so_far.block, whole_walk (next format) before c.args.intra c.args.r.now c.loop-run.r c.coefficient.new.r c.loop-run.filled so_far took.0 step took.2, (so_far.block, refl, so_far.kind))
+    let so_far = c.loop-behind.invariant.so_far format before due in
+    whole_taken (next format) before c.args.intra c.args.r.now c.loop-behind.r c.some_words.new.r c.loop-behind.filled so_far _ c.in_default.is (c.in_ok-behind.ensures.taken format (after before (coefficient_elements so_far.block)) so_far.due so_far.full)

@@ -8,7 +8,7 @@ use Rattle.h261_block.proofs.coefficients.dc.Goals.{then-value-eq0-via-then-valu
 
 pub returns-then-left-lt8 : goal.returns-then-left-lt8
 returns-then-left-lt8 c = λ format before due.
-    (dc-cut format before c.args.r.now due (omega arith), c.place-place.ensures, refl)
+    record { bad = dc-cut format before c.args.r.now due (omega arith); place = c.place-place.ensures; kept = refl }
 
 pub overflow_cast-value : goal.overflow_cast-value
 overflow_cast-value c =
@@ -21,11 +21,11 @@ returns-then-value-eq0 c = λ format before due.
     let n = c.peek-value.result in
     elim c.then-value-eq0.branch [
       | then-value-eq0-via-then-value-eq0 w ↦
-          (dc-bad format before c.args.r.now n due (omega arith) c.peek-value.ensures (or_true (n == 0) (n == 128) (inl (eq-eqb n 0 w.if-value-eq0.true))), c.place-place.ensures, refl)
+          record { bad = dc-bad format before c.args.r.now n due (omega arith) c.peek-value.ensures (or_true (n == 0) (n == 128) (inl (eq-eqb n 0 w.if-value-eq0.true))); place = c.place-place.ensures; kept = refl }
       | then-value-eq0-via-else-value-eq0+then-value w ↦
-          (dc-bad format before c.args.r.now n due (omega arith) c.peek-value.ensures (or_true (n == 0) (n == 128) (inr (eq-eqb n 128 w.if-value.true))), c.place-place.ensures, refl)
+          record { bad = dc-bad format before c.args.r.now n due (omega arith) c.peek-value.ensures (or_true (n == 0) (n == 128) (inr (eq-eqb n 128 w.if-value.true))); place = c.place-place.ensures; kept = refl }
     ]
 
 pub returns : goal.returns
 returns c = λ format before due.
-    (8, dc-good format before c.args.r.now c.peek-value.result due (omega arith) c.peek-value.ensures c.if-value-eq0.false c.if-value.false, c.skip.ensures)
+    record { len = 8; good = dc-good format before c.args.r.now c.peek-value.result due (omega arith) c.peek-value.ensures c.if-value-eq0.false c.if-value.false; behind = c.skip.ensures }

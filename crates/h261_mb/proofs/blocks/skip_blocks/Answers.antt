@@ -25,9 +25,9 @@ returns-in_err-scan_block-clause-walk c =
     let first = so_far.due ∙ first_slot k (c.args.count - c.loop-block._block) c.args.intra (omega arith) intra in
     let later = c.in_err-scan_block.ensures format (after before es) first in
     let there = after before es in
-    let part = stays-in-block there later.2.0 (ap may_end first ∙ block_is_inside c.args.intra) in
-    let here = subst (λ (es : List Element). StaysInside there es) (sym later.2.1) part in
-    fails_later (next format) before (StaysInside before) c.args.r.now c.loop-block.r c.scan_block.new.r es later.0 _ so_far.walk later.1 (stays_later before es later.0 (inside-blocks so_far.read) here) later.3 later.4)
+    let part = stays-in-block there later.part.0 (ap may_end first ∙ block_is_inside c.args.intra) in
+    let here = subst (λ (es : List Element). StaysInside there es) (sym later.part.1) part in
+    fails_later (next format) before (StaysInside before) c.args.r.now c.loop-block.r c.scan_block.new.r es _ so_far.walk later (stays_later before es later.elements (inside-blocks so_far.read) here))
 
 pub loop-block-preserved : goal.loop-block-preserved
 loop-block-preserved c = record {
@@ -37,11 +37,11 @@ loop-block-preserved c = record {
       let es = flat_map block_elements so_far.read in
       let first = so_far.due ∙ first_slot k (c.args.count - c.loop-block._block) c.args.intra (omega arith) intra in
       let later = c.in_ok-scan_block.ensures format (after before es) first in
-      one_more (next format) before k kind_is c.args.r.now c.loop-block.r c.scan_block.new.r c.args.count c.loop-block._block so_far later.2.0 later.0 later.1 later.2.1;
+      one_more (next format) before k kind_is c.args.r.now c.loop-block.r c.scan_block.new.r c.args.count c.loop-block._block so_far later.wanted.0 later.elements later.walk later.wanted.1;
 }
 
 pub returns-clause-walk : goal.returns-clause-walk
 returns-clause-walk c = λ format before k kind_is intra due to_come.
     let so_far = c.loop-block.invariant.so_far format before k kind_is intra due to_come in
     let none_left : c.args.count - c.loop-block._block ≡ 0 = omega arith in
-    (flat_map block_elements so_far.read, so_far.walk, (so_far.read, omega (arith, so_far.many), refl, so_far.due ∙ ap (block_slot k) none_left))
+    record { elements = flat_map block_elements so_far.read; walk = so_far.walk; wanted = record { sent = so_far.read; many = omega (arith, so_far.many); elements = refl; due = so_far.due ∙ ap (block_slot k) none_left } }

@@ -1,49 +1,70 @@
-use Rattle.std.proofs.Common.{◌≡◌, ℕ, ◌∷◌, List, ℤ, refl, sym, ◌∙◌, ap, subst, w8, rules}
+use Rattle.std.proofs.Common.{◌≡◌, ◌∷◌, [], Bool, true, false, cond, List, ℤ, pos, refl, sym, ◌∙◌, ap, subst, w8, rules}
 use Rattle.std.proofs.lemmas.Int.{to_z-of_z}
-use Rattle.std.proofs.lemmas.Result.{err_from_is_err_and}
-use Rattle.pel_model.specs.Records.{Axis, Across, Down}
-use Rattle.pel_model.specs.Walk.{Goes}
-use Rattle.pel_model.specs.Valid.{corner}
-use Rattle.pel_model.specs.Grammar.{Element, Mvd, group, address, component_from, next}
-use Rattle.h261_mb.proofs.Steps.{goes_first}
+use Rattle.pel_model.specs.declared.MbKind.{MbKind}
+use Rattle.pel_model.specs.Codes.{has_vector}
+use Rattle.pel_model.specs.Records.{Across, Down}
+use Rattle.pel_model.specs.Walk.{after}
+use Rattle.pel_model.specs.Grammar.{Element, Mvd, AtMvd, cbp_slot, component_from, next}
+use Rattle.h261_mb.specs.Inside.{StaysInside}
+use Rattle.pel_model.specs.Elements.{vector_elements}
+use Rattle.h261_mb.specs.Parts.{IsMoved}
+use Rattle.h261_mb.proofs.Steps.{walked_as}
 use Rattle.h261_mb.proofs.vector.read_vector.Goals as goal
 
-corner_at : (axis : Axis) (before : List Element) (g a x : ℕ) → group before ≡ g → address before ≡ a → x ≡ corner axis g a → corner axis (group before) (address before) ≡ x
-corner_at axis before g a x number_is address_is is =
-    ap (λ (n : ℕ). corner axis n (address before)) number_is ∙ (ap (corner axis g) address_is ∙ sym is)
+moves : (k : MbKind) → has_vector k ≡ true → (a b : ℤ × ℤ) → vector_elements k a b ≡ Mvd Across a ∷ Mvd Down b ∷ []
+moves k has_one a b = ap (λ (has : Bool). cond has (Mvd Across a ∷ Mvd Down b ∷ []) []) has_one
 
-pub returns-in_err-h-clause-walk : goal.returns-in_err-h-clause-walk
-returns-in_err-h-clause-walk c =
-    let p = err_from_is_err_and c.from_residual.result c.from_residual.ensures.1 in
-    rw (p.1, p.2) (λ before due number_is address_is across_is down_is.
-    let corner_is = corner_at Across before c.args.group c.args.head.now.address c.left_edge.result number_is address_is c.left_edge.ensures.value in
-    c.in_err-h.ensures.walk c.args.format before Across due (across_is ∙ sym (to_z-of_z w8 c.args.head.now.h (search rules))) (sym c.width.ensures) corner_is)
+stays : (k : MbKind) → has_vector k ≡ false → (a b : ℤ × ℤ) → vector_elements k a b ≡ []
+stays k has_none a b = ap (λ (has : Bool). cond has (Mvd Across a ∷ Mvd Down b ∷ []) []) has_none
 
-pub returns-in_err-v-clause-walk : goal.returns-in_err-v-clause-walk
-returns-in_err-v-clause-walk c =
-    let p = err_from_is_err_and c.from_residual-in_err-v.result c.from_residual-in_err-v.ensures.1 in
-    rw (p.1, p.2) (λ before due number_is address_is across_is down_is.
-    let next = next c.args.format in
-    let left = corner_at Across before c.args.group c.args.head.now.address c.left_edge.result number_is address_is c.left_edge.ensures.value in
-    let top = corner_at Down before c.args.group c.args.head.now.address c.top_edge.result number_is address_is c.top_edge.ensures.value in
-    let first = c.in_ok-h.ensures.walk c.args.format before Across due (across_is ∙ sym (to_z-of_z w8 c.args.head.now.h (search rules))) (sym c.width.ensures) left in
-    let across = Mvd Across first.2.0 in
-    let took = subst (λ (es : List Element). Goes next before c.args.r.now es c.take_component.new.r) first.2.1 first.1 in
-    let later = c.in_err-v.ensures.walk c.args.format (across ∷ before) Down refl (down_is ∙ sym (to_z-of_z w8 c.args.head.now.v (search rules))) (sym c.height.ensures) top in
-    (across ∷ later.0, goes_first next before c.args.r.now c.take_component.new.r c.take_component-2.new.r across took.0 later.0 took.1 took.2 later.1, later.2, later.3, later.4))
+pub returns-then-has_vector-clause-walk : goal.returns-then-has_vector-clause-walk
+returns-then-has_vector-clause-walk c = λ before begun.
+    let front = c.args.front.now in
+    let has_one = sym c.has_vector.ensures ∙ c.if-has_vector.true in
+    let due = begun.due ∙ ap (λ (has : Bool). cond has (AtMvd Across) (cbp_slot front.kind)) has_one in
+    let walk = c.take_components.ensures.walk before due begun.say.number_is begun.say.address_is begun.say.across_is begun.say.down_is in
+    walked_as (next c.args.format) before _ _ (StaysInside before) c.take_components.result c.args.r.now c.take_components.new.r (λ vector es told. record {
+      across = told.across;
+      down = told.down;
+      elements = told.elements ∙ sym (moves front.kind has_one told.across told.down);
+      moved = subst (λ (es : List Element). IsMoved c.args.group front vector.0 vector.1 (after before es)) (sym told.elements) (record {
+        due = ap cbp_slot begun.kind_is;
+        kind_is = begun.kind_is;
+        blocks_are = begun.blocks_are;
+        say = record {
+          number_is = begun.say.number_is;
+          address_is = begun.say.address_is;
+          quant_is = begun.say.quant_is;
+          across_is = ap (λ (z : ℤ). component_from z told.across) begun.say.across_is ∙ told.across_is;
+          down_is = ap (λ (z : ℤ). component_from z told.down) begun.say.down_is ∙ told.down_is;
+        };
+      });
+    }) walk
 
-pub returns-clause-walk : goal.returns-clause-walk
-returns-clause-walk c = λ before due number_is address_is across_is down_is.
-    let next = next c.args.format in
-    let head = c.args.head.now in
-    let left = corner_at Across before c.args.group head.address c.left_edge.result number_is address_is c.left_edge.ensures.value in
-    let top = corner_at Down before c.args.group head.address c.top_edge.result number_is address_is c.top_edge.ensures.value in
-    let h_is = to_z-of_z w8 head.h (search rules) in
-    let v_is = to_z-of_z w8 head.v (search rules) in
-    let first = c.in_ok-h.ensures.walk c.args.format before Across due (across_is ∙ sym h_is) (sym c.width.ensures) left in
-    let across = Mvd Across first.2.0 in
-    let took = subst (λ (es : List Element). Goes next before c.args.r.now es c.take_component.new.r) first.2.1 first.1 in
-    let later = c.in_ok-v.ensures.walk c.args.format (across ∷ before) Down refl (down_is ∙ sym v_is) (sym c.height.ensures) top in
-    let across_told = ap (λ (z : ℤ). component_from z first.2.0) (sym h_is) ∙ (first.2.2 ∙ sym (to_z-of_z w8 c.in_ok-h.h (search rules))) in
-    let down_told = ap (λ (z : ℤ). component_from z later.2.0) (sym v_is) ∙ (later.2.2 ∙ sym (to_z-of_z w8 c.in_ok-v.v (search rules))) in
-    (across ∷ later.0, goes_first next before c.args.r.now c.take_component.new.r c.take_component-2.new.r across took.0 later.0 took.1 took.2 later.1, (first.2.0, later.2.0, ap (λ (es : List Element). across ∷ es) later.2.1, across_told, down_told))
+pub returns-else-has_vector-clause-walk : goal.returns-else-has_vector-clause-walk
+returns-else-has_vector-clause-walk c = λ before begun.
+    let front = c.args.front.now in
+    let has_none = sym c.has_vector.ensures ∙ c.if-has_vector.false in
+    let zero : ℤ × ℤ = (pos 0, pos 0) in
+    let h_is = to_z-of_z w8 front.h (search rules) in
+    let v_is = to_z-of_z w8 front.v (search rules) in record {
+      elements = [];
+      walk = refl;
+      wanted = record {
+        across = zero;
+        down = zero;
+        elements = sym (stays front.kind has_none zero zero);
+        moved = record {
+          due = begun.due ∙ ap (λ (has : Bool). cond has (AtMvd Across) (cbp_slot front.kind)) has_none;
+          kind_is = begun.kind_is;
+          blocks_are = begun.blocks_are;
+          say = record {
+            number_is = begun.say.number_is;
+            address_is = begun.say.address_is;
+            quant_is = begun.say.quant_is;
+            across_is = begun.say.across_is ∙ sym h_is;
+            down_is = begun.say.down_is ∙ sym v_is;
+          };
+        };
+      };
+    }

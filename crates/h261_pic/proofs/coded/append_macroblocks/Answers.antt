@@ -52,7 +52,7 @@ has_room c =
       arith,
       length-appended _ _ _ _ _ _ _ _ _ b.0,
       c.requires.room,
-      c.requires.small,
+      c.requires.small.0,
       length-bits_at-take c.args.source.now c.args.found.now c.loop-mark.mark-index,
     )
 

@@ -18,7 +18,7 @@ returns-in_err-header-clause-read c =
     let format = c.args.format in
     let ends = comes-ends format bits c.args.last c.args.begun c.last_end-end.result before from c.args.r.now comes c.last_end-end.ensures in
     let bad = c.in_err-header.ensures.walk (Gbsc ∷ before) refl comes.last_is ends.0 ends.1 in
-    (Gbsc ∷ bad.0, bad.1, header-fails format bits c.args.last c.args.begun before from c.args.r.now bad.1 bad.0 comes bad.2, bad.3, bad.4))
+    record { elements = Gbsc ∷ bad.elements; end = bad.end; walk = header-fails format bits c.args.last c.args.begun before from c.args.r.now bad.end bad.elements comes bad.walk; bad = bad.bad; place = bad.place })
 
 pub loop-marks-init : goal.loop-marks-init
 loop-marks-init c = record {
@@ -29,7 +29,7 @@ loop-marks-init c = record {
       let ends = comes-ends format bits c.args.last c.args.begun c.last_end-end.result before from c.args.r.now comes c.last_end-end.ensures in
       let read = c.in_ok-header.ensures.walk (Gbsc ∷ before) refl comes.last_is ends.0 ends.1 in
       subst (λ marks. GroupSoFar format bits c.args.begun before from header.number header.quant (at_first header.quant) marks c.group_header_within.new.r) (sym c.new-marks.ensures)
-      (header-read format bits c.args.last c.args.begun before from c.args.r.now c.group_header_within.new.r header.number header.quant read.0 read.2.0 comes read.1 read.2.1);
+      (header-read format bits c.args.last c.args.begun before from c.args.r.now c.group_header_within.new.r header.number header.quant read.elements read.wanted.spares comes read.walk read.wanted.elements);
 }
 
 pub returns-in_err-coming_within-clause-read : goal.returns-in_err-coming_within-clause-read
@@ -38,7 +38,7 @@ returns-in_err-coming_within-clause-read c =
     rw (p.1, p.2) (λ bits before from comes.
     let s = c.loop-marks.invariant.read bits before from comes in
     let bad = c.in_err-coming_within.ensures (after before s.es) s.stands.due s.begun_is s.fits in
-    (s.es, c.loop-marks.r, s.walk, bad.0, bad.1))
+    record { elements = s.es; end = c.loop-marks.r; walk = s.walk; bad = bad.bad; place = bad.place })
 
 pub loop-marks-smaller-in-Stuffing : goal.loop-marks-smaller-in-Stuffing
 loop-marks-smaller-in-Stuffing c =
@@ -47,9 +47,9 @@ loop-marks-smaller-in-Stuffing c =
     let s = c.loop-marks.invariant.read here.0 here.1 here.2 here.3 in
     let there = after here.1 s.es in
     let came = subst (λ (x : Coming). Comes (next_within_limit format there c.loop-marks.r) (Ok x) c.loop-marks.r c.coming_within.new.r) c.in-Stuffing.is (c.in_ok-coming_within.ensures there s.stands.due s.begun_is s.fits) in
-    let some = stuffing-on format there c.loop-marks.r came.0 came.1 s.stands.due in
-    let place = ap (λ (x : List Bool × ℕ). x.1) came.2 in
-    fewer format there c.loop-marks.r c.coming_within.new.r (_ ∷ []) (came.0, came.1, came.2) (omega (arith, some, place))
+    let some = stuffing-on format there c.loop-marks.r came.len came.good s.stands.due in
+    let place = ap (λ (x : List Bool × ℕ). x.1) came.behind in
+    fewer format there c.loop-marks.r c.coming_within.new.r (_ ∷ []) (came.len, came.good, came.behind) (omega (arith, some, place))
 
 pub loop-marks-preserved-in-Stuffing : goal.loop-marks-preserved-in-Stuffing
 loop-marks-preserved-in-Stuffing c = record {
@@ -60,8 +60,8 @@ loop-marks-preserved-in-Stuffing c = record {
       let s = c.loop-marks.invariant.read bits before from comes in
       let there = after before s.es in
       let came = subst (λ (x : Coming). Comes (next_within_limit format there c.loop-marks.r) (Ok x) c.loop-marks.r c.coming_within.new.r) c.in-Stuffing.is (c.in_ok-coming_within.ensures there s.stands.due s.begun_is s.fits) in
-      subst (GroupSoFar format bits c.args.begun before from header.number header.quant c.loop-marks.state c.loop-marks.marks.items) (sym came.2)
-      (stuffing-read format bits c.args.begun before from c.loop-marks.r header.number header.quant c.loop-marks.state c.loop-marks.marks.items came.0 s came.1);
+      subst (GroupSoFar format bits c.args.begun before from header.number header.quant c.loop-marks.state c.loop-marks.marks.items) (sym came.behind)
+      (stuffing-read format bits c.args.begun before from c.loop-marks.r header.number header.quant c.loop-marks.state c.loop-marks.marks.items came.len s came.good);
 }
 
 pub macroblock_within-requires-clause-ready : goal.macroblock_within-requires-clause-ready
@@ -77,11 +77,11 @@ returns-in_err-macroblock_within-in-Macroblock-clause-read c =
     let there = after before s.es in
     let came = subst (λ (x : Coming). Comes (next_within_limit format there c.loop-marks.r) (Ok x) c.loop-marks.r c.coming_within.new.r) c.in-Macroblock.is (c.in_ok-coming_within.ensures there s.stands.due s.begun_is s.fits) in
     let ends = group-ends format bits c.args.begun c.last_end-end.result before from header.number header.quant c.loop-marks.state c.loop-marks.marks.items c.loop-marks.r s c.last_end-end.ensures in
-    let word = subst (λ (x : List Bool × ℕ). read mba_rows x.0 ≡ Good (Mba came.0) came.1) (sym came.3) came.2 in
-    let place = subst (λ (x : List Bool × ℕ). x.1 ≤ c.last_end-end.result) (sym came.3) ends.1 in
-    let bad = c.in_err-macroblock_within-in-Macroblock.ensures.walk there came.0 came.1 s.stands word ends.0 place in
-    let goes = subst (λ (x : List Bool × ℕ). Goes (next_within_limit format) there x bad.0 bad.1) came.3 bad.2 in
-    (s.es ++ bad.0, bad.1, goes-append (next_within_limit format) before from c.loop-marks.r bad.1 s.es bad.0 s.walk goes, subst (λ (b : List Element). next_within_limit format b bad.1 ≡ Bad c.in_err-macroblock_within-in-Macroblock.field-0.0.why) (sym (after-append before s.es bad.0)) bad.3, bad.4))
+    let word = subst (λ (x : List Bool × ℕ). read mba_rows x.0 ≡ Good (Mba came.difference) came.len) (sym came.kept) came.word in
+    let place = subst (λ (x : List Bool × ℕ). x.1 ≤ c.last_end-end.result) (sym came.kept) ends.1 in
+    let bad = c.in_err-macroblock_within-in-Macroblock.ensures.walk there came.difference came.len s.stands word ends.0 place in
+    let goes = subst (λ (x : List Bool × ℕ). Goes (next_within_limit format) there x bad.elements bad.end) came.kept bad.walk in
+    record { elements = s.es ++ bad.elements; end = bad.end; walk = goes-append (next_within_limit format) before from c.loop-marks.r bad.end s.es bad.elements s.walk goes; bad = subst (λ (b : List Element). next_within_limit format b bad.end ≡ Bad c.in_err-macroblock_within-in-Macroblock.field-0.0.why) (sym (after-append before s.es bad.elements)) bad.bad; place = bad.place })
 
 -- the group with the macroblock
 joins : (c : goal.In_ok-macroblock_within-in-Macroblock) (bits : List Bool) (before : List Element) (from : List Bool × ℕ) → GroupComes c.args.format bits c.args.last c.args.begun before from c.args.r.now → GroupSoFar c.args.format bits c.args.begun before from c.in_ok-header.header.number c.in_ok-header.header.quant c.macroblock_within.new.state (c.loop-marks.marks.items ++ c.in_ok-macroblock_within-in-Macroblock.field-0 ∷ []) c.macroblock_within.new.r × (length c.macroblock_within.new.r.0 < length c.loop-marks.r.0)
@@ -92,12 +92,12 @@ joins c bits before from comes =
     let there = after before s.es in
     let came = subst (λ (x : Coming). Comes (next_within_limit format there c.loop-marks.r) (Ok x) c.loop-marks.r c.coming_within.new.r) c.in-Macroblock.is (c.in_ok-coming_within.ensures there s.stands.due s.begun_is s.fits) in
     let ends = group-ends format bits c.args.begun c.last_end-end.result before from header.number header.quant c.loop-marks.state c.loop-marks.marks.items c.loop-marks.r s c.last_end-end.ensures in
-    let word = subst (λ (x : List Bool × ℕ). read mba_rows x.0 ≡ Good (Mba came.0) came.1) (sym came.3) came.2 in
-    let place = subst (λ (x : List Bool × ℕ). x.1 ≤ c.last_end-end.result) (sym came.3) ends.1 in
-    let ok = c.in_ok-macroblock_within-in-Macroblock.ensures.walk there came.0 came.1 s.stands word ends.0 place in
-    let goes = subst (λ (x : List Bool × ℕ). Goes (next_within_limit format) there x ok.0 c.macroblock_within.new.r) came.3 ok.1 in
-    let is = subst (λ (x : List Bool × ℕ). IsRead header.number x.1 there c.macroblock_within.new.state c.in_ok-macroblock_within-in-Macroblock.field-0 ok.0 c.macroblock_within.new.r) came.3 ok.2 in
-    (macroblock-read format bits c.args.begun before from c.loop-marks.r c.macroblock_within.new.r header.number header.quant c.loop-marks.state c.macroblock_within.new.state c.loop-marks.marks.items c.in_ok-macroblock_within-in-Macroblock.field-0 ok.0 s comes.place goes is, fewer format there c.loop-marks.r c.macroblock_within.new.r ok.0 goes (macroblock-on format there c.loop-marks.r c.macroblock_within.new.r header.number c.macroblock_within.new.state c.in_ok-macroblock_within-in-Macroblock.field-0 ok.0 goes is))
+    let word = subst (λ (x : List Bool × ℕ). read mba_rows x.0 ≡ Good (Mba came.difference) came.len) (sym came.kept) came.word in
+    let place = subst (λ (x : List Bool × ℕ). x.1 ≤ c.last_end-end.result) (sym came.kept) ends.1 in
+    let ok = c.in_ok-macroblock_within-in-Macroblock.ensures.walk there came.difference came.len s.stands word ends.0 place in
+    let goes = subst (λ (x : List Bool × ℕ). Goes (next_within_limit format) there x ok.elements c.macroblock_within.new.r) came.kept ok.walk in
+    let is = subst (λ (x : List Bool × ℕ). IsRead header.number x.1 there c.macroblock_within.new.state c.in_ok-macroblock_within-in-Macroblock.field-0 ok.elements c.macroblock_within.new.r) came.kept ok.wanted in
+    (macroblock-read format bits c.args.begun before from c.loop-marks.r c.macroblock_within.new.r header.number header.quant c.loop-marks.state c.macroblock_within.new.state c.loop-marks.marks.items c.in_ok-macroblock_within-in-Macroblock.field-0 ok.elements s comes.place goes is, fewer format there c.loop-marks.r c.macroblock_within.new.r ok.elements goes (macroblock-on format there c.loop-marks.r c.macroblock_within.new.r header.number c.macroblock_within.new.state c.in_ok-macroblock_within-in-Macroblock.field-0 ok.elements goes is))
 
 pub push-requires : goal.push-requires
 push-requires c =

@@ -18,7 +18,7 @@ returns-in_err-take_field c =
       walk = λ format before layer due.
           let so_far = c.loop-r.invariant format before layer due in
           let took = c.in_err-take_field.ensures.taken format (after before (had (next format) before layer c.args.r.now c.loop-r.r so_far)) (flag_slot layer) (λ n. flag_of layer (n == 1)) so_far.due (at-flag layer) in
-          rw (p.1, p.2) (cut_flag (next format) before layer c.args.r.now c.loop-r.r so_far c.take_field.new.r _ took.0 took.1 took.2);
+          rw (p.1, p.2) (cut_flag (next format) before layer c.args.r.now c.loop-r.r so_far c.take_field.new.r _ took.bad took.place took.kept);
     }
 
 pub loop-r-preserved : goal.loop-r-preserved
@@ -26,9 +26,9 @@ loop-r-preserved c = λ format before layer due.
     let so_far = c.loop-r.invariant format before layer due in
     let before' = after before (had (next format) before layer c.args.r.now c.loop-r.r so_far) in
     let took = c.in_ok-take_field.ensures.taken format before' (flag_slot layer) (λ n. flag_of layer (n == 1)) so_far.due (at-flag layer) in
-    let flag = took.1 ∙ ap (λ (k : ℕ). Good (flag_of layer (k == 1)) took.0) c.if-branch-eq1.true in
+    let flag = took.good ∙ ap (λ (k : ℕ). Good (flag_of layer (k == 1)) took.len) c.if-branch-eq1.true in
     let spare = c.in_ok-take_field-2.ensures.taken format (flag_of layer true ∷ before') (spare_slot layer) (spare_of layer) (slot-flag layer before') (at-spare layer) in
-    one_passed (next format) before layer c.args.r.now c.loop-r.r so_far c.take_field.new.r took.0 flag took.2 c.take_field-in-loop-r.new.r c.in_ok-take_field-2.field-0 spare.0 spare.1 spare.2
+    one_passed (next format) before layer c.args.r.now c.loop-r.r so_far c.take_field.new.r took.len flag took.behind c.take_field-in-loop-r.new.r c.in_ok-take_field-2.field-0 spare.len spare.good spare.behind
 
 pub returns-in_err-take_field-2 : goal.returns-in_err-take_field-2
 returns-in_err-take_field-2 c =
@@ -38,9 +38,9 @@ returns-in_err-take_field-2 c =
           let so_far = c.loop-r.invariant format before layer due in
           let before' = after before (had (next format) before layer c.args.r.now c.loop-r.r so_far) in
           let took = c.in_ok-take_field.ensures.taken format before' (flag_slot layer) (λ n. flag_of layer (n == 1)) so_far.due (at-flag layer) in
-          let flag = took.1 ∙ ap (λ (k : ℕ). Good (flag_of layer (k == 1)) took.0) c.if-branch-eq1.true in
+          let flag = took.good ∙ ap (λ (k : ℕ). Good (flag_of layer (k == 1)) took.len) c.if-branch-eq1.true in
           let spare = c.in_err-take_field-2.ensures.taken format (flag_of layer true ∷ before') (spare_slot layer) (spare_of layer) (slot-flag layer before') (at-spare layer) in
-          rw (p.1, p.2) (cut_spare (next format) before layer c.args.r.now c.loop-r.r so_far c.take_field.new.r took.0 flag took.2 c.take_field-in-loop-r.new.r _ spare.0 spare.1 spare.2);
+          rw (p.1, p.2) (cut_spare (next format) before layer c.args.r.now c.loop-r.r so_far c.take_field.new.r took.len flag took.behind c.take_field-in-loop-r.new.r _ spare.bad spare.place spare.kept);
     }
 
 pub returns : goal.returns
@@ -50,6 +50,6 @@ returns c =
           let so_far = c.loop-r.invariant format before layer due in
           let before' = after before (had (next format) before layer c.args.r.now c.loop-r.r so_far) in
           let took = c.in_ok-take_field.ensures.taken format before' (flag_slot layer) (λ n. flag_of layer (n == 1)) so_far.due (at-flag layer) in
-          let flag = took.1 ∙ ap (λ (b : Bool). Good (flag_of layer b) took.0) (ne_eqb c.in_ok-take_field.field-0 1 c.if-branch-eq1.false) in
-          (spares_of layer so_far.octets, all_passed (next format) before layer c.args.r.now c.loop-r.r so_far c.take_field.new.r took.0 flag took.2, (so_far.octets, refl));
+          let flag = took.good ∙ ap (λ (b : Bool). Good (flag_of layer b) took.len) (ne_eqb c.in_ok-take_field.field-0 1 c.if-branch-eq1.false) in
+          record { elements = spares_of layer so_far.octets; walk = all_passed (next format) before layer c.args.r.now c.loop-r.r so_far c.take_field.new.r took.len flag took.behind; wanted = record { octets = so_far.octets; elements = refl } };
     }

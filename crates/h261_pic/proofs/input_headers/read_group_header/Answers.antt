@@ -9,7 +9,7 @@ pub returns-in_err-number-clause-walk : goal.returns-in_err-number-clause-walk
 returns-in_err-number-clause-walk c = λ before due last.
     let p = err_from_is_err_and c.from_residual.result c.from_residual.ensures.1 in
     let took = c.in_err-number.ensures.taken before due last in
-    rw (p.1, p.2) (fails_here (next c.args.format) before IsGroupHeaderSoFar c.args.r.now c.args.r.now c.take_number.new.r [] _ refl (0, 0, [], Gn 0, Gquant 0 ∷ Gei false ∷ [], refl) took.0 took.1 took.2)
+    rw (p.1, p.2) (fails_here (next c.args.format) before IsGroupHeaderSoFar c.args.r.now c.args.r.now c.take_gn.new.r [] _ refl (0, 0, [], Gn 0, Gquant 0 ∷ Gei false ∷ [], refl) took.bad took.place took.kept)
 
 pub returns-in_err-quant-clause-walk : goal.returns-in_err-quant-clause-walk
 returns-in_err-quant-clause-walk c = λ before due last.
@@ -17,8 +17,8 @@ returns-in_err-quant-clause-walk c = λ before due last.
     let number = c.in_ok-number.number in
     let first = c.in_ok-number.ensures.taken before due last in
     let took = c.in_err-quant.ensures.taken c.args.format (Gn number ∷ before) refl in
-    let walk = goes_first (next c.args.format) before c.args.r.now c.take_number.new.r c.take_number.new.r (Gn number) first.0 [] first.1 first.2 refl in
-    rw (p.1, p.2) (fails_here (next c.args.format) before IsGroupHeaderSoFar c.args.r.now c.take_number.new.r c.take_quant.new.r (Gn number ∷ []) _ walk (number, 0, [], Gquant 0, Gei false ∷ [], refl) took.0 took.1 took.2)
+    let walk = goes_first (next c.args.format) before c.args.r.now c.take_gn.new.r c.take_gn.new.r (Gn number) first.len [] first.good first.behind refl in
+    rw (p.1, p.2) (fails_here (next c.args.format) before IsGroupHeaderSoFar c.args.r.now c.take_gn.new.r c.take_gquant.new.r (Gn number ∷ []) _ walk (number, 0, [], Gquant 0, Gei false ∷ [], refl) took.bad took.place took.kept)
 
 pub returns-in_err-pass_spares-clause-walk : goal.returns-in_err-pass_spares-clause-walk
 returns-in_err-pass_spares-clause-walk c = λ before due last.
@@ -28,10 +28,10 @@ returns-in_err-pass_spares-clause-walk c = λ before due last.
     let first = c.in_ok-number.ensures.taken before due last in
     let second = c.in_ok-quant.ensures.taken c.args.format (Gn number ∷ before) refl in
     let rest = c.in_err-pass_spares.ensures.walk c.args.format (Gquant quant ∷ Gn number ∷ before) OfGroup refl in
-    let more = goes_first (next c.args.format) (Gn number ∷ before) c.take_number.new.r c.take_quant.new.r c.pass_spares.new.r (Gquant quant) second.0 rest.0 second.1 second.2 rest.1 in
-    let walk = goes_first (next c.args.format) before c.args.r.now c.take_number.new.r c.pass_spares.new.r (Gn number) first.0 (Gquant quant ∷ rest.0) first.1 first.2 more in
-    let part = rest.2 in
-    rw (p.1, p.2) (Gn number ∷ Gquant quant ∷ rest.0, walk, (number, quant, part.0, part.1, part.2, ap (λ (es : List Element). Gn number ∷ Gquant quant ∷ es) part.3), rest.3, rest.4)
+    let more = goes_first (next c.args.format) (Gn number ∷ before) c.take_gn.new.r c.take_gquant.new.r c.pass_spares.new.r (Gquant quant) second.len rest.elements second.good second.behind rest.walk in
+    let walk = goes_first (next c.args.format) before c.args.r.now c.take_gn.new.r c.pass_spares.new.r (Gn number) first.len (Gquant quant ∷ rest.elements) first.good first.behind more in
+    let part = rest.part in
+    rw (p.1, p.2) record { elements = Gn number ∷ Gquant quant ∷ rest.elements; walk = walk; part = (number, quant, part.0, part.1, part.2, ap (λ (es : List Element). Gn number ∷ Gquant quant ∷ es) part.3); bad = rest.bad; place = rest.place }
 
 pub returns-clause-walk : goal.returns-clause-walk
 returns-clause-walk c = λ before due last.
@@ -40,5 +40,5 @@ returns-clause-walk c = λ before due last.
     let first = c.in_ok-number.ensures.taken before due last in
     let second = c.in_ok-quant.ensures.taken c.args.format (Gn number ∷ before) refl in
     let rest = c.in_ok-pass_spares.ensures.walk c.args.format (Gquant quant ∷ Gn number ∷ before) OfGroup refl in
-    let more = goes_first (next c.args.format) (Gn number ∷ before) c.take_number.new.r c.take_quant.new.r c.pass_spares.new.r (Gquant quant) second.0 rest.0 second.1 second.2 rest.1 in
-    (Gn number ∷ Gquant quant ∷ rest.0, goes_first (next c.args.format) before c.args.r.now c.take_number.new.r c.pass_spares.new.r (Gn number) first.0 (Gquant quant ∷ rest.0) first.1 first.2 more, (rest.2.0, ap (λ (es : List Element). Gn number ∷ Gquant quant ∷ es) rest.2.1))
+    let more = goes_first (next c.args.format) (Gn number ∷ before) c.take_gn.new.r c.take_gquant.new.r c.pass_spares.new.r (Gquant quant) second.len rest.elements second.good second.behind rest.walk in
+    record { elements = Gn number ∷ Gquant quant ∷ rest.elements; walk = goes_first (next c.args.format) before c.args.r.now c.take_gn.new.r c.pass_spares.new.r (Gn number) first.len (Gquant quant ∷ rest.elements) first.good first.behind more; wanted = record { spares = rest.wanted.octets; elements = ap (λ (es : List Element). Gn number ∷ Gquant quant ∷ es) rest.wanted.elements } }

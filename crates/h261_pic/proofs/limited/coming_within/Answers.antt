@@ -24,7 +24,7 @@ returns-then-place-last_end c = λ before due begun inside.
     ] in
     let far : last_place c.args.format (begun_with here n) < c.take_coming.new.r.1 = omega (arith, ap (last_place c.args.format) counts) in
     let long = comes-long c.args.format before c.args.r.now n begun new here inside came far in
-    rw c.too_long.ensures (long, c.place-then-place-last_end.ensures, refl)
+    rw c.too_long.ensures record { bad = long; place = c.place-then-place-last_end.ensures; kept = refl }
 
 pub returns : goal.returns
 returns c = λ before due begun inside.

@@ -7,14 +7,14 @@ pub returns-in_err-take_group_or_end : goal.returns-in_err-take_group_or_end
 returns-in_err-take_group_or_end c = λ before due begun inside.
     let p = err_from_is_err_and c.from_residual.result c.from_residual.ensures.1 in
     let bad = bad-within c.args.format before c.args.r.now _ c.take_group_or_end.new.r (c.in_err-take_group_or_end.ensures.comes c.args.format before due) in
-    rw (p.1, p.2) (bad.0, bad.1)
+    rw (p.1, p.2) (record { bad = bad.bad; place = bad.place })
 
 pub returns-in-Group : goal.returns-in-Group
 returns-in-Group c = λ before due begun inside.
     let comes = c.in_ok-take_group_or_end.ensures.comes c.args.format before due in
     let far : last_place c.args.format 1 < c.take_group_or_end.new.r.1 = omega arith in
     let long = group-long c.args.format before c.args.r.now c.take_group_or_end.new.r c.in_ok-take_group_or_end.field-0 begun comes c.in-Group.is inside far in
-    rw c.too_long.ensures (long, c.place-place.ensures)
+    rw c.too_long.ensures (record { bad = long; place = c.place-place.ensures })
 
 pub returns-in-Group-2 : goal.returns-in-Group-2
 returns-in-Group-2 c = λ before due begun inside.

@@ -1,4 +1,4 @@
-use Rattle.std.proofs.Common.{◌≡◌, ℕ, ap₂, Bool, true, false, List, Result, Ok, Err, refl, sym, ◌∙◌, ap}
+use Rattle.std.proofs.Common.{◌≡◌, ℕ, ap₂, Bool, true, false, List, Result, Ok, Err, refl, sym, ◌∙◌, ap, subst}
 use Rattle.std.specs.Result.{is_err, IfOk, IfErr, IsOk}
 use Rattle.pel_model.specs.declared.Fault.{Fault}
 use Rattle.pel_model.specs.declared.Format.{Format}
@@ -8,7 +8,8 @@ use Rattle.pel_model.specs.Accepts.{Accepts}
 use Rattle.pel_model.specs.Walk.{FirstFault}
 use Rattle.pel_model.specs.Grammar.{next_within_limit}
 use Rattle.picture_laws.proofs.Answers.{never-both, one-record, one-fault}
-use Rattle.h261_pic.specs.Coded.{Coding, coding}
+use Rattle.h261_pic.specs.Coded.{Coding, coding, IsFinished}
+use Rattle.h261_pic.proofs.Codings.{finished-codings}
 use Rattle.h261_pic.proofs.parser.parse.Goals as goal
 
 -- bits with a first fault are not accepted
@@ -48,3 +49,20 @@ returns-then-is_err-clause-only c = λ p accepts.
 pub returns-else-is_err-clause-only : goal.returns-else-is_err-clause-only
 returns-else-is_err-clause-only c = λ p accepts.
     accepted_only c.args.want c.args.bits c.read_picture-result.result c.read_picture-result.new.into p (sym c.is_err.ensures.value ∙ c.if-is_err.false) c.read_picture-result.ensures.accepted accepts
+
+bad_result : {X : Type 0} (r : Result X Fault) (P : X → Type 0) → is_err r ≡ true → IfOk r P
+bad_result (Ok x) P bad = absurd cc
+bad_result (Err f) P bad = tt
+
+-- an accepted picture is finished
+finished_if_read : {X : Type 0} (format : Format) (bits : List Bool) (r : Result X Fault) (into : Coding) → IfOk r (λ _. (q : Picture) × Accepts format bits q × (into ≡ coding format q)) → IfOk r (λ _. IsFinished into)
+finished_if_read format bits (Ok x) into read = subst IsFinished (sym read.2) (finished-codings format read.0 read.1.1.valid)
+finished_if_read format bits (Err f) into read = tt
+
+pub returns-else-is_err-clause-finished : goal.returns-else-is_err-clause-finished
+returns-else-is_err-clause-finished c =
+    finished_if_read c.args.want c.args.bits c.read_picture-result.result c.read_picture-result.new.into c.read_picture-result.ensures.accepted
+
+pub returns-then-is_err-clause-finished : goal.returns-then-is_err-clause-finished
+returns-then-is_err-clause-finished c =
+    bad_result c.read_picture-result.result _ (sym c.is_err.ensures.value ∙ c.if-is_err.true)

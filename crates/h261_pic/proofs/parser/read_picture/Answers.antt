@@ -18,10 +18,10 @@ returns-in_err-another-clause-refused c =
     let bits = c.args.bits.now in
     let begins = at-start bits c.slice.result c.len.result c.new-r.result c.new-r.ensures c.slice.ensures.value c.len.ensures in
     let read = c.in_ok-picture_header_within.ensures.walk in
-    let walk = subst (λ (x : List Bool × ℕ). Goes (next_within_limit format) [] x read.0 c.picture_header_within.new.r) begins read.1 in
-    let h = header-read format bits c.picture_header_within.new.r c.in_ok-picture_header_within.field-0 read.2.0 read.2.1 read.0 walk read.2.2 in
+    let walk = subst (λ (x : List Bool × ℕ). Goes (next_within_limit format) [] x read.elements c.picture_header_within.new.r) begins read.walk in
+    let h = header-read format bits c.picture_header_within.new.r c.in_ok-picture_header_within.field-0 read.wanted.ptype read.wanted.spares read.elements walk read.wanted.elements in
     let bad = c.in_err-another.ensures (after [] h.es) h.due h.groups_are h.fits in
-    rw (p.1, p.2) (h.es, c.picture_header_within.new.r, h.walk, bad.0, bad.1)
+    rw (p.1, p.2) (record { elements = h.es; end = c.picture_header_within.new.r; walk = h.walk; bad = bad.bad; place_is = bad.place })
 
 pub loop-another-init : goal.loop-another-init
 loop-another-init c =
@@ -29,9 +29,9 @@ loop-another-init c =
     let bits = c.args.bits.now in
     let begins = at-start bits c.slice.result c.len.result c.new-r.result c.new-r.ensures c.slice.ensures.value c.len.ensures in
     let read = c.in_ok-picture_header_within.ensures.walk in
-    let walk = subst (λ (x : List Bool × ℕ). Goes (next_within_limit format) [] x read.0 c.picture_header_within.new.r) begins read.1 in
+    let walk = subst (λ (x : List Bool × ℕ). Goes (next_within_limit format) [] x read.elements c.picture_header_within.new.r) begins read.walk in
     let tr = c.in_ok-picture_header_within.field-0 in
-    let h = header-read format bits c.picture_header_within.new.r tr read.2.0 read.2.1 read.0 walk read.2.2 in
+    let h = header-read format bits c.picture_header_within.new.r tr read.wanted.ptype read.wanted.spares read.elements walk read.wanted.elements in
     first-groups format bits tr c.picture_header_within.new.r c.group_follows.new.r c.in_ok-another.another c.start.new.self h
     (c.start.ensures ∙ ap (λ f. coding f (record { tr = tr; groups = [] })) c.requires)
     (c.in_ok-another.ensures (after [] h.es) h.due h.groups_are h.fits)
@@ -61,26 +61,26 @@ returns-in_err-group-clause-refused c =
     let bits = c.args.bits.now in
     let s : PictureSoFar format bits l.last l.begun true l.into l.r = subst (λ (b : Bool). PictureSoFar format bits l.last l.begun b l.into l.r) c.loop-another-test.true l.invariant in
     let bad = c.in_err-group.ensures.read bits (after [] s.es) s.mid (group-comes format bits l.last l.begun l.into l.r s) in
-    rw (p.1, p.2) (fails-later format bits s.mid bad.1 s.es bad.0 c.in_err-group.field-0.0.place c.in_err-group.field-0.0.why s.walk bad.2 bad.3 bad.4)
+    rw (p.1, p.2) (fails-later format bits s.mid bad.end s.es bad.elements c.in_err-group.field-0.0.place c.in_err-group.field-0.0.why s.walk bad.walk bad.bad bad.place)
 
-pub leave_out-requires-clause-begun : goal.leave_out-requires-clause-begun
-leave_out-requires-clause-begun c =
+pub add_empty_groups-requires-clause-begun : goal.add_empty_groups-requires-clause-begun
+add_empty_groups-requires-clause-begun c =
     let l = c.loop-another in
     (begun-text c.args.format c.args.bits.now l.last l.begun l.another l.into l.r l.invariant).1
 
-pub leave_out-requires-clause-there : goal.leave_out-requires-clause-there
-leave_out-requires-clause-there c =
+pub add_empty_groups-requires-clause-there : goal.add_empty_groups-requires-clause-there
+add_empty_groups-requires-clause-there c =
     let l = c.loop-another in
     let same = (begun-text c.args.format c.args.bits.now l.last l.begun l.another l.into l.r l.invariant).0 in
     omega (arith, c.group_place.ensures.there, ap group_count same)
 
-pub leave_out-requires-2-clause-begun : goal.leave_out-requires-2-clause-begun
-leave_out-requires-2-clause-begun c =
+pub add_empty_groups-requires-2-clause-begun : goal.add_empty_groups-requires-2-clause-begun
+add_empty_groups-requires-2-clause-begun c =
     let l = c.loop-another in
     (begun-text c.args.format c.args.bits.now l.last l.begun l.another l.into l.r l.invariant).1
 
-pub leave_out-requires-2-clause-there : goal.leave_out-requires-2-clause-there
-leave_out-requires-2-clause-there c =
+pub add_empty_groups-requires-2-clause-there : goal.add_empty_groups-requires-2-clause-there
+add_empty_groups-requires-2-clause-there c =
     let l = c.loop-another in
     let same = (begun-text c.args.format c.args.bits.now l.last l.begun l.another l.into l.r l.invariant).0 in
     omega (arith, c.group_count.ensures, ap group_count same)
@@ -98,23 +98,23 @@ loop-another-preserved c =
     let s : PictureSoFar format bits l.last l.begun true l.into l.r = subst (λ (b : Bool). PictureSoFar format bits l.last l.begun b l.into l.r) c.loop-another-test.true l.invariant in
     let read = c.in_ok-group.ensures.read bits (after [] s.es) s.mid (group-comes format bits l.last l.begun l.into l.r s) in
     let next = stands-next format bits l.last l.begun group.header.number c.group_place.result true l.into l.r s c.in_ok-group.ensures.within.1 c.group_place.ensures.there c.group_place.ensures.number in
-    group-added format bits l.last l.begun group.header.number group.header.quant c.group_place.result group.another group.marks.items l.into c.leave_out.new.self c.add_group.new.self l.r c.read_group.new.r s read next c.leave_out.ensures
-    (c.add_group.ensures ∙ ap (λ (ms : List Mark). grown c.leave_out.new.self group.header.quant (bits_at bits ms) ms) c.deref.ensures.0)
+    group-added format bits l.last l.begun group.header.number group.header.quant c.group_place.result group.another group.marks.items l.into c.add_empty_groups.new.self c.add_group.new.self l.r c.read_group.new.r s read next c.add_empty_groups.ensures
+    (c.add_group.ensures ∙ ap (λ (ms : List Mark). grown c.add_empty_groups.new.self group.header.quant (bits_at bits ms) ms) c.deref.ensures.0)
 
 pub returns-clause-format : goal.returns-clause-format
 returns-clause-format c =
     let l = c.loop-another in
     let s : PictureSoFar c.args.format c.args.bits.now l.last l.begun false l.into l.r = subst (λ (b : Bool). PictureSoFar c.args.format c.args.bits.now l.last l.begun b l.into l.r) c.loop-another-test.false l.invariant in
-    ap (λ (k : Coding). k.format) (all-read c.args.format c.args.bits.now l.last l.begun l.into c.leave_out-2.new.self l.r s (c.leave_out-2.ensures ∙ ap (λ (k : ℕ). emptied (k - length l.into.groups) l.into) c.group_count.ensures)).2
+    ap (λ (k : Coding). k.format) (all-read c.args.format c.args.bits.now l.last l.begun l.into c.add_empty_groups-2.new.self l.r s (c.add_empty_groups-2.ensures ∙ ap (λ (k : ℕ). emptied (k - length l.into.groups) l.into) c.group_count.ensures)).2
 
 pub returns-clause-accepted : goal.returns-clause-accepted
 returns-clause-accepted c =
     let l = c.loop-another in
     let s : PictureSoFar c.args.format c.args.bits.now l.last l.begun false l.into l.r = subst (λ (b : Bool). PictureSoFar c.args.format c.args.bits.now l.last l.begun b l.into l.r) c.loop-another-test.false l.invariant in
-    all-read c.args.format c.args.bits.now l.last l.begun l.into c.leave_out-2.new.self l.r s (c.leave_out-2.ensures ∙ ap (λ (k : ℕ). emptied (k - length l.into.groups) l.into) c.group_count.ensures)
+    all-read c.args.format c.args.bits.now l.last l.begun l.into c.add_empty_groups-2.new.self l.r s (c.add_empty_groups-2.ensures ∙ ap (λ (k : ℕ). emptied (k - length l.into.groups) l.into) c.group_count.ensures)
 
 -- what is asked of the picture that gets the group
-asked : (c : goal.After-deref) → MayAdd c.args.format c.args.bits.now c.in_ok-group.group.header.number c.in_ok-group.group.header.quant c.deref.result.now c.leave_out.new.self × All (λ (m : Mark). m.at + m.len ≤ length c.args.bits.now) c.deref.result.now
+asked : (c : goal.After-deref) → MayAdd c.args.format c.args.bits.now c.in_ok-group.group.header.number c.in_ok-group.group.header.quant c.deref.result.now c.add_empty_groups.new.self × All (λ (m : Mark). m.at + m.len ≤ length c.args.bits.now) c.deref.result.now
 asked c =
     let l = c.loop-another in
     let format = c.args.format in
@@ -123,9 +123,9 @@ asked c =
     let s : PictureSoFar format bits l.last l.begun true l.into l.r = subst (λ (b : Bool). PictureSoFar format bits l.last l.begun b l.into l.r) c.loop-another-test.true l.invariant in
     let read = c.in_ok-group.ensures.read bits (after [] s.es) s.mid (group-comes format bits l.last l.begun l.into l.r s) in
     let next = stands-next format bits l.last l.begun group.header.number c.group_place.result true l.into l.r s c.in_ok-group.ensures.within.1 c.group_place.ensures.there c.group_place.ensures.number in
-    let may = may-add format bits l.last l.begun group.header.number group.header.quant c.group_place.result group.another group.marks.items l.into c.leave_out.new.self l.r c.read_group.new.r s read next c.leave_out.ensures in
+    let may = may-add format bits l.last l.begun group.header.number group.header.quant c.group_place.result group.another group.marks.items l.into c.add_empty_groups.new.self l.r c.read_group.new.r s read next c.add_empty_groups.ensures in
     let marks_are = sym c.deref.ensures.0 in
-    (subst (λ (ms : List Mark). MayAdd format bits group.header.number group.header.quant ms c.leave_out.new.self) marks_are may, subst (λ (ms : List Mark). All (λ (m : Mark). m.at + m.len ≤ length bits) ms) marks_are read.inside)
+    (subst (λ (ms : List Mark). MayAdd format bits group.header.number group.header.quant ms c.add_empty_groups.new.self) marks_are may, subst (λ (ms : List Mark). All (λ (m : Mark). m.at + m.len ≤ length bits) ms) marks_are read.inside)
 
 pub add_group-requires-clause-begun : goal.add_group-requires-clause-begun
 add_group-requires-clause-begun c = (asked c).0.begun
@@ -142,4 +142,4 @@ add_group-requires-clause-room c = let may = (asked c).0 in omega (arith, may.ro
 pub add_group-requires-clause-text : goal.add_group-requires-clause-text
 add_group-requires-clause-text c =
     let may = (asked c).0 in
-    subst (λ f. IsGroupText f (next_number c.leave_out.new.self) c.in_ok-group.group.header.quant (bits_at c.args.bits.now c.deref.result.now) c.deref.result.now) (sym may.format_is) may.text
+    subst (λ f. IsGroupText f (next_number c.add_empty_groups.new.self) c.in_ok-group.group.header.quant (bits_at c.args.bits.now c.deref.result.now) c.deref.result.now) (sym may.format_is) may.text

@@ -1,21 +1,22 @@
-use Rattle.std.proofs.Common.{◌≡◌, ℕ, ◌+◌, ◌^◌, ◌<◌, length, drop, take, ◌∙◌, subst, sym, arith, length-take, length-drop}
-use Rattle.pel_bits.specs.Bits.{bits}
-use Rattle.pel_bits.proofs.Fields.{number_below}
-use Rattle.pel_bits.proofs.OctetBits.{length-bits}
+use Rattle.std.proofs.Common.{◌+◌, ◌%◌, ◌≡◌, arith}
 use Rattle.pel_bits.proofs.RunBits.{copy-step}
 use Rattle.pel_bits.proofs.octets.copy_run.Goals as goal
 
-pub put-requires-clause-fits : goal.put-requires-clause-fits
-put-requires-clause-fits c =
-    let piece = take c.min-width.result (drop (c.args.from + c.loop-done.done) (bits c.args.source.now)) in
-    let len : length piece ≡ c.min-width.result =
-    length-take c.min-width.result (drop (c.args.from + c.loop-done.done) (bits c.args.source.now))
-    ∙ omega (arith, length-drop (c.args.from + c.loop-done.done) (bits c.args.source.now), length-bits c.args.source.now) in
-    subst (λ (n : ℕ). c.number_at-run.result < 2 ^ n) len (subst (λ (n : ℕ). n < 2 ^ length piece) (sym c.number_at-run.ensures) (number_below piece))
-
 pub loop-done-preserved : goal.loop-done-preserved
 loop-done-preserved c =
+    let even : (c.args.at + c.loop-done.done) % 8 ≡ 0 = c.loop-done.invariant.even (omega arith) in
     record {
       within = omega arith;
-      copied = copy-step c.args.octets.now c.loop-done.octets c.put.new.octets c.args.source.now c.args.at c.args.from c.loop-done.done c.min-width.result (omega arith) (omega arith) c.loop-done.invariant.copied (rw c.number_at-run.ensures at c.put.ensures);
+      even = λ more. omega (arith, even);
+      copied = copy-step c.args.octets.now c.loop-done.octets c.copy_word.new.octets c.args.source.now c.args.at c.args.from c.loop-done.done 64 (omega arith) (omega arith) c.loop-done.invariant.copied c.copy_word.ensures;
+    }
+
+pub loop-done-2-preserved : goal.loop-done-2-preserved
+loop-done-2-preserved c =
+    let done = c.loop-done-2.done in
+    let even : (c.args.at + done) % 8 ≡ 0 = c.loop-done-2.invariant.even (omega arith) in
+    record {
+      within = omega arith;
+      even = λ more. omega (arith, even);
+      copied = copy-step c.args.octets.now c.loop-done-2.octets c.copy_piece-in-loop-done-2.new.octets c.args.source.now c.args.at c.args.from done c.min-width.result (omega arith) (omega arith) c.loop-done-2.invariant.copied c.copy_piece-in-loop-done-2.ensures;
     }

@@ -2,7 +2,7 @@ use Rattle.std.proofs.Common.{◌≡◌, ◌+◌, ◌-◌, ◌*◌, ◌≤◌, s
 use Rattle.h261_pic.specs.Coded.{Coding, grown, next_number}
 use Rattle.h261_pic.specs.Sound.{written}
 use Rattle.h261_pic.proofs.Grows.{quant-fits, marks-fit}
-use Rattle.h261_pic.proofs.GrownFields.{few_groups, MayGrow, header-room, IsGrown, sound-grown}
+use Rattle.h261_pic.proofs.GrownFields.{few_groups, MayGrow, may-grow, header-room, IsGrown, sound-grown}
 use Rattle.pel_bits.specs.Buffer.{Buffer}
 use Rattle.pel_model.specs.Valid.{group_numbers, group_count}
 use Rattle.h261_pic.proofs.coded.Coded.add_group.Goals as goal
@@ -15,9 +15,8 @@ pub append_macroblocks-requires-clause-room : goal.append_macroblocks-requires-c
 append_macroblocks-requires-clause-room c =
     let bits = bits_at c.args.source.now c.args.marks.now in
     let may : MayGrow (written c.self.inside) c.args.quant bits c.args.marks.now =
-    subst (λ (k : Coding). length k.marks ≤ 33 * length k.groups → MayGrow k c.args.quant bits c.args.marks.now) (sym c.self.view_is)
-    (λ few. record { begun = c.requires.begun; next = c.requires.next; room = c.requires.room; text = c.requires.text; marks_before = few })
-    c.self.invariant.marks in
+    may-grow (written c.self.inside) c.args.self.now c.args.quant bits c.args.marks.now c.self.view_is
+    c.requires.begun c.requires.next c.requires.room c.requires.text c.self.invariant.marks c.self.invariant.room in
     (header-room c.self.inside.format c.self.inside.text c.push_group_header.new.text c.group_number-number.result c.args.quant c.self.inside.groups.items bits
     c.push_group_header.ensures c.self.invariant.capacity may.next may.room).0
 
@@ -41,9 +40,8 @@ grows : (c : goal.After-push) → IsGrown c.self.inside.format c.self.inside.tr 
 grows c =
     let bits = bits_at c.args.source.now c.args.marks.now in
     let may : MayGrow (written c.self.inside) c.args.quant bits c.args.marks.now =
-    subst (λ (k : Coding). length k.marks ≤ 33 * length k.groups → MayGrow k c.args.quant bits c.args.marks.now) (sym c.self.view_is)
-    (λ few. record { begun = c.requires.begun; next = c.requires.next; room = c.requires.room; text = c.requires.text; marks_before = few })
-    c.self.invariant.marks in
+    may-grow (written c.self.inside) c.args.self.now c.args.quant bits c.args.marks.now c.self.view_is
+    c.requires.begun c.requires.next c.requires.room c.requires.text c.self.invariant.marks c.self.invariant.room in
     let len_is : c.len-2.result - c.len-from.result ≡ length bits =
     omega (arith, c.len-2.ensures, c.len-from.ensures, ap (λ (b : Buffer). length b.list) c.append_macroblocks.ensures.text, length-append c.push_group_header.new.text.list bits) in
     sound-grown c.self.inside.format c.self.inside.tr c.self.inside.text c.push_group_header.new.text c.append_macroblocks.new.text

@@ -2,7 +2,7 @@ use Rattle.std.proofs.Common.{◌≡◌, ℕ, ◌+◌, ◌-◌, ◌<◌, ◌≤�
 use Rattle.h261_pic.specs.declared.coded.GroupView.{GroupView}
 use Rattle.h261_pic.specs.Coded.{Coding, HasPicture, grown, view_of, macroblock_bits, marks_in, next_number}
 use Rattle.h261_pic.proofs.Grows.{HoldsMarks, group-marks, copied-text, copied-added}
-use Rattle.h261_pic.proofs.GrownFields.{few_groups}
+use Rattle.h261_pic.proofs.GrownFields.{few_groups, few_bits}
 use Rattle.h261_pic.proofs.PlacedMarks.{LieWithin}
 use Rattle.pel_model.specs.declared.Mark.{Mark}
 use Rattle.h261_pic.proofs.coded.Coded.copy_group.Goals as goal
@@ -68,6 +68,10 @@ add_group-requires-clause-inside c =
 -- the bits at the marks
 found : (bits : List Bool) (c : Coding) (i : ℕ) (ms : List Mark) → bits ≡ c.bits → ms ≡ marks_in c i → HoldsMarks c i → bits_at bits ms ≡ macroblock_bits c i
 found bits c i ms bits_are marks_are holds = ap₂ bits_at bits_are marks_are ∙ holds.bits
+
+pub add_group-requires-clause-small : goal.add_group-requires-clause-small
+add_group-requires-clause-small c =
+    omega (arith, ap length c.bits.ensures, c.from.invariant.within, few_bits c.from.inside.format)
 
 pub add_group-requires-clause-room : goal.add_group-requires-clause-room
 add_group-requires-clause-room c =

@@ -1,11 +1,6 @@
-use Rattle.std.proofs.Common.{arith}
 use Rattle.h261_pic.specs.Coded.{next_number}
 use Rattle.h261_pic.proofs.Grows.{empty_group_text, empty-added}
 use Rattle.h261_pic.proofs.coded.Coded.empty_group.Goals as goal
-
-pub add_group-requires-clause-room : goal.add_group-requires-clause-room
-add_group-requires-clause-room c =
-    omega (arith, c.valid_so_far.ensures.room c.requires.begun)
 
 pub add_group-requires-clause-text : goal.add_group-requires-clause-text
 add_group-requires-clause-text c = empty_group_text c.args.self.now.format (next_number c.args.self.now)

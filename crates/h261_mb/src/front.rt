@@ -1,0 +1,152 @@
+//! The front of a macroblock header: MBA, MTYPE and MQUANT (H.261, 4.2.3), and the predictor of its vector.
+
+ghost use Rattle.std.specs.Prelude.{◌≡◌, ℕ, ◌-◌, ◌<◌, ◌≤◌, List, ◌∷◌, IfOk};
+ghost use Rattle.pel_model.specs.declared.Format.{Format};
+ghost use Rattle.pel_model.specs.declared.Why.{Why as Reason};
+ghost use Rattle.pel_model.specs.declared.Why.TheVariants.{NoCode};
+ghost use Rattle.pel_model.specs.Grammar.{Element, Mba, Mtype, Mquant, Stuffing, mba_rows, slot, AtMacroblock, AtMtype, AtMquant, address as address_before, next};
+ghost use Rattle.pel_model.specs.Text.{resets_predictor};
+ghost use Rattle.pel_model.specs.Walk.{Good, Bad, read, Takes, Walked};
+ghost use Rattle.h261_mb.specs.Inside.{StaysInside, IsMacroblockSoFar};
+ghost use Rattle.h261_mb.specs.Parts.{IsFront, IsMquant};
+ghost use Rattle.h261_mb.specs.State.{IsReady, IsNear, Stands};
+
+use crate::kinds::{has_mquant, has_vector};
+use crate::state::{Front, MbState};
+use pel_bits::Reader;
+use pel_model::{Fault, MbKind, Why};
+use vlc_codes::{MbaRow, mba, mtype};
+
+/// The greatest address of a macroblock in its group (H.261, 4.2.2).
+const LAST_ADDRESS: u8 = 33;
+
+/// Takes MBA, MTYPE and, where the kind has it, MQUANT, and gives with them the predictor of the vector.
+pub fn read_front(r: &mut Reader<'_>, state: &MbState) -> Result<Front, Fault>
+    requires { IsReady state.now }
+    ensures walk { (format : Format) (before : List Element) (number d n : ℕ) →
+        Stands number state.now before → read mba_rows r.old.0 ≡ Good (Mba d) n →
+        Walked (next format) before (IsFront number state.now.address before)
+        (IsMacroblockSoFar before) result r.old r.new }
+    ensures no_word { (why : Reason) → read mba_rows r.old.0 ≡ Bad why →
+        (result ≡ Err (record { place = r.old.1; why = why })) × (r.new ≡ r.old) }
+    ensures stuffing { (n : ℕ) → read mba_rows r.old.0 ≡ Good Stuffing n →
+        (result ≡ Err (record { place = r.old.1; why = NoCode })) × (r.new ≡ r.old) }
+    ensures within { IfOk result (λ front.
+        (0 < front.address) × (front.address ≤ 33) × IsNear front.h × IsNear front.v) }
+    ensures onward { IfOk result (λ _. r.old.1 ≤ r.new.1) }
+{
+    let address = take_mba(r, state.address)?;
+    let kind = take_mtype(r)?;
+    let quant = read_mquant(r, kind, state.quant)?;
+    let (h, v) = if has_vector(kind) && !starts_anew(address - state.address, address) {
+        (state.h, state.v)
+    } else {
+        (0, 0)
+    };
+    Ok(Front {
+        address,
+        kind,
+        quant,
+        h,
+        v,
+    })
+}
+
+// Takes MBA and gives the address, at most 33 (H.261, 4.2.3.1).
+#[inline]
+fn take_mba(r: &mut Reader<'_>, last: u8) -> Result<u8, Fault>
+    requires { last ≤ 33 }
+    ensures taken { (format : Format) (before : List Element) (d n : ℕ) →
+        slot before ≡ AtMacroblock → address_before before ≡ last →
+        read mba_rows r.old.0 ≡ Good (Mba d) n →
+        Takes (λ address. Mba (address - last)) (next format before r.old) result r.old r.new }
+    ensures no_word { (why : Reason) → read mba_rows r.old.0 ≡ Bad why →
+        (result ≡ Err (record { place = r.old.1; why = why })) × (r.new ≡ r.old) }
+    ensures stuffing { (n : ℕ) → read mba_rows r.old.0 ≡ Good Stuffing n →
+        (result ≡ Err (record { place = r.old.1; why = NoCode })) × (r.new ≡ r.old) }
+    ensures within { IfOk result (λ address. (last < address) × (address ≤ 33)) }
+    ensures onward { IfOk result (λ _. r.old.1 ≤ r.new.1) }
+{
+    let place = r.place();
+    let mut ahead = r.copy();
+    match mba(&mut ahead) {
+        Ok(MbaRow::Difference(difference)) => {
+            if difference > LAST_ADDRESS - last {
+                return Err(Fault {
+                    place,
+                    why: Why::BadAddress,
+                });
+            }
+            *r = ahead;
+            Ok(last + difference)
+        }
+        Ok(MbaRow::Stuffing) => Err(Fault {
+            place,
+            why: Why::NoCode,
+        }),
+        Err(why) => Err(Fault { place, why }),
+    }
+}
+
+// Takes MTYPE (H.261, 4.2.3.2).
+#[inline]
+fn take_mtype(r: &mut Reader<'_>) -> Result<MbKind, Fault>
+    ensures taken { (format : Format) (before : List Element) → slot before ≡ AtMtype →
+        Takes Mtype (next format before r.old) result r.old r.new }
+    ensures onward { IfOk result (λ _. r.old.1 ≤ r.new.1) }
+{
+    let place = r.place();
+    match mtype(r) {
+        Ok(kind) => Ok(kind),
+        Err(why) => Err(Fault { place, why }),
+    }
+}
+
+// Takes MQUANT where the kind has it, and gives the quantiser in effect, which was `last` before.
+#[inline]
+fn read_mquant(r: &mut Reader<'_>, kind: MbKind, last: u8) -> Result<u8, Fault>
+    ensures walk { (format : Format) (before : List Element) →
+        Walked (next format) (Mtype kind ∷ before) (IsMquant kind last before)
+        (StaysInside (Mtype kind ∷ before)) result r.old r.new }
+    ensures onward { IfOk result (λ _. r.old.1 ≤ r.new.1) }
+{
+    if has_mquant(kind) {
+        take_mquant(r)
+    } else {
+        Ok(last)
+    }
+}
+
+// Takes MQUANT, 5 bits that are not 0 (H.261, 4.2.3.3).
+#[inline]
+fn take_mquant(r: &mut Reader<'_>) -> Result<u8, Fault>
+    ensures taken { (format : Format) (before : List Element) → slot before ≡ AtMquant →
+        Takes Mquant (next format before r.old) result r.old r.new }
+    ensures onward { IfOk result (λ _. r.old.1 ≤ r.new.1) }
+{
+    let place = r.place();
+    if r.left() < 5 {
+        return Err(Fault {
+            place,
+            why: Why::Cut,
+        });
+    }
+    let quant = r.peek(5) as u8;
+    if quant == 0 {
+        return Err(Fault {
+            place,
+            why: Why::BadQuant,
+        });
+    }
+    r.skip(5);
+    Ok(quant)
+}
+
+// The vector before is no predictor: the macroblock is at the left edge of the group's rows, or addresses before it were
+// not sent (H.261, 4.2.3.4).
+#[inline]
+fn starts_anew(difference: u8, address: u8) -> bool
+    ensures { result ≡ resets_predictor difference address }
+{
+    difference != 1 || address == 1 || address == 12 || address == 23
+}

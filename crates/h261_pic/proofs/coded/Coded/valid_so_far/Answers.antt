@@ -1,7 +1,0 @@
-use Rattle.std.proofs.Common.{◌<◌, length, subst}
-use Rattle.h261_pic.specs.Coded.{Coding, HasPicture}
-use Rattle.h261_pic.proofs.coded.Coded.valid_so_far.Goals as goal
-
-pub returns-clause-picture : goal.returns-clause-picture
-returns-clause-picture c =
-    subst (λ (k : Coding). 0 < length k.bits → HasPicture k) c.self.view_is c.self.invariant.picture
