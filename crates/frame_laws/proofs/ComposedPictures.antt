@@ -9,7 +9,7 @@ use Rattle.pel_model.specs.Crop.{crop}
 use Rattle.pel_model.specs.Decode.{decode}
 use Rattle.pel_model.specs.Frames.{Frame}
 use Rattle.pel_model.specs.Records.{Group, Picture}
-use Rattle.pel_model.specs.Regions.{moved, blank, composed, empty_group, side_by_side, number_in, renumbered}
+use Rattle.pel_model.specs.Regions.{groups_for, blank, composed, empty_group, side_by_side, number_in, renumbered}
 use Rattle.pel_model.specs.Text.{text, macroblocks_text}
 use Rattle.pel_model.specs.Transform.{Transform}
 use Rattle.pel_model.specs.Valid.{IsValidGroup, IsValid, group_numbers, limit}
@@ -72,16 +72,16 @@ pick Four one two three four = four
 
 groups-of-three : (place : Quad) (tr : ℕ) (i : ℕ) (a b c : Group) (j : ℕ) (d e f : Group) (k : ℕ) (g h m : Group) (l : ℕ) (n o q : Group)
     → groups_in place (composed tr (of_three i a b c) (of_three j d e f) (of_three k g h m) (of_three l n o q))
-    ≡ moved place (pick place (of_three i a b c) (of_three j d e f) (of_three k g h m) (of_three l n o q))
+    ≡ groups_for place (pick place (of_three i a b c) (of_three j d e f) (of_three k g h m) (of_three l n o q))
 groups-of-three One tr i a b c j d e f k g h m l n o q = refl
 groups-of-three Two tr i a b c j d e f k g h m l n o q = refl
 groups-of-three Three tr i a b c j d e f k g h m l n o q = refl
 groups-of-three Four tr i a b c j d e f k g h m l n o q = refl
 
 groups-of-four : (place : Quad) (tr : ℕ) (one two three four : Picture) → IsValid Qcif one → IsValid Qcif two → IsValid Qcif three → IsValid Qcif four
-    → groups_in place (composed tr one two three four) ≡ moved place (pick place one two three four)
+    → groups_in place (composed tr one two three four) ≡ groups_for place (pick place one two three four)
 groups-of-four place tr =
-    by-four (λ (p q r s : Picture). groups_in place (composed tr p q r s) ≡ moved place (pick place p q r s)) (groups-of-three place tr)
+    by-four (λ (p q r s : Picture). groups_in place (composed tr p q r s) ≡ groups_for place (pick place p q r s)) (groups-of-three place tr)
 
 pick-is : (place : Quad) (shown : Quad → Option Picture)
     → pick place (or_blank (shown One)) (or_blank (shown Two)) (or_blank (shown Three)) (or_blank (shown Four)) ≡ or_blank (shown place)
@@ -91,14 +91,14 @@ pick-is Three shown = refl
 pick-is Four shown = refl
 
 pub groups-composed : (place : Quad) (tr : ℕ) (shown : Quad → Option Picture) → AreValid shown
-    → groups_in place (composed_of tr shown) ≡ moved place (or_blank (shown place))
+    → groups_in place (composed_of tr shown) ≡ groups_for place (or_blank (shown place))
 groups-composed place tr shown valid =
     groups-of-four place tr (or_blank (shown One)) (or_blank (shown Two)) (or_blank (shown Three)) (or_blank (shown Four))
     (or-blank-valid (shown One) (valid One)) (or-blank-valid (shown Two) (valid Two)) (or-blank-valid (shown Three) (valid Three)) (or-blank-valid (shown Four) (valid Four))
-    ∙ ap (moved place) (pick-is place shown)
+    ∙ ap (groups_for place) (pick-is place shown)
 
 shows-by : (t : Transform) (before : Frame) (whole : Picture) (place : Quad) (p : Option Picture) → IfSome p (IsValid Qcif)
-    → groups_in place whole ≡ moved place (or_blank p) → crop place (decode Cif t before whole) ≡ place_after t (crop place before) p
+    → groups_in place whole ≡ groups_for place (or_blank p) → crop place (decode Cif t before whole) ≡ place_after t (crop place before) p
 shows-by t before whole place None valid same = unchanged-law t before place whole same
 shows-by t before whole place (Some p) valid same = law t before place whole p (valid-stays p valid) same
 
@@ -116,7 +116,7 @@ side-by-side-all P (g ∷ gs) (h ∷ hs) left right =
     (All-cons P h (side_by_side gs hs) (right 0 h (omega arith)) (side-by-side-all P gs hs (All-tail P g gs left) (All-tail P h hs right)))
 
 abbrev MovedValid : Quad → Picture → Type 0
-MovedValid place p = IsValid Qcif p → All (IsValidGroup Cif) (moved place p)
+MovedValid place p = IsValid Qcif p → All (IsValidGroup Cif) (groups_for place p)
 
 moved-three : (place : Quad) (tr : ℕ) (a b c : Group) → MovedValid place (of_three tr a b c)
 moved-three place tr a b c valid =
@@ -146,9 +146,9 @@ composed-four tr one two three four small first second third fourth =
         tr = small;
         numbers = numbers.0;
         groups =
-            All-append (IsValidGroup Cif) (side_by_side (moved One one) (moved Two two)) (side_by_side (moved Three three) (moved Four four))
-            (side-by-side-all (IsValidGroup Cif) (moved One one) (moved Two two) (moved-valid One one first) (moved-valid Two two second))
-            (side-by-side-all (IsValidGroup Cif) (moved Three three) (moved Four four) (moved-valid Three three third) (moved-valid Four four fourth));
+            All-append (IsValidGroup Cif) (side_by_side (groups_for One one) (groups_for Two two)) (side_by_side (groups_for Three three) (groups_for Four four))
+            (side-by-side-all (IsValidGroup Cif) (groups_for One one) (groups_for Two two) (moved-valid One one first) (moved-valid Two two second))
+            (side-by-side-all (IsValidGroup Cif) (groups_for Three three) (groups_for Four four) (moved-valid Three three third) (moved-valid Four four fourth));
       };
       whole = numbers.1;
     }

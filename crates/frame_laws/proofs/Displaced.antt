@@ -1,6 +1,6 @@
 -- The prediction of a macroblock whose vector stays inside: in a place of the CIF picture and in the QCIF picture alike.
 use Rattle.std.proofs.Common.{◌≡◌, ◌⊎◌, ℕ, ◌+◌, ◌-◌, ◌*◌, ◌/◌, ◌%◌, ◌<◌, ◌≤◌, ◌==◌, ◌||◌, Bool, true, false, if◌then◌else◌, ℤ, pos, negsuc, inl, inr, refl, sym, ◌∙◌, ap, ap₂, subst, arith}
-use Rattle.std.proofs.lemmas.Bool.{or_parts, eqb-false}
+use Rattle.std.proofs.lemmas.Bool.{or_parts, eqb-false, leb-true, le-leb}
 use Rattle.pel_model.specs.declared.Format.TheVariants.{Qcif}
 use Rattle.pel_model.specs.declared.Quad.{Quad}
 use Rattle.pel_model.specs.Codes.{is_intra}
@@ -8,7 +8,7 @@ use Rattle.pel_model.specs.Crop.{crop}
 use Rattle.pel_model.specs.Frames.{Plane, Luminance, Cb, Cr, Frame, ratio, is_inside}
 use Rattle.pel_model.specs.Prediction.{moved_by, displaced, weighted, filtered, predicted, has_filter}
 use Rattle.pel_model.specs.Records.{Across, Down, Macroblock}
-use Rattle.pel_model.specs.Valid.{StaysWithin}
+use Rattle.pel_model.specs.Valid.{stays_within}
 use Rattle.frame_laws.proofs.Places.{shift, is-inside, place-shifted-across, place-shifted-down}
 
 -- what a place shows of a frame
@@ -19,9 +19,22 @@ crop-inside place frame plane x y inside = rw inside refl
 
 -- ---- one direction
 
+-- what the test of a component tells
+abbrev pub StaysWithin : (end first : ℕ) → ℤ → Type 0
+StaysWithin end first (pos n) = first + n + 16 ≤ end
+StaysWithin end first (negsuc n) = n + 1 ≤ first
+
+pub within-is : (end first : ℕ) (h : ℤ) → stays_within end first h ≡ true → StaysWithin end first h
+within-is end first (pos n) test = leb-true (first + n + 16) end test
+within-is end first (negsuc n) test = leb-true (n + 1) first test
+
+pub is-within : (end first : ℕ) (h : ℤ) → StaysWithin end first h → stays_within end first h ≡ true
+is-within end first (pos n) within = le-leb (first + n + 16) end within
+is-within end first (negsuc n) within = le-leb (n + 1) first within
+
 -- a component that is 0 stays within a macroblock
-pub stays : (end first : ℕ) (h : ℤ) → first + 16 ≤ end → StaysWithin end first h ⊎ (h ≡ pos 0) → StaysWithin end first h
-stays end first h fits (inl within) = within
+pub stays : (end first : ℕ) (h : ℤ) → first + 16 ≤ end → (stays_within end first h ≡ true) ⊎ (h ≡ pos 0) → StaysWithin end first h
+stays end first h fits (inl test) = within-is end first h test
 stays end first h fits (inr none) = subst (λ (k : ℤ). StaysWithin end first k) (sym none) (omega arith)
 
 moved-inside : (plane : Plane) (end column x : ℕ) (h : ℤ) → ratio plane * x / 16 ≡ column → StaysWithin end (16 * column) h → 16 * column + 16 ≤ end
@@ -65,7 +78,7 @@ displaced-shifted before plane place m column row x y is here there =
 
 -- ---- the loop filter
 
--- two lines that are alike in the block of i, one of them moved by whole blocks
+-- two lines that are alike in the block of i, one of them groups_for by whole blocks
 weighted-inside : (f g : ℕ → ℕ) (i d : ℕ) → 0 < i % 8 → i % 8 < 7 → ((j : ℕ) → j / 8 ≡ i / 8 → f j ≡ g (j + d))
     → f (i - 1) + 2 * f i + f (i + 1) ≡ g (i + d - 1) + 2 * g (i + d) + g (i + d + 1)
 weighted-inside f g i d low high alike =

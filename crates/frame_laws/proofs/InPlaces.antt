@@ -5,7 +5,8 @@ use Rattle.pel_model.specs.declared.Quad.{Quad}
 use Rattle.pel_model.specs.Codes.{has_vector}
 use Rattle.pel_model.specs.Records.{Axis, Across, Down, Macroblock, Group, component}
 use Rattle.pel_model.specs.Regions.{number_in, renumbered}
-use Rattle.pel_model.specs.Valid.{side, corner, StaysWithin, ComponentFits, IsValidMacroblock, IsValidGroup}
+use Rattle.pel_model.specs.Valid.{side, corner, ComponentFits, IsValidMacroblock, IsValidGroup}
+use Rattle.frame_laws.proofs.Displaced.{StaysWithin, within-is, is-within}
 use Rattle.frame_laws.proofs.Places.{right-le, below-le}
 
 -- a vector that stays in the QCIF picture stays in the CIF picture
@@ -25,7 +26,12 @@ component-in-place : (axis : Axis) (place : Quad) (number : ℕ) (m : Macroblock
     → ComponentFits Qcif number axis m → ComponentFits Cif (number_in place number) axis m
 component-in-place axis place number m odd fits =
     fits-by (has_vector m.kind) _ _ _
-    (λ stays. (stays.0, within-place axis place number m.address (component axis m) odd stays.1)) fits
+    (λ stays. (
+      stays.0,
+      is-within (side Cif axis) (corner axis (number_in place number) m.address) (component axis m)
+          (within-place axis place number m.address (component axis m) odd
+          (within-is (side Qcif axis) (corner axis number m.address) (component axis m) stays.1)),
+    )) fits
 
 macroblock-in-place : (place : Quad) (number : ℕ) (m : Macroblock) → number % 2 ≡ 1
     → IsValidMacroblock Qcif number m → IsValidMacroblock Cif (number_in place number) m

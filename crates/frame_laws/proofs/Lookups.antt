@@ -7,7 +7,7 @@ use Rattle.pel_model.specs.declared.Quad.{Quad}
 use Rattle.pel_model.specs.Composed.{stands_in, groups_in}
 use Rattle.pel_model.specs.Decode.{Quantised, at_address, in_groups, macroblock_at, group_of, address_of}
 use Rattle.pel_model.specs.Records.{Macroblock, Group, Picture, quantiser_after}
-use Rattle.pel_model.specs.Regions.{right, below, number_in, renumbered, moved}
+use Rattle.pel_model.specs.Regions.{right, below, number_in, renumbered_for, groups_for}
 use Rattle.frame_laws.proofs.Places.{group-shifted, address-shifted, stands-shifted}
 
 -- ---- the groups of a place
@@ -36,14 +36,14 @@ same-number : (m n k l : ℕ) → (m + k + 6 * l == n + k + 6 * l) ≡ (m == n)
 same-number m n k l = grind (arith, nat_tests)
 
 in-moved : (place : Quad) (n a : ℕ) (gs : List Group)
-    → in_groups (number_in place n) a (map (λ (g : Group). renumbered (number_in place g.number) g) gs) ≡ in_groups n a gs
+    → in_groups (number_in place n) a (map (renumbered_for place) gs) ≡ in_groups n a gs
 in-moved place n a [] = refl
 in-moved place n a (g ∷ gs) =
     ap₂ (λ (same : Bool) (rest : Option Quantised). if same then at_address a g.quant g.macroblocks else rest)
     (same-number g.number n (right place) (below place)) (in-moved place n a gs)
 
 -- the same macroblock, with the same quantiser
-pub found-shifted : (place : Quad) (whole sent : Picture) (column row : ℕ) → column < 11 → row < 9 → groups_in place whole ≡ moved place sent
+pub found-shifted : (place : Quad) (whole sent : Picture) (column row : ℕ) → column < 11 → row < 9 → groups_in place whole ≡ groups_for place sent
     → macroblock_at whole (column + 11 * right place) (row + 9 * below place) ≡ macroblock_at sent column row
 found-shifted place whole sent column row across down same =
     let number : ℕ = number_in place (group_of column row) in

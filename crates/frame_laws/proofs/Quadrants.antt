@@ -10,10 +10,10 @@ use Rattle.pel_model.specs.Crop.{crop}
 use Rattle.pel_model.specs.Decode.{Quantised, group_of, address_of, macroblock_at, block_number, sample, decoded, decode}
 use Rattle.pel_model.specs.Frames.{Plane, Frame, ratio, is_inside}
 use Rattle.pel_model.specs.Records.{Across, Down, Block, Macroblock, Group, Picture}
-use Rattle.pel_model.specs.Regions.{below, moved}
+use Rattle.pel_model.specs.Regions.{below, groups_for}
 use Rattle.pel_model.specs.Residual.{residual}
 use Rattle.pel_model.specs.Transform.{Transform}
-use Rattle.pel_model.specs.Valid.{corner, StaysWithin, IsValidMacroblock}
+use Rattle.pel_model.specs.Valid.{corner, stays_within, IsValidMacroblock}
 use Rattle.frame_laws.specs.Laws.{StaysInside, VectorsStayInside, QuadrantLaw, ValidStaysInside}
 use Rattle.frame_laws.proofs.Displaced.{IsPlaced, crop-inside, predicted-shifted, stays}
 use Rattle.frame_laws.proofs.Lookups.{HoldsIf, found-shifted, in-holds}
@@ -62,8 +62,8 @@ placed column row found across down holds =
     record {
       across = across;
       down = down;
-      stays_across = stays 176 (16 * column) m.across (omega arith) (subst (λ (k : ℕ). StaysWithin 176 k m.across ⊎ (m.across ≡ pos 0)) first holds.0.0);
-      stays_down = stays 144 (16 * row) m.down (omega arith) (subst (λ (k : ℕ). StaysWithin 144 k m.down ⊎ (m.down ≡ pos 0)) top holds.0.1);
+      stays_across = stays 176 (16 * column) m.across (omega arith) (subst (λ (k : ℕ). (stays_within 176 k m.across ≡ true) ⊎ (m.across ≡ pos 0)) first holds.0.0);
+      stays_down = stays 144 (16 * row) m.down (omega arith) (subst (λ (k : ℕ). (stays_within 144 k m.down ≡ true) ⊎ (m.down ≡ pos 0)) top holds.0.1);
     }
 
 residual-shifted : (t : Transform) (quant : ℕ) (blocks : List (Option Block)) (plane : Plane) (place : Quad) (x y : ℕ)
@@ -85,7 +85,7 @@ decoded-shifted t before place plane x y (Some found) inside holds =
     (placed (ratio plane * x / 16) (ratio plane * y / 16) found (column-below plane x y inside) (row-below plane x y inside) holds)))
     (residual-shifted t found.quant found.macroblock.blocks plane place x y)
 
-law-at : (t : Transform) (before : Frame) (place : Quad) (whole sent : Picture) → VectorsStayInside sent → groups_in place whole ≡ moved place sent
+law-at : (t : Transform) (before : Frame) (place : Quad) (whole sent : Picture) → VectorsStayInside sent → groups_in place whole ≡ groups_for place sent
     → (plane : Plane) (x y : ℕ) (b : Bool) → is_inside Qcif plane x y ≡ b
     → crop place (decode Cif t before whole) plane x y ≡ decode Qcif t (crop place before) sent plane x y
 law-at t before place whole sent inside same plane x y true test =

@@ -13,6 +13,7 @@ use Rattle.pel_model.specs.Regions.{empty_group}
 use Rattle.pel_model.specs.Residual.{residual}
 use Rattle.pel_model.specs.Transform.{Transform}
 use Rattle.pel_model.specs.Valid.{AddressesRise, IsValid}
+use Rattle.pel_model.proofs.RefreshLaws.{refresh-facts}
 use Rattle.frame_laws.specs.Laws.{RefreshLaw}
 use Rattle.frame_laws.proofs.Lookups.{HoldsIf, in-holds}
 use Rattle.frame_laws.proofs.Quadrants.{decode-inside, decode-outside, column-below, row-below}
@@ -63,7 +64,7 @@ finds-three column row across down tr x y z valid refresh =
     (valid.so_far.groups 0 (empty_group 0) (omega arith)).addresses
     (valid.so_far.groups 1 (empty_group 0) (omega arith)).addresses
     (valid.so_far.groups 2 (empty_group 0) (omega arith)).addresses
-    refresh.all_sent (row / 3) (omega arith))
+    (refresh-facts Qcif (of_three tr x y z) refresh).all_sent (row / 3) (omega arith))
 
 finds : (column row : ℕ) (p : Picture) → column < 11 → row < 9 → FindsAll column row p
 finds column row p across down valid refresh =
@@ -93,7 +94,7 @@ refresh-at t before other sent valid refresh plane x y true test =
     decode-inside Qcif t before sent plane x y test
     ∙ intra-decoded t before other plane x y (group_of column row) (address_of column row) (macroblock_at sent column row)
     (finds column row sent (column-below plane x y test) (row-below plane x y test) valid refresh)
-    (in-holds IsIntra (group_of column row) (address_of column row) sent.groups refresh.all_intra)
+    (in-holds IsIntra (group_of column row) (address_of column row) sent.groups (refresh-facts Qcif sent refresh).all_intra)
     ∙ sym (decode-inside Qcif t other sent plane x y test)
 refresh-at t before other sent valid refresh plane x y false test =
     decode-outside Qcif t before sent plane x y test ∙ sym (decode-outside Qcif t other sent plane x y test)

@@ -3,16 +3,17 @@ use Rattle.std.proofs.Common.{◌≡◌, ℕ, ◌+◌, List, [], ◌∷◌, leng
 use Rattle.pel_model.specs.declared.Format.{Format}
 use Rattle.pel_model.specs.declared.Format.TheVariants.{Qcif, Cif}
 use Rattle.pel_model.specs.Bits.{field}
+use Rattle.pel_model.specs.Headers.{picture_header_text, group_header_text}
 use Rattle.pel_model.specs.Records.{Group, Picture}
 use Rattle.pel_model.specs.Text.{text, picture_header, group_header, group_text, macroblocks_text}
 
 length-picture_header : (format : Format) (tr : ℕ) → length (picture_header format tr) ≡ 32
-unfolding picture_header field
+unfolding picture_header_text field
 length-picture_header Qcif tr = refl
 length-picture_header Cif tr = refl
 
 length-group_header : (number quant : ℕ) → length (group_header number quant) ≡ 26
-unfolding group_header field
+unfolding group_header_text field
 length-group_header number quant = refl
 
 -- the headers and macroblocks of groups

@@ -9,7 +9,8 @@ use Rattle.pel_model.specs.Crop.{crop}
 use Rattle.pel_model.specs.Decode.{decode}
 use Rattle.pel_model.specs.Frames.{Frame}
 use Rattle.pel_model.specs.Records.{Picture}
-use Rattle.pel_model.specs.Text.{text, picture_header_length}
+use Rattle.pel_model.specs.Text.{text}
+use Rattle.pel_model.specs.Headers.{picture_header_length}
 use Rattle.pel_model.specs.Transform.{Transform}
 use Rattle.pel_model.specs.Valid.{IsValid, limit}
 

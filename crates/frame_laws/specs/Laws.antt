@@ -1,5 +1,5 @@
 -- The laws of what decoders show.
-use Rattle.std.specs.Prelude.{◌≡◌, ◌⊎◌, ℕ, pos, All}
+use Rattle.std.specs.Prelude.{◌≡◌, ◌⊎◌, ℕ, pos, true, All}
 use Rattle.pel_model.specs.declared.Format.TheVariants.{Qcif, Cif}
 use Rattle.pel_model.specs.declared.Quad.{Quad}
 use Rattle.pel_model.specs.Composed.{groups_in}
@@ -8,16 +8,16 @@ use Rattle.pel_model.specs.Decode.{decode}
 use Rattle.pel_model.specs.Frames.{Frame, cut}
 use Rattle.pel_model.specs.Records.{Axis, Across, Down, Macroblock, Group, Picture, component}
 use Rattle.pel_model.specs.Refresh.{IsRefresh}
-use Rattle.pel_model.specs.Regions.{moved, blank}
+use Rattle.pel_model.specs.Regions.{groups_for, blank}
 use Rattle.pel_model.specs.Transform.{Transform}
-use Rattle.pel_model.specs.Valid.{side, corner, StaysWithin, IsValid}
+use Rattle.pel_model.specs.Valid.{side, corner, stays_within, IsValid}
 
 -- ---- the law of the quadrant
 
 -- a component of a vector refers to samples of the QCIF picture alone (H.261, 3.2.2), or is 0
 abbrev pub StaysInside : (group : ℕ) → Macroblock → Axis → Type 0
 StaysInside group m axis =
-    StaysWithin (side Qcif axis) (corner axis group m.address) (component axis m) ⊎ (component axis m ≡ pos 0)
+    (stays_within (side Qcif axis) (corner axis group m.address) (component axis m) ≡ true) ⊎ (component axis m ≡ pos 0)
 
 abbrev pub VectorsStayInside : Picture → Type 0
 VectorsStayInside picture =
@@ -26,7 +26,7 @@ VectorsStayInside picture =
 abbrev pub QuadrantLaw : Type 0
 QuadrantLaw =
     (t : Transform) (before : Frame) (place : Quad) (whole sent : Picture)
-    → VectorsStayInside sent → groups_in place whole ≡ moved place sent
+    → VectorsStayInside sent → groups_in place whole ≡ groups_for place sent
     → crop place (decode Cif t before whole) ≡ decode Qcif t (crop place before) sent
 
 -- the vectors of a valid picture stay inside
@@ -45,5 +45,5 @@ BlankLaw = (t : Transform) (before : Frame) → decode Qcif t before blank ≡ c
 
 abbrev pub UnchangedLaw : Type 0
 UnchangedLaw =
-    (t : Transform) (before : Frame) (place : Quad) (whole : Picture) → groups_in place whole ≡ moved place blank
+    (t : Transform) (before : Frame) (place : Quad) (whole : Picture) → groups_in place whole ≡ groups_for place blank
     → crop place (decode Cif t before whole) ≡ crop place before

@@ -4,11 +4,12 @@ use Rattle.std.proofs.Common.{◌≡◌, ℕ, suc, ◌+◌, Bool, true, false, O
 use Rattle.std.proofs.lemmas.Option.{none-some}
 use Rattle.std.specs.List.{before_first, after_first, position_or_len}
 use Rattle.circular_buffer.specs.Buffer.{Buffer, buffer}
-use Rattle.lane_ring.specs.declared.lane.Held.{Held}
+use Rattle.pel_model.specs.declared.held.Held.{Held}
 use Rattle.lane_ring.specs.declared.lane.Lane.TheInside.{Inside}
 use Rattle.lane_ring.specs.Ring.{LaneView}
 use Rattle.lane_ring.specs.LaneFields.{IsLane}
-use Rattle.lane_ring.specs.Taking.{fits, taken, passed, items_of}
+use Rattle.pel_model.specs.Lanes.{may_follow, first_to_show}
+use Rattle.lane_ring.specs.Taking.{items_of, items_passed}
 
 module _ {X : Type 0} (p : X → Bool) where
   position-no : (x : X) (xs : List X) → p x ≡ false → position_or_len p (x ∷ xs) ≡ suc (position_or_len p xs)
@@ -52,18 +53,18 @@ module _ {T : Type 0} where
   -- what is taken, passed and held in the end is settled by the present items
   pub record IsDraining (last : Option ℕ) (old : LaneView T) (a : Inside T) : Type 0 where
     pub lane : IsLane a
-    pub same_taken : taken last old.held ≡ taken last a.held.items
-    pub same_rest : after_first (fits last) old.held ≡ after_first (fits last) a.held.items
-    pub passes : old.spares ++ passed last old.held ≡ a.spares.items ++ passed last a.held.items
+    pub same_taken : first_to_show last old.held ≡ first_to_show last a.held.items
+    pub same_rest : after_first (may_follow last) old.held ≡ after_first (may_follow last) a.held.items
+    pub passes : old.spares ++ items_passed last old.held ≡ a.spares.items ++ items_passed last a.held.items
     pub same_count : old.count ≡ a.count
 
-  passed-no : (last : Option ℕ) (h : Held T) (hs : List (Held T)) → fits last h ≡ false → passed last (h ∷ hs) ≡ h.item ∷ passed last hs
-  passed-no last h hs e = ap items_of (before_first-no (fits last) h hs e)
+  passed-no : (last : Option ℕ) (h : Held T) (hs : List (Held T)) → may_follow last h ≡ false → items_passed last (h ∷ hs) ≡ h.item ∷ items_passed last hs
+  passed-no last h hs e = ap items_of (before_first-no (may_follow last) h hs e)
 
   -- an item that does not fit is passed
   pub draining_more : (last : Option ℕ) (old : LaneView T) (a : Inside T) (h : Held T) (held : Buffer (Held T)) (spares : Buffer T) →
       IsDraining last old a → slice_get a.held.items 0 ≡ Some h → held ≡ buffer (drop 1 a.held.items) a.held.capacity →
-      spares ≡ buffer (a.spares.items ++ h.item ∷ []) a.spares.capacity → fits last h ≡ false →
+      spares ≡ buffer (a.spares.items ++ h.item ∷ []) a.spares.capacity → may_follow last h ≡ false →
       IsDraining last old (record { held = held; spares = spares; count = a.count })
   draining_more last old a h held spares d first popped kept unfit =
       let rest = drop 1 a.held.items in
@@ -78,29 +79,29 @@ module _ {T : Type 0} where
           spare_room = ap (λ (b : Buffer T). b.capacity) kept ∙ d.lane.spare_room;
           eight = ap₂ (λ (m n : ℕ). m + n) (ap length held_is) (ap length spares_is) ∙ eight;
         };
-        same_taken = d.same_taken ∙ ap (taken last) whole ∙ find-no (fits last) h rest unfit ∙ ap (taken last) (sym held_is);
+        same_taken = d.same_taken ∙ ap (first_to_show last) whole ∙ find-no (may_follow last) h rest unfit ∙ ap (first_to_show last) (sym held_is);
         same_rest =
-            d.same_rest ∙ ap (after_first (fits last)) whole ∙ after_first-no (fits last) h rest unfit
-            ∙ ap (after_first (fits last)) (sym held_is);
+            d.same_rest ∙ ap (after_first (may_follow last)) whole ∙ after_first-no (may_follow last) h rest unfit
+            ∙ ap (after_first (may_follow last)) (sym held_is);
         passes =
-            d.passes ∙ ap (λ hs. a.spares.items ++ passed last hs) whole
+            d.passes ∙ ap (λ hs. a.spares.items ++ items_passed last hs) whole
             ∙ ap (λ ts. a.spares.items ++ ts) (passed-no last h rest unfit)
-            ∙ sym (append_assoc a.spares.items (h.item ∷ []) (passed last rest))
-            ∙ ap₂ (λ (xs : List T) (hs : List (Held T)). xs ++ passed last hs) (sym spares_is) (sym held_is);
+            ∙ sym (append_assoc a.spares.items (h.item ∷ []) (items_passed last rest))
+            ∙ ap₂ (λ (xs : List T) (hs : List (Held T)). xs ++ items_passed last hs) (sym spares_is) (sym held_is);
         same_count = d.same_count;
       }
 
   -- what is left when an item is taken, and when none was left
   pub rest_taken : (last : Option ℕ) (old : LaneView T) (a : Inside T) (h : Held T) (held : Buffer (Held T)) →
-      IsDraining last old a → slice_get a.held.items 0 ≡ Some h → held ≡ buffer (drop 1 a.held.items) a.held.capacity → fits last h ≡ true →
-      held.items ≡ after_first (fits last) old.held
+      IsDraining last old a → slice_get a.held.items 0 ≡ Some h → held ≡ buffer (drop 1 a.held.items) a.held.capacity → may_follow last h ≡ true →
+      held.items ≡ after_first (may_follow last) old.held
   rest_taken last old a h held d first popped fit =
       ap (λ (b : Buffer (Held T)). b.items) popped
-      ∙ sym (d.same_rest ∙ ap (after_first (fits last)) (head_is a.held.items h first) ∙ after_first-yes (fits last) h (drop 1 a.held.items) fit)
+      ∙ sym (d.same_rest ∙ ap (after_first (may_follow last)) (head_is a.held.items h first) ∙ after_first-yes (may_follow last) h (drop 1 a.held.items) fit)
 
   pub rest_none : (last : Option ℕ) (old : LaneView T) (a : Inside T) (held : Buffer (Held T)) →
       IsDraining last old a → slice_get a.held.items 0 ≡ None → held ≡ buffer (drop 1 a.held.items) a.held.capacity →
-      held.items ≡ after_first (fits last) old.held
+      held.items ≡ after_first (may_follow last) old.held
   rest_none last old a held d nothing popped =
       let empty = nothing_first a.held.items nothing in
-      ap (λ (b : Buffer (Held T)). b.items) popped ∙ ap (drop 1) empty ∙ sym (d.same_rest ∙ ap (after_first (fits last)) empty)
+      ap (λ (b : Buffer (Held T)). b.items) popped ∙ ap (drop 1) empty ∙ sym (d.same_rest ∙ ap (after_first (may_follow last)) empty)

@@ -1,2 +1,3 @@
 pub mod Draining
-pub mod Serials
+pub mod Rising
+pub mod Views

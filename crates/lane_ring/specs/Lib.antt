@@ -1,4 +1,4 @@
 pub mod Ring
 pub mod LaneFields
 pub mod Taking
-pub mod Serials
+pub mod Arrivals

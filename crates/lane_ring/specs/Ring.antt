@@ -1,7 +1,7 @@
 -- What contracts see of a lane.
 use Rattle.std.specs.Prelude.{ℕ, Bool, List, refl}
 use Rattle.std.specs.Coded.{Coded, code_by, coded×, coded_list, coded_ℕ, coded_bool}
-use Rattle.lane_ring.specs.declared.lane.Held.{Held}
+use Rattle.pel_model.specs.declared.held.Held.{Held}
 
 -- the held items, the oldest first, the spare ones, and the serial that was given last
 pub record LaneView (T : Type 0) : Type 0 where

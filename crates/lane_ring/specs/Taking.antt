@@ -1,38 +1,30 @@
--- Which of a lane's held items a tick takes.
-use Rattle.std.specs.Prelude.{ℕ, ◌+◌, ◌==◌, Bool, false, ◌||◌, Option, Some, None, List, [], ◌∷◌, map, find}
+-- What a tick makes of a lane's boxes: one comes out of the lane in exchange for the slot's, and those that are passed are
+-- spare.
+use Rattle.std.specs.Prelude.{ℕ, Option, Some, None, List, [], ◌∷◌, map}
 use Rattle.std.specs.List.{before_first}
-use Rattle.lane_ring.specs.declared.lane.Held.{Held}
-
--- the serial is the one after the last
-abbrev pub follows : Option ℕ → ℕ → Bool
-follows None serial = false
-follows (Some last) serial = serial == last + 1
+use Rattle.pel_model.specs.declared.held.Held.{Held}
+use Rattle.pel_model.specs.Lanes.{may_follow}
 
 module _ {T : Type 0} where
-  -- the item may be shown after the one with serial `last`, if one was shown
-  abbrev pub fits : Option ℕ → Held T → Bool
-  fits last h = h.refresh || follows last h.serial
-
-  -- the item that is taken: the first that fits
-  abbrev pub taken : Option ℕ → List (Held T) → Option (Held T)
-  taken last held = find (fits last) held
-
   abbrev pub items_of : List (Held T) → List T
   items_of held = map (λ (h : Held T). h.item) held
 
+  abbrev pub serials_of : List (Held T) → List ℕ
+  serials_of held = map (λ (h : Held T). h.serial) held
+
   -- the items that are passed: all before the one that is taken, or all where there is none
-  abbrev pub passed : Option ℕ → List (Held T) → List T
-  passed last held = items_of (before_first (fits last) held)
+  abbrev pub items_passed : Option ℕ → List (Held T) → List T
+  items_passed last held = items_of (before_first (may_follow last) held)
 
-  -- what the taken item leaves in its place: what stood in the slot
-  abbrev pub left_by : Option (Held T) → T → List T
-  left_by None former = []
-  left_by (Some h) former = former ∷ []
+  -- what stands in the slot behind the tick: the item that was taken, or else what stood there
+  abbrev pub slot_item : Option (Held T) → T → T
+  slot_item None former = former
+  slot_item (Some h) former = h.item
 
-  -- what stands in the slot afterwards
-  abbrev pub in_slot : Option (Held T) → T → T
-  in_slot None former = former
-  in_slot (Some h) former = h.item
+  -- the spare that a tick makes of the slot's former item, where one was taken
+  abbrev pub former_item : Option (Held T) → T → List T
+  former_item None former = []
+  former_item (Some h) former = former ∷ []
 
   abbrev pub serial_of : Option (Held T) → Option ℕ
   serial_of None = None

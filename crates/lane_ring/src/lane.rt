@@ -2,25 +2,19 @@
 
 ghost use Rattle.std.specs.Prelude.{◌≡◌, ℕ, ◌+◌, ◌^◌, ◌<◌, ◌==◌, List, [], ◌∷◌, ◌++◌, drop, length, slice_get, nat_lt, vec_len, IfOk, if◌then◌else◌};
 ghost use Rattle.std.specs.List.{list_any, after_first};
-ghost use Rattle.circular_buffer.specs.Buffer.{buffer, keep_last};
-ghost use Rattle.lane_ring.specs.declared.lane.Held.{Held};
+ghost use Rattle.circular_buffer.specs.Buffer.{buffer};
+ghost use Rattle.pel_model.specs.declared.held.Held.{Held as TheHeld};
+ghost use Rattle.pel_model.specs.Lanes.{lane_room, last_of, may_follow, first_to_show, low_after};
 
 use circular_buffer::HeapCircularBuffer;
 use pel_bits::NoMemory;
+use pel_model::Held;
 use std::alloc::Global;
 use std::marker::Model;
 use std::mem;
 
 /// How many items a lane holds at most. Held and spare items together are as many.
 const ROOM: usize = 8;
-
-/// A held item with its serial, and whether it may be shown whatever was shown before.
-#[derive(Drop)]
-pub struct Held<T> {
-    pub serial: u64,
-    pub refresh: bool,
-    pub item: T,
-}
 
 /// Adds a spare to a ring that has room for it.
 fn keep<T>(spares: &mut HeapCircularBuffer<T>, spare: T)
@@ -55,28 +49,25 @@ impl<T> Model for Lane<T> {
     ghost invariant = { IsLane };
 }
 
-impl<T> Held<T> {
-    ghost use Rattle.lane_ring.specs.Taking.{fits};
-
-    /// Whether the item may be shown after the one with serial `last`, if one was shown: it needs nothing before it, or
-    /// it comes right behind that one.
-    fn fits(&self, last: Option<u64>) -> bool
-        ensures { result ≡ fits last self.now }
-    {
-        self.refresh || last.is_some_and(|last| last < self.serial && self.serial - last == 1)
-    }
+/// Whether the item may be shown after the one with serial `last`, if one was shown: it needs nothing before it, or it
+/// comes right behind that one.
+fn may_follow<T>(held: &Held<T>, last: Option<u64>) -> bool
+    ensures { result ≡ may_follow last held.now }
+{
+    held.refresh || last.is_some_and(|last| last < held.serial && held.serial - last == 1)
 }
 
 impl<T: Drop> Lane<T> {
-    ghost use Rattle.lane_ring.specs.Taking.{fits, taken, passed, items_of, left_by, in_slot, serial_of};
-    ghost use Rattle.lane_ring.specs.Serials.{Entry, Posted, Missed, HasEntries, low_after};
+    ghost use Rattle.lane_ring.specs.Taking.{items_of, items_passed, former_item, slot_item, serial_of};
+    ghost use Rattle.pel_model.specs.Lanes.{Arrival, Received, Missing};
+    ghost use Rattle.lane_ring.specs.Arrivals.{HasArrivals};
 
     /// A lane that holds nothing and has given no serial. The eight boxes become its spares. At want of memory they are
     /// dropped.
     pub fn reserve(alloc: Global, boxes: Vec<T>) -> Result<Lane<T>, NoMemory>
         requires { vec_len boxes ≡ 8 }
         ensures empty { IfOk result (λ lane. lane ≡ record { held = []; spares = boxes.items; count = 0 }) }
-        ensures entries { IfOk result (λ lane. HasEntries lane 0 []) }
+        ensures arrivals { IfOk result (λ lane. HasArrivals lane 0 []) }
     {
         let held = HeapCircularBuffer::with_capacity(alloc, ROOM)?;
         let mut spares = HeapCircularBuffer::with_capacity(alloc, ROOM)?;
@@ -99,7 +90,7 @@ impl<T: Drop> Lane<T> {
 
     /// Whether the item with this serial is held.
     pub fn holds(&self, serial: u64) -> bool
-        ensures { result ≡ list_any (λ (h : Held T). h.serial == serial) self.now.held }
+        ensures { result ≡ list_any (λ (h : TheHeld T). h.serial == serial) self.now.held }
     {
         self.held.iter().any(|held| held.serial == serial)
     }
@@ -110,7 +101,8 @@ impl<T: Drop> Lane<T> {
         ensures held { self.new.held ≡ self.old.held }
         ensures spares { self.new.spares ≡ self.old.spares }
         ensures count { self.new.count ≡ self.old.count + 1 }
-        ensures entries { (low : ℕ) (es : List (Entry T)) → HasEntries self.old low es → HasEntries self.new low (es ++ Missed ∷ []) }
+        ensures arrivals { (low : ℕ) (xs : List (Arrival T)) → HasArrivals self.old low xs →
+            HasArrivals self.new low (xs ++ Missing ∷ []) }
     {
         self.count += 1;
     }
@@ -119,13 +111,17 @@ impl<T: Drop> Lane<T> {
     /// to be below 2^62.
     pub fn post(&mut self, item: T, refresh: bool) -> T
         requires { self.old.count < 2 ^ 62 }
-        ensures held { self.new.held
-            ≡ keep_last 8 (self.old.held ++ record { serial = self.old.count + 1; refresh = refresh; item = item } ∷ []) }
+        ensures held { self.new.held ≡ last_of lane_room (self.old.held
+            ++ record { serial = self.old.count + 1; refresh = refresh; item = item } ∷ []) }
         ensures count { self.new.count ≡ self.old.count + 1 }
-        ensures spares { self.new.spares ≡ (if nat_lt (length self.old.held) 8 then drop 1 self.old.spares else self.old.spares) }
+        ensures spares { self.new.spares
+            ≡ (if nat_lt (length self.old.held) lane_room then drop 1 self.old.spares
+            else self.old.spares) }
         ensures given { Some result
-            ≡ (if nat_lt (length self.old.held) 8 then slice_get self.old.spares 0 else slice_get (items_of self.old.held) 0) }
-        ensures entries { (low : ℕ) (es : List (Entry T)) → HasEntries self.old low es → HasEntries self.new low (es ++ Posted refresh item ∷ []) }
+            ≡ (if nat_lt (length self.old.held) lane_room then slice_get self.old.spares 0
+            else slice_get (items_of self.old.held) 0) }
+        ensures arrivals { (low : ℕ) (xs : List (Arrival T)) → HasArrivals self.old low xs →
+            HasArrivals self.new low (xs ++ Received refresh item ∷ []) }
     {
         let serial = self.count + 1;
         self.count = serial;
@@ -147,16 +143,18 @@ impl<T: Drop> Lane<T> {
     /// a refresh or has the serial behind `last`. It then stands in the slot, and what stood there is a spare. The held
     /// items before it are passed, and become spares; where there is no such item, all are, and the slot stays as it is.
     pub fn take(&mut self, last: Option<u64>, slot: &mut T) -> Option<u64>
-        ensures serial { result ≡ serial_of (taken last self.old.held) }
-        ensures held { self.new.held ≡ after_first (fits last) self.old.held }
-        ensures slot { slot.new ≡ in_slot (taken last self.old.held) slot.old }
+        ensures serial { result ≡ serial_of (first_to_show last self.old.held) }
+        ensures held { self.new.held ≡ after_first (may_follow last) self.old.held }
+        ensures slot { slot.new ≡ slot_item (first_to_show last self.old.held) slot.old }
         ensures spares { self.new.spares
-            ≡ (self.old.spares ++ passed last self.old.held) ++ left_by (taken last self.old.held) slot.old }
+            ≡ (self.old.spares ++ items_passed last self.old.held)
+            ++ former_item (first_to_show last self.old.held) slot.old }
         ensures count { self.new.count ≡ self.old.count }
-        ensures entries { (low : ℕ) (es : List (Entry T)) → HasEntries self.old low es → HasEntries self.new (low_after last self.old.held low) es }
+        ensures arrivals { (low : ℕ) (xs : List (Arrival T)) → HasArrivals self.old low xs →
+            HasArrivals self.new (low_after last self.old.held low) xs }
     {
         while let Some(held) = self.held.pop_front() {
-            if held.fits(last) {
+            if may_follow(&held, last) {
                 let former = mem::replace(slot, held.item);
                 keep(&mut self.spares, former);
                 return Some(held.serial);

@@ -7,5 +7,9 @@ mod laws;
 #[cfg(test)]
 mod tests;
 
-pub use lane::{Held, Lane};
-pub use laws::{gaps_hold_nothing, held_above_a_serial, posts_are_held, ticks_leave_the_rest};
+pub use lane::Lane;
+pub use laws::{
+    gaps_hold_nothing, held_above_a_serial, held_items_seen_as_others, posts_are_held,
+    serials_rise, ticks_leave_the_rest,
+};
+pub use pel_model::Held;

@@ -8,7 +8,8 @@ use Rattle.pel_model.specs.declared.Quad.TheVariants.{One, Two, Three, Four}
 use Rattle.pel_model.specs.Crop.{crop}
 use Rattle.pel_model.specs.Decode.{decode}
 use Rattle.pel_model.specs.Frames.{Plane, Luminance, Cb, Cr, Frame}
-use Rattle.pel_model.specs.Own.{Item, Received, Missing, own}
+use Rattle.pel_model.specs.Lanes.{Arrival, Received, Missing}
+use Rattle.pel_model.specs.Own.{own}
 use Rattle.pel_model.specs.Records.{Block, Macroblock, Group, Picture}
 use Rattle.pel_model.specs.Regions.{empty_group}
 use Rattle.pel_model.specs.Residual.{reconstructed, with_zeros, transmission_order, coefficients_of, residual}
@@ -135,9 +136,9 @@ unfolding crop
 cropped_four = refl
 
 -- the sender's own decoder: level 1 twice over grey, then a gap, then level 1 over what stands behind the gap
-abbrev sent : List Item
+abbrev sent : List (Arrival Picture)
 sent =
-    let small : Item = Received (pictured (coded 1 Inter None (pos 1) ∷ []) [] []) in
+    let small : Arrival Picture = Received false (pictured (coded 1 Inter None (pos 1) ∷ []) [] []) in
     small ∷ small ∷ Missing ∷ small ∷ []
 
 abbrev filled : ℕ → Frame

@@ -7,6 +7,10 @@ pub mod Decode
 pub mod Elements
 pub mod Frames
 pub mod Grammar
+pub mod Headline
+pub mod History
+pub mod Lanes
+pub mod Legal
 pub mod Headers
 pub mod Levels
 pub mod Marks
@@ -18,7 +22,9 @@ pub mod Refresh
 pub mod Regions
 pub mod Residual
 pub mod Spelling
+pub mod Takes
 pub mod Text
 pub mod Transform
 pub mod Valid
 pub mod Walk
+pub mod Written

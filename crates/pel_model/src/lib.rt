@@ -5,10 +5,14 @@ ghost use Rattle.std.specs.Prelude.{◌≡◌};
 ghost use Rattle.pel_model.specs.Regions.{number_of};
 
 mod chair;
+mod held;
 mod laws;
+mod note;
 
 pub use chair::{Command, Reply};
+pub use held::Held;
 pub use laws::one_answer;
+pub use note::{Take, TickNote};
 use thiserror::Error;
 
 /// The two picture formats of H.261 (3.1): 176 by 144 and 352 by 288 luminance samples.

@@ -1,4 +1,4 @@
-use Rattle.lane_ring.proofs.Serials.{above_law}
+use Rattle.lane_ring.proofs.Rising.{above_law}
 use Rattle.lane_ring.proofs.laws.held_above_a_serial.Goals as goal
 
 pub returns : goal.returns

@@ -1,4 +1,4 @@
-use Rattle.lane_ring.proofs.Serials.{post_law}
+use Rattle.lane_ring.proofs.Rising.{post_law}
 use Rattle.lane_ring.proofs.laws.posts_are_held.Goals as goal
 
 pub returns : goal.returns

@@ -1,0 +1,4 @@
+pub mod Adding
+pub mod Boxes
+pub mod Composing
+pub mod RowLaws

@@ -1,0 +1,10 @@
+pub mod WorkedPictures
+pub mod WorkedConference
+pub mod Finding
+pub mod Came
+pub mod Ticks
+pub mod Composing
+pub mod Showing
+pub mod Standing
+pub mod Rising
+pub mod Cutting
