@@ -1,5 +1,5 @@
 -- What the fields of an entry, taken one behind the other, make of a call.
-use Rattle.std.proofs.Common.{◌≡◌, ◌⊎◌, ℕ, zero, suc, ◌+◌, ◌-◌, ◌*◌, ◌^◌, ◌<◌, ◌≤◌, List, [], ◌∷◌, ◌++◌, Option, Result, Ok, Err, inl, inr, length, take, slice_index, refl, sym, ap, subst, ◌∙◌, arith, length-append, length-take-le, append-nil, append_assoc}
+use Rattle.std.proofs.Common.{◌≡◌, ℕ, zero, suc, ◌+◌, ◌-◌, ◌^◌, ◌<◌, ◌≤◌, List, [], ◌∷◌, ◌++◌, Option, Result, Ok, Err, inl, inr, length, take, slice_index, refl, sym, ap, subst, ◌∙◌, arith, length-append, length-take-le, append-nil, append_assoc}
 use Rattle.std.specs.Io.KnownBytes.{Consumes}
 use Rattle.std.proofs.KnownBytes.{Consumes-trans}
 use Rattle.byteorder.specs.Endian.{big_bytes}
@@ -8,10 +8,10 @@ use Rattle.chair_words.specs.Line.{Says, FailsAt}
 use Rattle.chair_words.specs.declared.reader.LineFault.{LineFault}
 use Rattle.io_edge.specs.Whole.{Fills}
 use Rattle.io_edge.specs.declared.whole.Filled.{Filled}
-use Rattle.conf_file.specs.declared.answers.EntryWhy.TheVariants.{Header, Kind, Lane, Step, Order}
+use Rattle.conf_file.specs.declared.answers.EntryWhy.TheVariants.{Lane, Order}
 use Rattle.conf_file.specs.declared.answers.EntryEnd.{EntryEnd}
 use Rattle.conf_file.specs.declared.answers.EntryEnd.TheVariants.{Bad, Cut, Fault, Limit}
-use Rattle.conf_file.specs.Entries.{Content, Packet, Chair, Tick, End, P, C, T, E, Spells, IsWrong, IsPartial}
+use Rattle.conf_file.specs.Entries.{Content, Packet, Chair, P, C, IsPartial}
 use Rattle.conf_file.specs.Reading.{Stopped, Answers, Takes, TakesBehind}
 use Rattle.conf_file.specs.Stops.{Fetches}
 

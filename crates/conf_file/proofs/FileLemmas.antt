@@ -1,7 +1,6 @@
 -- What the calls of a reader, one after another, make of a file, and that a file says one thing.
-use Rattle.std.proofs.Common.{◌≡◌, ◌≢◌, ◌⊎◌, ⊎_elim, ℕ, ◌+◌, ◌-◌, ◌<◌, ◌≤◌, List, [], ◌∷◌, ◌++◌, Option, None, Some, Result, Ok, Err, inl, inr, length, take, drop, slice_index, refl, sym, ap, ap₂, subst, ◌∙◌, arith, length-append, append-nil, append_assoc}
+use Rattle.std.proofs.Common.{◌≡◌, ◌⊎◌, ⊎_elim, ℕ, ◌+◌, ◌-◌, ◌<◌, List, [], ◌∷◌, ◌++◌, Option, None, Some, Result, Ok, Err, inl, inr, length, take, drop, slice_index, refl, sym, ap, ap₂, subst, ◌∙◌, arith, length-append, append-nil, append_assoc}
 use Rattle.std.specs.List.{AllZip, AllByRecursion, concat}
-use Rattle.std.specs.Io.KnownBytes.{Consumes, IsAtEnd}
 use Rattle.std.proofs.Math.Seq.{take-append_seam, drop-append_seam}
 use Rattle.std.proofs.lemmas.List.{take-append-le}
 use Rattle.std.proofs.lemmas.List.Folds.{concat-append}
@@ -9,10 +8,10 @@ use Rattle.conf_file.specs.declared.answers.EntryWhy.{EntryWhy}
 use Rattle.conf_file.specs.declared.answers.EntryWhy.TheVariants.{Header, Kind, Lane, Step, Order}
 use Rattle.conf_file.specs.declared.answers.EntryEnd.{EntryEnd}
 use Rattle.conf_file.specs.declared.answers.EntryEnd.TheVariants.{Bad, Cut, Fault, Limit}
-use Rattle.conf_file.specs.Header.{header_of, header_size, HasLanes, IsNoHeader}
-use Rattle.conf_file.specs.Entries.{Content, Packet, Chair, Tick, End, P, C, T, E, Spells, IsWrong, IsPartial}
-use Rattle.conf_file.specs.Reading.{ReaderState, Answers, AnswersHeader, Takes, TakesBehind, TakesHeader, CallsStart, ReadsEntry}
-use Rattle.conf_file.specs.File.{Stop, Whole, WrongAt, CutAt, Begins, GoesOn, Stops, Entries, Said, Conference, WrongHeader, CutHeader, IsFile, HasRead, AfterStart, AfterNext, LawOfReading, LawOfOneReading, IsDecided, LawOfFronts}
+use Rattle.conf_file.specs.Header.{header_of, header_size, IsNoHeader}
+use Rattle.conf_file.specs.Entries.{Content, Packet, Chair, Tick, End, C, Spells, IsWrong, IsPartial}
+use Rattle.conf_file.specs.Reading.{ReaderState, CallsStart, ReadsEntry}
+use Rattle.conf_file.specs.File.{Stop, Whole, WrongAt, CutAt, Begins, GoesOn, Stops, Entries, Conference, WrongHeader, CutHeader, IsFile, HasRead, AfterStart, AfterNext, LawOfReading, LawOfOneReading, IsDecided, LawOfFronts}
 use Rattle.conf_file.proofs.FrontLemmas.{Owns, Blames, front_of, one_entry, not_wrong, one_reason, entry_in_front, fault_in_front, part_in_front}
 
 -- one more at the end of two lists

@@ -1,5 +1,5 @@
 -- What octets begin with is one thing: an entry, or octets that are none, or less than an entry.
-use Rattle.std.proofs.Common.{◌≡◌, ◌≢◌, ◌⊎◌, ⊎_elim, ℕ, ◌+◌, ◌*◌, ◌/◌, ◌%◌, ◌^◌, ◌<◌, ◌≤◌, ◌==◌, nat_le, nat_lt, Bool, true, false, ◌&&◌, if◌then◌else◌, List, [], ◌∷◌, ◌++◌, inl, inr, length, take, refl, sym, ap, ap₂, subst, ◌∙◌, arith, length-append, append-nil, append_assoc}
+use Rattle.std.proofs.Common.{◌≡◌, ◌⊎◌, ⊎_elim, ℕ, ◌+◌, ◌*◌, ◌/◌, ◌%◌, ◌==◌, nat_le, nat_lt, true, false, ◌&&◌, if◌then◌else◌, List, [], ◌∷◌, ◌++◌, length, take, refl, sym, ap, ap₂, subst, ◌∙◌, arith, length-append}
 use Rattle.std.proofs.Math.Seq.{take-append_seam}
 use Rattle.std.proofs.lemmas.Bool.Decides.{nat_tests}
 use Rattle.byteorder.specs.Endian.{big_bytes}
@@ -9,7 +9,7 @@ use Rattle.chair_words.specs.declared.reader.LineFault.{LineFault}
 use Rattle.chair_words.proofs.LineLemmas.{one_command, one_fault, not_both}
 use Rattle.conf_file.specs.declared.answers.EntryWhy.{EntryWhy}
 use Rattle.conf_file.specs.declared.answers.EntryWhy.TheVariants.{Header, Kind, Lane, Step, Order}
-use Rattle.conf_file.specs.Entries.{Content, Packet, Chair, Tick, End, P, C, T, E, IsStep, Spells, IsNoKind, IsWrong, IsPartOfPacket, IsPartOfOrder, IsPartial}
+use Rattle.conf_file.specs.Entries.{Content, Packet, Chair, Tick, End, P, C, T, E, Spells, IsWrong, IsPartOfPacket, IsPartOfOrder, IsPartial}
 
 -- what the octets begin with, where a line is not looked into
 pub data Front : Type 0 where

@@ -1,11 +1,11 @@
 -- What the octets that are left fix of the next answer.
-use Rattle.std.proofs.Common.{◌≡◌, ◌⊎◌, ℕ, ◌+◌, ◌-◌, ◌<◌, ◌≤◌, List, [], ◌∷◌, ◌++◌, Option, None, Some, Result, Ok, Err, inl, inr, length, take, drop, refl, sym, ap, ap₂, subst, ◌∙◌, arith, length-append, append-nil}
+use Rattle.std.proofs.Common.{◌≡◌, ◌⊎◌, ℕ, ◌+◌, ◌-◌, List, ◌++◌, Option, None, Some, Result, Ok, Err, inl, inr, length, take, drop, refl, sym, ap, ap₂, subst, ◌∙◌, arith, length-append, append-nil}
 use Rattle.std.proofs.Math.Seq.{take-append_seam, take-append-add}
 use Rattle.std.proofs.lemmas.List.{take-append-drop}
 use Rattle.conf_file.specs.declared.answers.EntryWhy.{EntryWhy}
 use Rattle.conf_file.specs.declared.answers.EntryEnd.{EntryEnd}
 use Rattle.conf_file.specs.declared.answers.EntryEnd.TheVariants.{Bad, Cut, Fault, Limit}
-use Rattle.conf_file.specs.Entries.{Content, Spells, IsWrong, IsPartial}
+use Rattle.conf_file.specs.Entries.{Content, IsWrong, IsPartial}
 use Rattle.conf_file.specs.Reading.{ReaderState, ReadsEntry}
 use Rattle.conf_file.specs.File.{IsNext, LawOfAnswers}
 use Rattle.conf_file.proofs.FrontLemmas.{Owns, Blames, front_of, one_entry, not_wrong, one_reason, entry_in_front, fault_in_front, part_in_front}

@@ -1,14 +1,14 @@
 -- Worked files: what each says, octet by octet, with a file at the border of each rule.
-use Rattle.std.proofs.Common.{◌≡◌, ◌≢◌, ℕ, ◌≤◌, List, [], ◌∷◌, ◌++◌, inl, inr, slice_index, codes, refl, ap, arith}
+use Rattle.std.proofs.Common.{◌≡◌, ℕ, List, [], ◌∷◌, ◌++◌, inl, inr, slice_index, codes, refl, ap, arith}
 use Rattle.pel_model.specs.declared.Quad.TheVariants.{One}
 use Rattle.pel_model.specs.declared.chair.Command.TheVariants.{Place}
 use Rattle.chair_words.specs.Words.{word_of}
-use Rattle.chair_words.specs.Line.{a_place, a_lane, line_of}
+use Rattle.chair_words.specs.Line.{a_place, a_lane}
 use Rattle.chair_words.specs.declared.reader.LineFault.{LineFault}
 use Rattle.chair_words.specs.declared.reader.LineWhy.TheVariants.{BadNumber}
 use Rattle.chair_words.proofs.Written.{says_written}
 use Rattle.conf_file.specs.declared.answers.EntryWhy.TheVariants.{Kind, Lane, Step, Order}
-use Rattle.conf_file.specs.Entries.{Content, Packet, Chair, Tick, End}
+use Rattle.conf_file.specs.Entries.{Packet, Chair, Tick, End}
 use Rattle.conf_file.specs.File.{Whole, WrongAt, CutAt, Conference, WrongHeader, CutHeader, IsFile}
 
 abbrev file_of : ℕ → List ℕ → List ℕ

@@ -1,7 +1,6 @@
 -- The entries of a conference file: what each says and how it is spelled, what is wrong with octets that spell none, and
 -- how a file is cut into entries.
 use Rattle.std.specs.Prelude.{◌≡◌, ◌≢◌, ◌⊎◌, ℕ, ◌+◌, ◌*◌, ◌^◌, ◌<◌, ◌≤◌, List, [], ◌∷◌, ◌++◌, length}
-use Rattle.std.specs.List.{AllZip, concat}
 use Rattle.byteorder.specs.Endian.{big_bytes}
 use Rattle.pel_model.specs.declared.chair.Command.{Command}
 use Rattle.chair_words.specs.Line.{Says, FailsAt}

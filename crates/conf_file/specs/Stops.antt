@@ -6,7 +6,7 @@ use Rattle.io_edge.specs.declared.whole.FillStop.TheVariants.{Full, Limited, AtE
 use Rattle.conf_file.specs.declared.entries.Found.{Found}
 use Rattle.conf_file.specs.declared.entries.Found.TheVariants as found
 use Rattle.conf_file.specs.declared.answers.EntryEnd.{EntryEnd}
-use Rattle.conf_file.specs.declared.answers.EntryEnd.TheVariants.{Bad, Cut, Fault, Limit}
+use Rattle.conf_file.specs.declared.answers.EntryEnd.TheVariants.{Cut, Fault, Limit}
 use Rattle.byteorder.specs.Endian.{big_bytes}
 use Rattle.conf_file.specs.Entries.{Content, Packet, Chair, Tick, End, P}
 use Rattle.conf_file.specs.Reading.{Takes, TakesBehind, Stopped}

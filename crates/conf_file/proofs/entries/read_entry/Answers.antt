@@ -1,5 +1,4 @@
 -- The first octet was taken, and then what stands behind it.
-use Rattle.std.proofs.Common.{rules, []}
 use Rattle.conf_file.proofs.EntryLemmas.{behind_kind}
 use Rattle.conf_file.proofs.entries.read_entry.Goals as goal
 

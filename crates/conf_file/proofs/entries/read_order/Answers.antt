@@ -1,7 +1,6 @@
 -- The length of a line was taken, and then the line, whole or in part.
-use Rattle.std.proofs.Common.{rules, ◌≡◌, ◌^◌, ◌<◌, length, refl, sym, subst}
+use Rattle.std.proofs.Common.{rules, ◌≡◌, length}
 use Rattle.std.proofs.lemmas.Result.{err_from_is_err_and}
-use Rattle.conf_file.specs.Stops.{TakesOctet, Fetches}
 use Rattle.conf_file.proofs.EntryLemmas.{line_says, line_fails, line_cut}
 use Rattle.conf_file.proofs.entries.read_order.Goals as goal
 
