@@ -76,4 +76,12 @@ mod tests {
         assert_eq!(rt; buffer.octets(), [0xb1, 0x4f, 0x03, 0xfc, 0x00].as_slice());
         Ok(())
     }
+
+    #[test]
+    fn long_slice_appended(rt: HostRuntime) -> Result<(), NoMemory> {
+        let mut buffer = BitBuf::with_capacity(rt.alloc(), 300)?;
+        buffer.append(Bits::new(&[0xa5; 40], 4, 296));
+        assert_eq!(rt; buffer.octets(), [0x5a; 37].as_slice());
+        Ok(())
+    }
 }
