@@ -17,7 +17,6 @@ use Rattle.pel_model.specs.Own.{shown_after, own}
 use Rattle.pel_model.specs.Plan.{at, is_same_lane, changed}
 use Rattle.pel_model.specs.Records.{Picture}
 use Rattle.pel_model.specs.Refresh.{is_refresh}
-use Rattle.pel_model.specs.Regions.{moved, blank}
 use Rattle.pel_model.specs.Takes.{serial_or, last_taken, choice_of, choice, take}
 use Rattle.pel_model.specs.Transform.{Transform}
 use Rattle.pel_model.specs.Valid.{IsValid}
