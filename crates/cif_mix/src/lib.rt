@@ -3,12 +3,12 @@
 #![tactic(auto)]
 
 ghost use Rattle.std.specs.Prelude.{◌≡◌, ℕ, ◌+◌, ◌*◌, ◌<◌, ◌≤◌, true, length, Option};
-ghost use Rattle.frame_laws.specs.Composing.{most_composed};
 ghost use Rattle.h261_pic.specs.Coded.{Coding, coding};
 ghost use Rattle.pel_model.specs.declared.Format.TheVariants.{Cif};
 ghost use Rattle.pel_model.specs.declared.Quad.{Quad};
 ghost use Rattle.pel_model.specs.declared.Quad.TheVariants.{One, Two, Three, Four};
 ghost use Rattle.pel_model.specs.Composed.{composed_of};
+ghost use Rattle.pel_model.specs.Headline.{written_limit};
 ghost use Rattle.pel_model.specs.Records.{Picture};
 ghost use Rattle.cif_mix.specs.Shows.{MayBeShown, Shows};
 ghost use Rattle.cif_mix.specs.Rows.{IsFinishedQcif, IsBox, MayGrow, MayCopy, IsAdded, IsAtRow, IsRowAdded};
@@ -28,7 +28,7 @@ pub fn compose(hand: &Hand, one: bool, two: bool, three: bool, four: bool, tr: u
     ensures picture { (shown : Quad → Option Picture) → Shows one hand.now.one.value (shown One)
         → Shows two hand.now.two.value (shown Two) → Shows three hand.now.three.value (shown Three)
         → Shows four hand.now.four.value (shown Four) → into.new ≡ coding Cif (composed_of tr shown) }
-    ensures within { length into.new.bits ≤ most_composed }
+    ensures within { length into.new.bits ≤ written_limit }
 {
     into.start(tr);
     add_row(&hand.one, one, &hand.two, two, into);

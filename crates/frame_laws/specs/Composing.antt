@@ -8,6 +8,7 @@ use Rattle.pel_model.specs.Composed.{or_blank, composed_of}
 use Rattle.pel_model.specs.Crop.{crop}
 use Rattle.pel_model.specs.Decode.{decode}
 use Rattle.pel_model.specs.Frames.{Frame}
+use Rattle.pel_model.specs.Headline.{written_limit}
 use Rattle.pel_model.specs.Records.{Picture}
 use Rattle.pel_model.specs.Text.{text}
 use Rattle.pel_model.specs.Headers.{picture_header_length}
@@ -46,11 +47,8 @@ ComposedLength =
     ≡ length (text Qcif (or_blank (shown One))) + length (text Qcif (or_blank (shown Two)))
     + length (text Qcif (or_blank (shown Three))) + length (text Qcif (or_blank (shown Four)))
 
--- the greatest number of bits of a composed picture: that of four texts at the limit of QCIF
-abbrev pub most_composed : ℕ
-most_composed = 262048
-
+-- where the texts are at the limit of QCIF at most, that of the composed picture is within `written_limit`
 abbrev pub ComposedIsLegal : Type 0
 ComposedIsLegal =
     (tr : ℕ) (shown : Quad → Option Picture) → tr < 32 → AreValid shown → AreWithin shown
-    → LegalCif (text Cif (composed_of tr shown)) × (length (text Cif (composed_of tr shown)) ≤ most_composed)
+    → LegalCif (text Cif (composed_of tr shown)) × (length (text Cif (composed_of tr shown)) ≤ written_limit)
