@@ -1,11 +1,11 @@
--- The code tables of H.261 (4.2.3 and 4.2.4): each is a list of words, as digits in the order in which they are
--- sent, with what they mean. No word of a list is a front of another of it.
+-- The code tables of H.261 (4.2.3 and 4.2.4): each is a list of codewords, as digits in the order in which they
+-- are sent, with what they mean. No codeword of a list is a prefix of another of it.
 use Rattle.std.specs.Prelude.{ℕ, ◌==◌, ◌&&◌, ◌||◌, not, ℤ, pos, negsuc, Bool, true, false, List, [], ◌∷◌, codes}
 use Rattle.std.specs.List.{list_any}
 use Rattle.pel_model.specs.declared.MbKind.{MbKind}
 use Rattle.pel_model.specs.declared.MbKind.TheVariants.{Intra, IntraQuant, Inter, InterQuant, Mc, McCoded, McQuant, McFil, McFilCoded, McFilQuant}
 
--- a word, from its digits
+-- a codeword, from its digits
 abbrev pub word : List ℕ → List Bool
 word [] = []
 word (digit ∷ digits) = (digit == 49) ∷ word digits
@@ -74,7 +74,7 @@ mtype_table =
     ∷ (word (codes "000001"), McFilQuant)
     ∷ []
 
--- MVD (4.2.3.4): the one or two differences that a word stands for
+-- MVD (4.2.3.4): the one or two differences that a codeword stands for
 unfoldable pub mvd_table : List (List Bool × (ℤ × ℤ))
 mvd_table =
     (word (codes "1"), (pos 0, pos 0))
@@ -246,7 +246,7 @@ tcoeff_table =
     ∷ (word (codes "0000000011011"), (26, 1))
     ∷ []
 
--- run 0 and level 1 at the front of a block that has no INTRADC, and at every other place
+-- run 0 and level 1 as the first coefficient of a block that has no INTRADC, and everywhere else
 abbrev pub first_one_word : List Bool
 first_one_word = word (codes "1")
 
@@ -313,7 +313,7 @@ is_prefix (true ∷ bs) (true ∷ cs) = is_prefix bs cs
 is_prefix (false ∷ bs) (false ∷ cs) = is_prefix bs cs
 is_prefix (b ∷ bs) (c ∷ cs) = false
 
--- no word is a prefix of another
+-- no codeword is a prefix of another
 abbrev pub is_prefix_free : List (List Bool) → Bool
 is_prefix_free [] = true
 is_prefix_free (w ∷ ws) = not (list_any (λ v. is_prefix w v || is_prefix v w) ws) && is_prefix_free ws

@@ -40,7 +40,7 @@ pub data Element : Type 0 where
   Tcoeff : Coefficient → Element
   Eob : Element
 
--- ---- what the elements before a place say, which stand newest first
+-- ---- what the elements before say, which stand newest first
 
 -- the kind of the last macroblock
 abbrev pub kind : List Element → MbKind
@@ -267,13 +267,13 @@ may_end _ = false
 abbrev pub is_end : List Bool → Bool
 is_end left = nat_lt (length left) 8 && not (list_any (λ b. b) left)
 
--- bits that do not begin with PSC, nor are a front of it, are no picture
+-- bits that do not begin with PSC, nor are a prefix of it, are no picture
 abbrev pub or_no_start : Slot → Standing Element → Standing Element
 or_no_start AtPsc (Bad NoCode) = Bad NoStart
 or_no_start _ here = here
 
 abbrev pub at_slot : Slot → List Bool → Standing Element
-at_slot place left = cond (may_end place && is_end left) Stop (or_no_start place (read (rows place) left))
+at_slot due left = cond (may_end due && is_end left) Stop (or_no_start due (read (rows due) left))
 
 -- what stands behind these elements, whatever the length of the picture
 unfoldable pub next : Format → List Element → Reading → Standing Element

@@ -9,7 +9,7 @@ use Rattle.pel_model.specs.Codes.{mba_table, mtype_table, mvd_table, cbp_table, 
 use Rattle.pel_model.specs.Headers.{strict_bits, picture_header_text, group_header_text}
 use Rattle.pel_model.specs.Records.{Axis, Across, Down, Coefficient, Block, Macroblock, Group, Picture, component}
 
--- the word of a table whose meaning passes the test
+-- the codeword of a table whose meaning passes the test
 abbrev pub word_of : {A : Type 0} → (A → Bool) → List (List Bool × A) → List Bool
 word_of test [] = []
 word_of test (row ∷ rows) = if test row.1 then row.0 else word_of test rows
@@ -25,18 +25,18 @@ abbrev pub is_negative : ℤ → Bool
 is_negative (pos n) = false
 is_negative (negsuc n) = true
 
--- the code of a run and a level, where that of run 0 and level 1 is `one`
+-- the codeword of a run and a level, where that of run 0 and level 1 is `one`
 abbrev pub pair_word : List Bool → ℕ → ℕ → List Bool
 pair_word one run level =
     if run == 0 && level == 1 then one else word_of (λ pair. pair.0 == run && pair.1 == level) tcoeff_table
 
--- a coefficient: its code and sign, or an escape with 6 bits of run and 8 of level
+-- a coefficient: its codeword and sign, or an escape with 6 bits of run and 8 of level
 unfoldable pub coefficient_word : List Bool → Coefficient → List Bool
 coefficient_word one c =
     if c.long then escape_word ++ field c.run 6 ++ field (twos_complement c.level) 8
     else pair_word one c.run (nat_abs c.level) ++ is_negative c.level ∷ []
 
--- the first coefficient's `one` is that of its place, the later ones have the other
+-- the first coefficient's `one` is given, the later ones have the other
 abbrev pub coefficients_text : List Bool → List Coefficient → List Bool
 coefficients_text one [] = []
 coefficients_text one (c ∷ cs) = coefficient_word one c ++ coefficients_text later_one_word cs

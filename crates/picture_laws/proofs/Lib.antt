@@ -2,6 +2,7 @@ pub mod Answers
 pub mod Blocks
 pub mod Chains
 pub mod Cuts
+pub mod FormProofs
 pub mod Groups
 pub mod Joins
 pub mod Kept
@@ -16,6 +17,7 @@ pub mod ReadMacroblocks
 pub mod ReadPictures
 pub mod Slots
 pub mod Strict
+pub mod TextProofs
 pub mod Told
 pub mod Vectors
 mod WorkedForms

@@ -18,6 +18,7 @@ use Rattle.pel_model.specs.Grammar.{Element, Psc, Tr, Ptype, Pei, Pspare, Gbsc, 
 use Rattle.pel_model.proofs.Walks.{after-append}
 use Rattle.pel_model.specs.Elements.{dc_elements, block_elements, blocks_elements, mquant_elements, spare_elements}
 use Rattle.picture_laws.specs.PictureElements.{mvd_element, vector_elements, cbp_elements, macroblock_elements, macroblocks_elements, group_elements, groups_elements, header_elements, elements}
+use Rattle.picture_laws.specs.TextLaws.{ReadInItsForm}
 use Rattle.picture_laws.specs.Laws.{AcceptedIsRead}
 use Rattle.picture_laws.proofs.Slots.{psc}
 use Rattle.picture_laws.proofs.Words.{field-number, number_below}
@@ -234,18 +235,20 @@ spelled-read format bits form p spelling valid =
       ending.1,
     )
 
+-- accepted bits are read as the elements of their form
+pub read-in-form : ReadInItsForm
+read-in-form format form bits p accepted =
+    let spelling = accepted.spelling in
+    let read_ = spelled-read format bits form p spelling accepted.valid in
+    let end : List Bool × ℕ = (replicate form.zeros false, 0 + length (sent_text format form p)) in
+    let begun_is = begun-picture format form p spelling.fits in
+    let fits : claimed format (after [] (elements format form p)) (0 + length (sent_text format form p)) ≤ limit format = omega (arith, read_.2, begun_is, accepted.valid.whole, accepted.short) in
+    record {
+      end = end;
+      walk = goes-picture format [] (start bits) (elements format form p) end read_.0 fits;
+      stop = picture-stops format (after [] (elements format form p)) end read_.1;
+    }
+
 pub accepted-read : AcceptedIsRead
 accepted-read format bits p accepted =
-    let spelling = accepted.1.spelling in
-    let read_ = spelled-read format bits accepted.0 p spelling accepted.1.valid in
-    let end : List Bool × ℕ = (replicate accepted.0.zeros false, 0 + length (sent_text format accepted.0 p)) in
-    let begun_is = begun-picture format accepted.0 p spelling.fits in
-    let fits : claimed format (after [] (elements format accepted.0 p)) (0 + length (sent_text format accepted.0 p)) ≤ limit format = omega (arith, read_.2, begun_is, accepted.1.valid.whole, accepted.1.short) in (
-      elements format accepted.0 p,
-      record {
-        end = end;
-        walk = goes-picture format [] (start bits) (elements format accepted.0 p) end read_.0 fits;
-        stop = picture-stops format (after [] (elements format accepted.0 p)) end read_.1;
-      },
-      (accepted.0, spelling.fits, refl),
-    )
+    (elements format accepted.0 p, read-in-form format accepted.0 bits p accepted.1, (accepted.0, accepted.1.spelling.fits, refl))

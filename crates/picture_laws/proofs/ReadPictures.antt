@@ -17,6 +17,7 @@ use Rattle.pel_model.specs.Accepts.{Accepts}
 use Rattle.pel_model.specs.Walk.{Standing, Good, Stop, Bad, Row, start, after, read, word_at, whole_word}
 use Rattle.pel_model.specs.Grammar.{Element, Psc, Tr, Ptype, Pei, Pspare, Slot, AtPsc, AtTr, AtPtype, AtGroup, slot, begun, rows, faults, first_why, names_format, may_end, is_end, or_no_start, at_slot, next, counted}
 use Rattle.picture_laws.specs.PictureElements.{header_elements, elements, Tells}
+use Rattle.picture_laws.specs.TextLaws.{IsReadInForm, WalkHasForm}
 use Rattle.picture_laws.specs.Laws.{WalkHasRecord}
 use Rattle.picture_laws.proofs.Slots.{Takes}
 use Rattle.picture_laws.proofs.Written.{below, below_all}
@@ -167,35 +168,40 @@ headers_fit : (format : Format) → 26 * (group_count format - 0) ≤ limit form
 headers_fit Qcif = omega arith
 headers_fit Cif = omega arith
 
-accepted_built : (format : Format) (bits : List Bool) (es : List Element) (end : List Bool × ℕ) → IsWalk format [] (start bits) es end → counted format (after [] es) end.1 ≤ limit format → is_end end.0 ≡ true → (p : ReadsPicture format es (length end.0)) → (pic : Picture) × Tells format es pic × Accepts format bits pic
+accepted_built : (format : Format) (bits : List Bool) (es : List Element) (end : List Bool × ℕ) → IsWalk format [] (start bits) es end → counted format (after [] es) end.1 ≤ limit format → is_end end.0 ≡ true → ReadsPicture format es (length end.0) → IsReadInForm format bits es
 accepted_built format bits es end walk short ends p =
     let zeros : p.form.zeros ≡ length end.0 = p.zeros_are in
     let e = end_zeros end.0 ends in
     let says = (says-picture format p.form p.pic p.fits p.valid).0 in
     let text : words [] es ≡ sent_text format p.form p.pic = ap (words []) p.is ∙ says.text in
     let begun_is = begun-picture format p.form p.pic p.fits in
-    let begun_same : begun (after [] es) ≡ begun (after [] (elements format p.form p.pic)) = ap (λ es. begun (after [] es)) p.is in (
-      p.pic,
-      (p.form, p.fits, p.is),
-      (
-        p.form,
-        record {
-          spelling = record {
-            fits = p.fits;
-            zeros = omega (arith, zeros, e.0);
-            text = walk.bits ∙ (ap (λ t. t ++ end.0) text ∙ ap (λ t. sent_text format p.form p.pic ++ t) (e.1 ∙ ap (λ k. replicate k false) (sym zeros)));
-          };
-          valid = p.valid;
-          short = omega (arith, walk.place, ap length text, begun_is, begun_same, p.valid.whole, short);
-        },
-      ),
-    )
+    let begun_same : begun (after [] es) ≡ begun (after [] (elements format p.form p.pic)) = ap (λ es. begun (after [] es)) p.is in
+    record {
+      picture = p.pic;
+      form = p.form;
+      fits = p.fits;
+      is = p.is;
+      accepted = record {
+        spelling = record {
+          fits = p.fits;
+          zeros = omega (arith, zeros, e.0);
+          text = walk.bits ∙ (ap (λ t. t ++ end.0) text ∙ ap (λ t. sent_text format p.form p.pic ++ t) (e.1 ∙ ap (λ k. replicate k false) (sym zeros)));
+        };
+        valid = p.valid;
+        short = omega (arith, walk.place, ap length text, begun_is, begun_same, p.valid.whole, short);
+      };
+    }
 
-pub walk-record : WalkHasRecord
-walk-record format bits es reads =
+pub walk-form : WalkHasForm
+walk-form format bits es reads =
     let goes = goes-next format [] (start bits) es reads.end reads.walk in
     let walk = goes-walk format [] (start bits) es reads.end goes in
     let short = goes-within format [] (start bits) es reads.end reads.walk (omega (arith, headers_fit format)) in
     let stop = stopped format (after [] es) reads.end (picture-stop format (after [] es) reads.end reads.stop) in
     let r : IsRest format [] es = record { chain = walk.chain; final = stop.0 } in
     accepted_built format bits es reads.end walk short stop.1 (read_picture format es (length reads.end.0) r)
+
+pub walk-record : WalkHasRecord
+walk-record format bits es reads =
+    let w = walk-form format bits es reads in
+    (w.picture, (w.form, w.fits, w.is), (w.form, w.accepted))

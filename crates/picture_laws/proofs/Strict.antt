@@ -4,7 +4,7 @@ use Rattle.std.specs.List.{flat_map}
 use Rattle.pel_model.specs.declared.Format.{Format}
 use Rattle.pel_model.specs.Records.{Macroblock, Group, Picture}
 use Rattle.pel_model.specs.Text.{text, picture_header, group_header, group_text, macroblock_text, macroblocks_text}
-use Rattle.pel_model.specs.Spelling.{GroupsFit, stuffed_text, sent_groups_text, sent_group_text, sent_text, strict_group, strict_form}
+use Rattle.pel_model.specs.Spelling.{GroupsFit, stuffed_text, sent_groups_text, sent_group_text, sent_text, IsSpelling, strict_group, strict_form}
 use Rattle.pel_model.specs.Accepts.{left_out}
 use Rattle.picture_laws.specs.Laws.{TextIsAccepted}
 
@@ -31,11 +31,18 @@ strict_fits : (gs : List Group) → GroupsFit (map (λ (g : Group). strict_group
 strict_fits [] = tt
 strict_fits (g ∷ gs) = (tt, strict_fits gs)
 
+pub strict-spelling : (format : Format) (p : Picture) → IsSpelling format (strict_form p) (text format p) p
+strict-spelling format p = record {
+  fits = strict_fits p.groups;
+  zeros = omega arith;
+  text = sym (append-nil (sent_text format (strict_form p) p) ∙ text_strict format p);
+}
+
 pub text-accepted : TextIsAccepted
 text-accepted format p valid short = (
   strict_form p,
   record {
-    spelling = record { fits = strict_fits p.groups; zeros = omega arith; text = sym (append-nil (sent_text format (strict_form p) p) ∙ text_strict format p) };
+    spelling = strict-spelling format p;
     valid = valid;
     short = omega (arith, none_left_out p.groups, ap length (text_strict format p));
   },

@@ -1,3 +1,4 @@
 pub mod PictureElements
 pub mod Laws
 pub mod SoFar
+pub mod TextLaws

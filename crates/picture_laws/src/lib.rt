@@ -4,6 +4,7 @@
 
 ghost use Rattle.picture_laws.specs.Laws.{TextIsAccepted, AcceptedIsRead, WalkHasRecord, HasRecordOrFault, NeverBoth, OneSpelling, OneRecord, OneFault, GoodOverFirst, GoodOverAll, JudgedByTheLimit, WithoutTheLimit, WithinTheLimit, PastTheLimit, KeptLength};
 ghost use Rattle.picture_laws.specs.SoFar.{InsideStands, GroupBegins, StuffingJoins, MacroblockJoins, HeaderBegins, GroupIsLeftOut, GroupIsSent, PictureIsTold, PictureIsAccepted};
+ghost use Rattle.picture_laws.specs.TextLaws.{TextsHaveLengths, ValidInEachPlace, MarksCutGroups, MarksCutPictures, OnePicture, StrictIsOwn, ReadInItsForm, WalkHasForm, StrictIsRead};
 
 /// The strict text of a valid picture within the limit is accepted with that picture.
 pub fn text_is_accepted()
@@ -62,4 +63,35 @@ pub fn picture_so_far()
     ensures sent { GroupIsSent }
     ensures told { PictureIsTold }
     ensures accepted { PictureIsAccepted }
+{}
+
+/// The lengths of headers, and of the texts of groups and pictures.
+pub fn text_lengths()
+    ensures { TextsHaveLengths }
+{}
+
+/// A valid group of a QCIF picture is a valid group of a CIF picture, with its number in each of the four places.
+pub fn groups_in_places()
+    ensures { ValidInEachPlace }
+{}
+
+/// The bits at the marks of macroblocks are the texts of these, in order and with no bit shared: where the text of a
+/// group's macroblocks stands anywhere, and in the text of a picture.
+pub fn marks_cut_the_text()
+    ensures of_a_group { MarksCutGroups }
+    ensures of_a_picture { MarksCutPictures }
+{}
+
+/// A strict text is that of one valid picture, and is accepted with no other.
+pub fn one_picture_for_a_text()
+    ensures text { OnePicture }
+    ensures accepted { StrictIsOwn }
+{}
+
+/// Bits that are accepted in an input form are read as the elements of that form; elements that are read up to the lawful
+/// end are those of a form in which the bits are accepted; and those of a strict text have no spare octets and no stuffing.
+pub fn read_in_a_form()
+    ensures accepted { ReadInItsForm }
+    ensures walk { WalkHasForm }
+    ensures strict { StrictIsRead }
 {}
