@@ -1,6 +1,5 @@
 -- Views and marks cut the text of a picture.
-use Rattle.std.proofs.Common.{◌≡◌, ℕ, ◌+◌, ◌<◌, Bool, List, [], ◌∷◌, ◌++◌, length, take, drop, map, flat_map, slice_index_or, All, Option, None, Some, refl, sym, ◌∙◌, ap, ap₂, subst, arith, append_assoc, length-append}
-use Rattle.std.proofs.lemmas.List.{take_at, drop_at}
+use Rattle.std.proofs.Common.{◌≡◌, ℕ, ◌+◌, ◌<◌, Bool, List, [], ◌∷◌, ◌++◌, length, map, flat_map, slice_index_or, All, Option, None, Some, refl, sym, ◌∙◌, ap, ap₂, subst, arith, append_assoc, length-append}
 use Rattle.std.proofs.lemmas.List.Elements.{All-nil, All-cons}
 use Rattle.pel_model.specs.declared.Format.{Format}
 use Rattle.pel_model.specs.declared.Mark.{Mark}
@@ -8,7 +7,9 @@ use Rattle.pel_model.specs.Marks.{mark_of, macroblock_marks}
 use Rattle.pel_model.specs.Records.{Macroblock, Group, Picture, quantiser_after}
 use Rattle.pel_model.specs.Text.{text, group_text, macroblock_text, macroblocks_text}
 use Rattle.h261_pic.specs.Coded.{views, coding, view_of, marks_in}
-use Rattle.h261_pic.specs.Laws.{GroupsFollow, MarksFollow, bits_at_mark, macroblock_texts, CutsGroup, CutTexts}
+use Rattle.h261_pic.specs.Laws.{GroupsFollow, MarksFollow, CutsGroup, CutTexts}
+use Rattle.picture_laws.specs.TextLaws.{marked_bits, macroblock_texts}
+use Rattle.picture_laws.proofs.TextProofs.{marks-cut}
 use Rattle.h261_pic.proofs.GroupMarks.{StandsIn, sent, sent-cons, length-group_marks}
 use Rattle.h261_pic.proofs.Grows.{no_group, view-number, view-len, view-stands, marks-of-view}
 use Rattle.h261_pic.proofs.Texts.{length-group_text, length-text}
@@ -52,30 +53,12 @@ marks-number at number quant last (m ∷ ms) =
     (marks-number (at + length (macroblock_text last m)) number (quantiser_after quant m.mquant) (Some m) ms)
 
 -- what stands at them, one by one
-marks-texts : (front rest : List Bool) (number quant : ℕ) (last : Option Macroblock) (ms : List Macroblock)
-    → map (bits_at_mark (front ++ macroblocks_text last ms ++ rest)) (macroblock_marks (length front) number quant last ms) ≡ macroblock_texts last ms
-unfolding macroblocks_text
-marks-texts front rest number quant last [] = refl
-marks-texts front rest number quant last (m ∷ ms) =
-    let here = macroblock_text last m in
-    let more = macroblocks_text (Some m) ms in
-    let first : take (length here) (drop (length front) (front ++ (here ++ more) ++ rest)) ≡ here =
-    ap (λ (bs : List Bool). take (length here) (drop (length front) bs))
-    (append_assoc front (here ++ more) rest ∙ ap (λ (bs : List Bool). front ++ bs) (append_assoc here more rest))
-    ∙ ap (take (length here)) (drop_at front (here ++ (more ++ rest)) (length front) refl)
-    ∙ take_at here (more ++ rest) (length here) refl in
-    let regroup : front ++ (here ++ more) ++ rest ≡ (front ++ here) ++ more ++ rest =
-    ap (λ (bs : List Bool). bs ++ rest) (sym (append_assoc front here more)) in
-    ap₂ (λ (b : List Bool) (bs : List (List Bool)). b ∷ bs) first
-    (ap₂ (λ (bs : List Bool) (n : ℕ). map (bits_at_mark bs) (macroblock_marks n number (quantiser_after quant m.mquant) (Some m) ms))
-    regroup (sym (length-append front here))
-    ∙ marks-texts (front ++ here) rest number (quantiser_after quant m.mquant) (Some m) ms)
-
 standing-texts : (bits : List Bool) (from number quant : ℕ) (ms : List Macroblock) → StandsIn bits from (macroblocks_text None ms)
-    → map (bits_at_mark bits) (macroblock_marks from number quant None ms) ≡ macroblock_texts None ms
+    → map (marked_bits bits) (macroblock_marks from number quant None ms) ≡ macroblock_texts None ms
 standing-texts bits from number quant ms stands =
-    ap₂ (λ (bs : List Bool) (n : ℕ). map (bits_at_mark bs) (macroblock_marks n number quant None ms)) stands.bits_are (sym stands.from_is)
-    ∙ marks-texts stands.front stands.rest number quant None ms
+    ap₂ (λ (bs : List Bool) (n : ℕ). map (marked_bits bs) (macroblock_marks n number quant None ms))
+    (stands.bits_are ∙ append_assoc stands.front (macroblocks_text None ms) stands.rest) (sym stands.from_is)
+    ∙ (marks-cut stands.front stands.rest number quant None ms).bits
 
 cuts-group : (format : Format) (p : Picture) (i : ℕ) → i < length p.groups → CutsGroup (coding format p) p i
 cuts-group format p i below =
@@ -90,7 +73,7 @@ cuts-group format p i below =
       follow = subst (λ (ms : List Mark). MarksFollow from ms (from + (view_of c i).len)) (sym marks_are)
           (subst (λ (n : ℕ). MarksFollow from (macroblock_marks from g.number g.quant None g.macroblocks) (from + n)) (view-len 32 0 p.groups i below)
           (marks-follow from g.number g.quant None g.macroblocks));
-      texts = ap (map (bits_at_mark (text format p))) marks_are ∙ standing-texts (text format p) from g.number g.quant g.macroblocks (view-stands format p i below);
+      texts = ap (map (marked_bits (text format p))) marks_are ∙ standing-texts (text format p) from g.number g.quant g.macroblocks (view-stands format p i below);
     }
 
 pub cut-texts : CutTexts

@@ -1,12 +1,12 @@
 -- Laws of the codings of pictures.
-use Rattle.std.specs.Prelude.{◌≡◌, ℕ, ◌+◌, ◌<◌, Bool, List, [], ◌∷◌, length, take, drop, map, All, Option, None, Some}
+use Rattle.std.specs.Prelude.{◌≡◌, ℕ, ◌+◌, ◌<◌, List, [], ◌∷◌, length, map, All, None}
 use Rattle.h261_pic.specs.declared.coded.GroupView.{GroupView}
 use Rattle.pel_model.specs.declared.Format.{Format}
 use Rattle.pel_model.specs.declared.Mark.{Mark}
-use Rattle.pel_model.specs.Records.{Macroblock, Picture}
+use Rattle.pel_model.specs.Records.{Picture}
 use Rattle.pel_model.specs.Headers.{picture_header_length, group_header_length}
-use Rattle.pel_model.specs.Text.{macroblock_text}
 use Rattle.pel_model.specs.Valid.{IsValid}
+use Rattle.picture_laws.specs.TextLaws.{marked_bits, macroblock_texts}
 use Rattle.h261_pic.specs.Coded.{Coding, coding, view_of, marks_in, group_in, IsFinished}
 
 -- equal codings of valid pictures are of equal pictures
@@ -31,21 +31,12 @@ abbrev pub MarksFollow : ℕ → List Mark → ℕ → Type 0
 MarksFollow at [] end = at ≡ end
 MarksFollow at (m ∷ ms) end = (m.at ≡ at) × MarksFollow (at + m.len) ms end
 
--- the bits that stand at a mark
-abbrev pub bits_at_mark : List Bool → Mark → List Bool
-bits_at_mark bits m = take m.len (drop m.at bits)
-
--- what macroblocks are sent as, one by one
-abbrev pub macroblock_texts : Option Macroblock → List Macroblock → List (List Bool)
-macroblock_texts last [] = []
-macroblock_texts last (m ∷ ms) = macroblock_text last m ∷ macroblock_texts (Some m) ms
-
 -- the marks of a group are of that group, cut its view from the first bit to the last, and at each stands what its
 -- macroblock is sent as
 pub record CutsGroup (coded : Coding) (picture : Picture) (i : ℕ) : Type 0 where
   pub numbers : All (λ (m : Mark). m.group ≡ (view_of coded i).number) (marks_in coded i)
   pub follow : MarksFollow (view_of coded i).from (marks_in coded i) ((view_of coded i).from + (view_of coded i).len)
-  pub texts : map (bits_at_mark coded.bits) (marks_in coded i) ≡ macroblock_texts None (group_in picture i).macroblocks
+  pub texts : map (marked_bits coded.bits) (marks_in coded i) ≡ macroblock_texts None (group_in picture i).macroblocks
 
 -- the views cut the text behind the picture's header, and the marks cut each view
 pub record CutsText (coded : Coding) (picture : Picture) : Type 0 where
