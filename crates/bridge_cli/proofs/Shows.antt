@@ -58,9 +58,6 @@ only-elsewhere Four Two p differs = refl
 only-elsewhere Four Three p differs = refl
 only-elsewhere Four Four p differs = absurd (differs refl)
 
-if-some : (P : Picture → Type 0) (o : Option Picture) (p : Picture) → o ≡ Some p → P p → IfSome o P
-if-some P o p is holds = subst (λ (x : Option Picture). IfSome x P) (sym is) holds
-
 only-valid : (place : Quad) (p : Picture) → IsValid Qcif p → AreValid (only place p)
 unfolding only
 only-valid One p valid One = valid
