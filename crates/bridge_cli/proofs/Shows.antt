@@ -1,5 +1,5 @@
 -- The CIF picture that shows a QCIF picture in one place: it is composed of that picture alone.
-use Rattle.std.proofs.Common.{◌≡◌, ◌≢◌, ℕ, ◌+◌, ◌*◌, ◌<◌, ◌≤◌, Bool, true, false, length, Option, None, Some, IfSome, refl, sym, ◌∙◌, ap, subst, arith}
+use Rattle.std.proofs.Common.{◌≡◌, ◌≢◌, ℕ, ◌+◌, ◌<◌, true, false, length, Option, None, Some, refl, sym, ◌∙◌, ap, subst, arith}
 use Rattle.bridge_cli.specs.Decoders.{DecodersShow}
 use Rattle.bridge_cli.specs.FirstForm.{FirstForm}
 use Rattle.bridge_cli.specs.OnePacket.{written}

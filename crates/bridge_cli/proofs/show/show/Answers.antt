@@ -6,7 +6,6 @@ use Rattle.h261_pic.specs.Coded.{Coding, coding}
 use Rattle.pel_model.specs.declared.Format.TheVariants.{Qcif, Cif}
 use Rattle.pel_model.specs.declared.Quad.{Quad}
 use Rattle.pel_model.specs.declared.Quad.TheVariants.{One, Two, Three, Four}
-use Rattle.pel_model.specs.Records.{Picture}
 use Rattle.pel_model.specs.Regions.{shown_in}
 use Rattle.bridge_cli.proofs.show.show.Goals as goal
 
