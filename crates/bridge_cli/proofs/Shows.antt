@@ -1,5 +1,5 @@
 -- The CIF picture that shows a QCIF picture in one place: it is composed of that picture alone.
-use Rattle.std.proofs.Common.{◌≡◌, ◌≢◌, ℕ, ◌+◌, ◌*◌, ◌<◌, ◌≤◌, Bool, true, false, length, Option, None, Some, IfSome, refl, sym, ◌∙◌, ap, subst, arith}
+use Rattle.std.proofs.Common.{◌≡◌, ◌≢◌, ℕ, ◌+◌, ◌<◌, true, false, length, Option, None, Some, refl, sym, ◌∙◌, ap, subst, arith}
 use Rattle.bridge_cli.specs.Decoders.{DecodersShow}
 use Rattle.bridge_cli.specs.FirstForm.{FirstForm}
 use Rattle.bridge_cli.specs.OnePacket.{written}
@@ -57,9 +57,6 @@ only-elsewhere Four One p differs = refl
 only-elsewhere Four Two p differs = refl
 only-elsewhere Four Three p differs = refl
 only-elsewhere Four Four p differs = absurd (differs refl)
-
-if-some : (P : Picture → Type 0) (o : Option Picture) (p : Picture) → o ≡ Some p → P p → IfSome o P
-if-some P o p is holds = subst (λ (x : Option Picture). IfSome x P) (sym is) holds
 
 only-valid : (place : Quad) (p : Picture) → IsValid Qcif p → AreValid (only place p)
 unfolding only

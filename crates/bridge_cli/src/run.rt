@@ -95,8 +95,7 @@ struct Pictures {
 
 fn reserve(alloc: Global) -> Result<Room, NoMemory>
     ensures { IfOk result (λ room. (vec_len room.rest ≡ REST_OCTETS)
-        × AreQcif room.pictures.hand.one.value room.pictures.hand.two.value
-        room.pictures.hand.three.value room.pictures.hand.four.value
+        × AreQcif room.pictures.hand
         × (room.pictures.whole.format ≡ Cif)) }
 {
     Ok(Room {
@@ -111,8 +110,7 @@ fn reserve(alloc: Global) -> Result<Room, NoMemory>
 // Reads a file of the first form and writes its picture.
 fn replay<S: Source, K: Sink>(room: &mut Room, input: &mut S, output: &mut K) -> Status
     requires rest { vec_len room.old.rest ≡ REST_OCTETS }
-    requires hand { AreQcif room.old.pictures.hand.one.value room.old.pictures.hand.two.value
-        room.old.pictures.hand.three.value room.old.pictures.hand.four.value }
+    requires hand { AreQcif room.old.pictures.hand }
     requires whole { room.old.pictures.whole.format ≡ Cif }
     ensures ends { Ends
         (record {
@@ -143,8 +141,7 @@ fn replay<S: Source, K: Sink>(room: &mut Room, input: &mut S, output: &mut K) ->
 // Reads a file of the first form, composes its picture, and gives the step of its tick.
 fn take_form<S: Source>(room: &mut Room, input: &mut S) -> Result<u8, Status>
     requires rest { vec_len room.old.rest ≡ REST_OCTETS }
-    requires hand { AreQcif room.old.pictures.hand.one.value room.old.pictures.hand.two.value
-        room.old.pictures.hand.three.value room.old.pictures.hand.four.value }
+    requires hand { AreQcif room.old.pictures.hand }
     requires whole { room.old.pictures.whole.format ≡ Cif }
     ensures { TakesForm (S.left input.old) (S.left input.new) (S.faults input.old) (S.faults input.new)
         room.new.pictures.whole result }
@@ -176,8 +173,7 @@ fn take_all<S: Source>(input: &mut S, slice: &mut [u8]) -> Result<(), Status>
 // Composes the picture of a file of the first form, from what its head and its rest say, and gives the step of its tick.
 fn mix(place: Quad, rest: &[u8], pictures: &mut Pictures) -> Option<u8>
     requires size { IsPacketSize (length rest.now - END_OCTETS) }
-    requires hand { AreQcif pictures.old.hand.one.value pictures.old.hand.two.value
-        pictures.old.hand.three.value pictures.old.hand.four.value }
+    requires hand { AreQcif pictures.old.hand }
     requires whole { pictures.old.whole.format ≡ Cif }
     ensures none { IfNone result ((f : FirstForm)
         → IsFirstForm (head_octets place (length rest.now - END_OCTETS) ++ rest.now) f → ⊥) }
@@ -205,9 +201,9 @@ fn packet_bits(packet: &[u8]) -> Bits<'_>
 
 // Reads a picture into the box of its place, and tells whether it is a refresh whose composed picture fits one packet.
 fn read_picture(bits: Bits<'_>, place: Quad, hand: &mut Hand) -> bool
-    requires { AreQcif hand.old.one.value hand.old.two.value hand.old.three.value hand.old.four.value }
+    requires { AreQcif hand.old }
     ensures shown { IsTrue result → (p : Picture) × IsToBeShown bits.entry p
-        × (box_of place hand.new.one.value hand.new.two.value hand.new.three.value hand.new.four.value ≡ coding Qcif p) }
+        × (box_of place hand.new ≡ coding Qcif p) }
     ensures refused { IsFalse result → (p : Picture) → IsToBeShown bits.entry p → ⊥ }
 {
     match place {

@@ -16,11 +16,11 @@ use pel_model::Quad;
 /// Writes the CIF picture with this TR that shows the picture of one place, and nothing elsewhere.
 pub fn show(hand: &Hand, place: Quad, tr: u8, whole: &mut Coded)
     requires sent { (p : Picture) × IsValid Qcif p
-        × (box_of place hand.now.one.value hand.now.two.value hand.now.three.value hand.now.four.value ≡ coding Qcif p) }
+        × (box_of place hand.now ≡ coding Qcif p) }
     requires cif { whole.old.format ≡ Cif }
     requires fits { tr < 32 }
     ensures { (p : Picture) → IsValid Qcif p
-        → box_of place hand.now.one.value hand.now.two.value hand.now.three.value hand.now.four.value ≡ coding Qcif p
+        → box_of place hand.now ≡ coding Qcif p
         → whole.new ≡ coding Cif (shown_in place tr p) }
 {
     match place {

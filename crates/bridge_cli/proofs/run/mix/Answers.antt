@@ -1,7 +1,6 @@
 use Rattle.std.proofs.Common.{◌≡◌, ◌-◌, Bool, List, length, refl, sym, ◌∙◌, ap, subst}
 use Rattle.pel_model.specs.declared.Format.TheVariants.{Qcif}
 use Rattle.pel_model.specs.Accepts.{Accepts}
-use Rattle.bridge_cli.specs.Boxes.{IsToBeShown}
 use Rattle.bridge_cli.specs.FirstForm.{FirstForm, packet_bits}
 use Rattle.bridge_cli.specs.Pieces.{IsRest}
 use Rattle.bridge_cli.proofs.Forms.{rest-of-form, one-packet, form-octets}

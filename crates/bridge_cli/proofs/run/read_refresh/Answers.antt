@@ -1,11 +1,10 @@
-use Rattle.std.proofs.Common.{◌≡◌, ◌≤◌, Bool, true, false, length, Result, Ok, Err, sym, ◌∙◌, subst}
+use Rattle.std.proofs.Common.{◌≡◌, ◌≤◌, true, false, length, Result, Ok, Err, sym, ◌∙◌, subst}
 use Rattle.std.specs.Result.{IfOk, IsOk, is_err}
 use Rattle.h261_pic.specs.Coded.{Coding, coding}
 use Rattle.pel_model.specs.declared.Fault.{Fault}
 use Rattle.pel_model.specs.declared.Format.TheVariants.{Qcif}
 use Rattle.pel_model.specs.Accepts.{Accepts}
 use Rattle.pel_model.specs.Records.{Picture}
-use Rattle.bridge_cli.specs.Boxes.{IsToBeShown}
 use Rattle.bridge_cli.specs.FirstForm.{most_bits}
 use Rattle.bridge_cli.proofs.run.read_refresh.Goals as goal
 
