@@ -1,0 +1,4 @@
+pub mod Hall
+pub mod Stands
+pub mod Fields
+pub mod Taking
