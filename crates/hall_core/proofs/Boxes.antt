@@ -10,7 +10,7 @@ use Rattle.lane_ring.specs.Taking.{items_of, items_passed, former_item, slot_ite
 use Rattle.pel_model.specs.declared.Format.TheVariants.{Qcif}
 use Rattle.pel_model.specs.declared.held.Held.{Held}
 use Rattle.pel_model.specs.Lanes.{lane_room, last_of, may_follow, first_to_show}
-use Rattle.hall_core.specs.Fields.{IsQcifLane}
+use Rattle.hall_core.specs.Boxes.{IsQcifLane}
 
 abbrev pub IsQcifBox : Box Coding → Type 0
 IsQcifBox b = b.value.format ≡ Qcif

@@ -17,7 +17,8 @@ use Rattle.pel_model.specs.Lanes.{lane_room, last_of}
 use Rattle.pel_model.specs.Records.{Picture}
 use Rattle.pel_model.specs.Refresh.{is_refresh, IsRefresh}
 use Rattle.hall_core.specs.declared.hall.Hall.TheInside.{Inside}
-use Rattle.hall_core.specs.Fields.{value_of, ring_of, view_of, IsQcifLane, IsHall}
+use Rattle.hall_core.specs.Boxes.{value_of, ring_of, IsQcifLane}
+use Rattle.hall_core.specs.Fields.{view_of, IsHall}
 use Rattle.hall_core.specs.Hall.{RingView, HallView, is_over}
 use Rattle.hall_core.specs.Stands.{ring_behind, StandsFor}
 use Rattle.hall_core.proofs.Rings.{get-map, some-same, map-last, gap-ring, gap-others, post-ring, post-others, rings-step}

@@ -10,14 +10,8 @@ use Rattle.pel_model.specs.declared.Format.TheVariants.{Qcif}
 use Rattle.pel_model.specs.declared.chair.Command.{Command}
 use Rattle.pel_model.specs.declared.held.Held.{Held}
 use Rattle.stage_plan.specs.Places.{StandsFor as IsPlanOf}
+use Rattle.hall_core.specs.Boxes.{ring_of, IsQcifLane}
 use Rattle.hall_core.specs.Hall.{RingView, HallView}
-
-abbrev pub value_of : Box Coding → Coding
-value_of box = box.value
-
--- what contracts see of a lane of boxes
-abbrev pub ring_of : LaneView (Box Coding) → RingView
-ring_of lane = record { held = map (held_as value_of) lane.held; count = lane.count }
 
 abbrev pub view_of : Inside → HallView
 view_of a = record {
@@ -29,11 +23,6 @@ view_of a = record {
   limit = a.limit;
   ended = a.ended;
 }
-
--- every box of the lane has format QCIF
-pub record IsQcifLane (lane : LaneView (Box Coding)) : Type 0 where
-  pub held : All (λ (h : Held (Box Coding)). h.item.value.format ≡ Qcif) lane.held
-  pub spares : All (λ (b : Box Coding). b.value.format ≡ Qcif) lane.spares
 
 pub record IsHall (a : Inside) : Type 0 where
   pub lanes : length a.lanes.items ≡ a.plan.lanes

@@ -1,12 +1,13 @@
 -- Inner contracts alone use this; nothing here has to be believed.
 -- What a tick makes of a hall in one place, and for which lanes it waits then.
-use Rattle.std.specs.Prelude.{ℕ, Option, Some, None, List, [], slice_index_or, slice_set}
-use Rattle.std.specs.List.{after_first}
+use Rattle.std.specs.Prelude.{ℕ, ◌+◌, ◌^◌, ◌==◌, Bool, true, not, nat_lt, ◌&&◌, if◌then◌else◌, Option, Some, None, List, [], slice_index_or, slice_set, sum_by}
+use Rattle.std.specs.List.{after_first, list_any, range_with_len}
 use Rattle.h261_pic.specs.Coded.{Coding}
 use Rattle.pel_model.specs.declared.Quad.{Quad}
 use Rattle.pel_model.specs.declared.held.Held.{Held}
 use Rattle.pel_model.specs.declared.note.Take.{Take}
 use Rattle.pel_model.specs.Lanes.{may_follow, first_to_show}
+use Rattle.pel_model.specs.Plan.{places, is_lane}
 use Rattle.pel_model.specs.Takes.{serial_or}
 use Rattle.stage_plan.specs.PerPlace.{in_place, with_place}
 use Rattle.stage_plan.specs.Places.{lane_in}
@@ -52,3 +53,22 @@ behind_take hall q = record hall {
   rings = rings_behind hall q (lane_in hall.plan q);
   last = with_place hall.last q (serial_or (told_in hall q) (in_place hall.last q));
 }
+
+-- ---- for which lanes the conference waits
+
+-- the tenancy took nothing yet, or the serial behind the one it took last was given out and is not held
+abbrev pub is_ring_at_loss : Option ℕ → RingView → Bool
+is_ring_at_loss None ring = true
+is_ring_at_loss (Some last) ring =
+    nat_lt last ring.count && not (list_any (λ (h : Held Coding). h.serial == last + 1) ring.held)
+
+abbrev pub is_waited_at : HallView → ℕ → Quad → Bool
+is_waited_at hall c q =
+    is_lane c (lane_in hall.plan q) && is_ring_at_loss (in_place hall.last q) (ring_in hall c)
+
+abbrev pub is_waited_in : HallView → ℕ → Bool
+is_waited_in hall c = list_any (is_waited_at hall c) places
+
+abbrev pub waiting_in : HallView → ℕ
+waiting_in hall =
+    sum_by (λ c. if is_waited_in hall c then 2 ^ c else 0) (range_with_len 0 hall.plan.lanes)

@@ -1,6 +1,7 @@
 use Rattle.std.proofs.Common.{ℕ, ◌<◌, ◌≤◌, ◌∷◌, length, sym, subst, ◌∙◌, arith}
 use Rattle.pel_model.specs.History.{Post}
-use Rattle.hall_core.specs.Fields.{view_of, IsQcifLane}
+use Rattle.hall_core.specs.Boxes.{IsQcifLane}
+use Rattle.hall_core.specs.Fields.{view_of}
 use Rattle.hall_core.specs.Hall.{HallView}
 use Rattle.hall_core.specs.Stands.{StandsFor}
 use Rattle.hall_core.proofs.Boxes.{post-qcif, given-qcif}
