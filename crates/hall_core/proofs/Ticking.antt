@@ -1,5 +1,5 @@
 -- The four takes of a tick, one behind another, and the history with the tick.
-use Rattle.std.proofs.Common.{◌≡◌, ℕ, ◌+◌, ◌<◌, ◌≤◌, ◌≢◌, ◌==◌, Bool, true, false, Option, None, Some, List, [], ◌∷◌, length, map, set, slice_get, slice_set, refl, sym, ap, ap₂, subst, ◌∙◌, arith}
+use Rattle.std.proofs.Common.{◌≡◌, ℕ, ◌+◌, ◌<◌, ◌≢◌, ◌==◌, Bool, true, false, Option, None, Some, List, [], ◌∷◌, length, map, slice_get, refl, sym, ap, ap₂, ◌∙◌, arith}
 use Rattle.std.proofs.lemmas.Bool.Decides.{nat_tests}
 use Rattle.std.proofs.lemmas.Option.{get_or_from_slice_get, slice_get_within}
 use Rattle.std.specs.Option.{option_map}
@@ -12,10 +12,9 @@ use Rattle.pel_model.specs.declared.Format.TheVariants.{Qcif}
 use Rattle.pel_model.specs.declared.Quad.{Quad}
 use Rattle.pel_model.specs.declared.Quad.TheVariants.{One, Two, Three, Four}
 use Rattle.pel_model.specs.declared.held.Held.{Held}
-use Rattle.pel_model.specs.declared.note.Take.{Take}
 use Rattle.pel_model.specs.declared.note.TickNote.{TickNote}
-use Rattle.pel_model.specs.History.{History, Tick, arrivals, commands, lane_at, taken_in, total_of}
-use Rattle.pel_model.specs.Lanes.{held_above, first_to_show, low_after}
+use Rattle.pel_model.specs.History.{History, Tick, arrivals, commands, lane_at, taken_in}
+use Rattle.pel_model.specs.Lanes.{held_above, first_to_show}
 use Rattle.pel_model.specs.Plan.{is_lane}
 use Rattle.pel_model.specs.Records.{Picture}
 use Rattle.pel_model.specs.Regions.{number_of}
@@ -25,7 +24,7 @@ use Rattle.stage_plan.specs.Places.{lane_in}
 use Rattle.stage_plan.proofs.Standing.{seating}
 use Rattle.hall_core.specs.Hall.{RingView, HallView}
 use Rattle.hall_core.specs.Stands.{ring_behind, StandsFor, box_behind}
-use Rattle.hall_core.specs.Taking.{ring_in, next_of, next_in, told_as, told_in, left_in, drained, rings_behind, behind_take}
+use Rattle.hall_core.specs.Taking.{next_of, next_in, told_as, told_in, left_in, drained, rings_behind, behind_take}
 use Rattle.hall_core.proofs.Rings.{get-set-same, get-set-other}
 use Rattle.hall_core.proofs.Taking.{drained-map}
 
@@ -111,10 +110,13 @@ module _ (lanes : ℕ) (H : History) (hall : HallView) (q : Quad) (seat : lane_i
 module _ (hall : HallView) (H : History) (stands : StandsFor hall H) where
   abbrev pub after_one : HallView
   after_one = behind_take hall One
+
   abbrev pub after_two : HallView
   after_two = behind_take after_one Two
+
   abbrev pub after_three : HallView
   after_three = behind_take after_two Three
+
   abbrev pub after_four : HallView
   after_four = behind_take after_three Four
 

@@ -4,7 +4,7 @@ use Rattle.std.specs.List.{list_any, range_with_len, fold}
 use Rattle.std.proofs.Math.Nat.{two-pow-succ, pow-le-pow_right, mod-eq_of_lt}
 use Rattle.std.proofs.lemmas.List.FromFn.{sum_by-map-range_with_len_more}
 use Rattle.std.proofs.lemmas.Option.{get_or_from_slice_get}
-use Rattle.h261_pic.specs.Coded.{Coding, coding}
+use Rattle.h261_pic.specs.Coded.{coding}
 use Rattle.lane_ring.specs.Arrivals.{held_as}
 use Rattle.pel_model.specs.declared.Format.TheVariants.{Qcif}
 use Rattle.pel_model.specs.declared.Quad.{Quad}
@@ -12,11 +12,10 @@ use Rattle.pel_model.specs.declared.Quad.TheVariants.{One, Two, Three, Four}
 use Rattle.pel_model.specs.declared.held.Held.{Held}
 use Rattle.pel_model.specs.History.{History, arrivals, lane_at}
 use Rattle.pel_model.specs.Plan.{is_lane}
-use Rattle.pel_model.specs.Records.{Picture}
-use Rattle.pel_model.specs.Takes.{last_taken, held_pictures, is_held, is_at_loss, is_waited_for, waiting}
+use Rattle.pel_model.specs.Takes.{last_taken, held_pictures, is_at_loss, is_waited_for, waiting}
 use Rattle.stage_plan.specs.Places.{lane_in}
 use Rattle.stage_plan.specs.PerPlace.{in_place}
-use Rattle.hall_core.specs.Hall.{RingView, HallView}
+use Rattle.hall_core.specs.Hall.{HallView}
 use Rattle.hall_core.specs.Stands.{ring_behind, StandsFor}
 use Rattle.hall_core.specs.Taking.{ring_in, is_ring_at_loss, is_waited_in, waiting_in}
 

@@ -4,14 +4,11 @@ use Rattle.std.specs.Prelude.{◌≡◌, ◌*◌, ◌^◌, ◌≤◌, List, leng
 use Rattle.std.specs.Global.{Box}
 use Rattle.h261_pic.specs.Coded.{Coding}
 use Rattle.hall_core.specs.declared.hall.Hall.TheInside.{Inside}
-use Rattle.lane_ring.specs.Arrivals.{held_as}
 use Rattle.lane_ring.specs.Ring.{LaneView}
-use Rattle.pel_model.specs.declared.Format.TheVariants.{Qcif}
 use Rattle.pel_model.specs.declared.chair.Command.{Command}
-use Rattle.pel_model.specs.declared.held.Held.{Held}
 use Rattle.stage_plan.specs.Places.{StandsFor as IsPlanOf}
 use Rattle.hall_core.specs.Boxes.{ring_of, IsQcifLane}
-use Rattle.hall_core.specs.Hall.{RingView, HallView}
+use Rattle.hall_core.specs.Hall.{HallView}
 
 abbrev pub view_of : Inside → HallView
 view_of a = record {

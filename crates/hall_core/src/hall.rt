@@ -132,11 +132,7 @@ impl Hall {
     }
 
     /// A picture of a lane comes, and gets the lane's next serial. Gives another box, for the next picture.
-    pub fn post(
-        &mut self,
-        lane: u8,
-        item: Box<Coded>,
-    ) -> Result<Box<Coded>, Ended<Box<Coded>>>
+    pub fn post(&mut self, lane: u8, item: Box<Coded>) -> Result<Box<Coded>, Ended<Box<Coded>>>
         requires lane { lane < lanes_of self.old }
         requires format { item.value.format ≡ Qcif }
         requires finished { IsFinished item.value }

@@ -3,6 +3,6 @@
 
 mod hall;
 
-pub use hall::{Ended, Hall};
 pub use h261_pic::{Coded, Hand};
+pub use hall::{Ended, Hall};
 pub use pel_model::{Command, Quad, Reply, Take, TickNote};

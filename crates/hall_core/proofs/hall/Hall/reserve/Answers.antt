@@ -1,4 +1,4 @@
-use Rattle.std.proofs.Common.{◌≡◌, ℕ, ◌<◌, length, refl, ap, ◌∙◌, arith}
+use Rattle.std.proofs.Common.{◌<◌, length, refl, ap, ◌∙◌, arith}
 use Rattle.stage_plan.specs.PerPlace.{in_place}
 use Rattle.hall_core.proofs.Reserving.{empty-rings, none-taken}
 use Rattle.hall_core.proofs.hall.Hall.reserve.Goals as goal

@@ -42,8 +42,12 @@ returns-in_err-serial-clause-hall c =
     let a = c.self.inside in
     behind-is a c.args.place c.from.result c.of-last.result c.index_mut.result.now c.take.new.self
     (record {
-      hall = c.self.invariant; seat = sym c.at.ensures.lane ∙ c.in_ok-lane.was ∙ ap Some (sym c.from.ensures);
-      behind = c.of-last.ensures; here = c.index_mut.ensures.value; held = c.take.ensures.held; count = c.take.ensures.count;
+      hall = c.self.invariant;
+      seat = sym c.at.ensures.lane ∙ c.in_ok-lane.was ∙ ap Some (sym c.from.ensures);
+      behind = c.of-last.ensures;
+      here = c.index_mut.ensures.value;
+      held = c.take.ensures.held;
+      count = c.take.ensures.count;
     }) None a.last (sym c.in_err-serial.was ∙ c.take.ensures.serial) (with-same a.last c.args.place)
     ∙ ap (λ hall. behind_take hall c.args.place) c.self.view_is
 
@@ -52,8 +56,12 @@ returns-in_err-serial-clause-told c =
     c.from_residual-in_err-serial.ensures
     ∙ sym (told-is c.self.inside c.args.place c.from.result c.of-last.result c.index_mut.result.now c.take.new.self
     (record {
-      hall = c.self.invariant; seat = sym c.at.ensures.lane ∙ c.in_ok-lane.was ∙ ap Some (sym c.from.ensures);
-      behind = c.of-last.ensures; here = c.index_mut.ensures.value; held = c.take.ensures.held; count = c.take.ensures.count;
+      hall = c.self.invariant;
+      seat = sym c.at.ensures.lane ∙ c.in_ok-lane.was ∙ ap Some (sym c.from.ensures);
+      behind = c.of-last.ensures;
+      here = c.index_mut.ensures.value;
+      held = c.take.ensures.held;
+      count = c.take.ensures.count;
     }) None (sym c.in_err-serial.was ∙ c.take.ensures.serial))
     ∙ ap (λ hall. told_in hall c.args.place) c.self.view_is
 
@@ -61,8 +69,12 @@ pub returns-in_err-serial-clause-slot : goal.returns-in_err-serial-clause-slot
 returns-in_err-serial-clause-slot c =
     left-is c.self.inside c.args.place c.from.result c.of-last.result c.index_mut.result.now c.take.new.self
     (record {
-      hall = c.self.invariant; seat = sym c.at.ensures.lane ∙ c.in_ok-lane.was ∙ ap Some (sym c.from.ensures);
-      behind = c.of-last.ensures; here = c.index_mut.ensures.value; held = c.take.ensures.held; count = c.take.ensures.count;
+      hall = c.self.invariant;
+      seat = sym c.at.ensures.lane ∙ c.in_ok-lane.was ∙ ap Some (sym c.from.ensures);
+      behind = c.of-last.ensures;
+      here = c.index_mut.ensures.value;
+      held = c.take.ensures.held;
+      count = c.take.ensures.count;
     }) c.args.slot.now c.take.new.slot c.take.ensures.slot
     ∙ ap (λ hall. left_in (next_in hall c.args.place) c.args.slot.now.value) c.self.view_is
 
@@ -73,8 +85,12 @@ returns-clause-hall c =
     let a = c.self.inside in
     behind-is a c.args.place c.from.result c.of-last.result c.index_mut.result.now c.take.new.self
     (record {
-      hall = c.self.invariant; seat = sym c.at.ensures.lane ∙ c.in_ok-lane.was ∙ ap Some (sym c.from.ensures);
-      behind = c.of-last.ensures; here = c.index_mut.ensures.value; held = c.take.ensures.held; count = c.take.ensures.count;
+      hall = c.self.invariant;
+      seat = sym c.at.ensures.lane ∙ c.in_ok-lane.was ∙ ap Some (sym c.from.ensures);
+      behind = c.of-last.ensures;
+      here = c.index_mut.ensures.value;
+      held = c.take.ensures.held;
+      count = c.take.ensures.count;
     }) (Some c.in_ok-serial.serial) c.set.new.self (sym c.in_ok-serial.was ∙ c.take.ensures.serial) c.set.ensures
     ∙ ap (λ hall. behind_take hall c.args.place) c.self.view_is
 
@@ -83,8 +99,12 @@ returns-clause-told c =
     ap (λ (lane : ℕ). Some (record { lane = lane; serial = c.in_ok-serial.serial })) (sym c.from.ensures)
     ∙ sym (told-is c.self.inside c.args.place c.from.result c.of-last.result c.index_mut.result.now c.take.new.self
     (record {
-      hall = c.self.invariant; seat = sym c.at.ensures.lane ∙ c.in_ok-lane.was ∙ ap Some (sym c.from.ensures);
-      behind = c.of-last.ensures; here = c.index_mut.ensures.value; held = c.take.ensures.held; count = c.take.ensures.count;
+      hall = c.self.invariant;
+      seat = sym c.at.ensures.lane ∙ c.in_ok-lane.was ∙ ap Some (sym c.from.ensures);
+      behind = c.of-last.ensures;
+      here = c.index_mut.ensures.value;
+      held = c.take.ensures.held;
+      count = c.take.ensures.count;
     }) (Some c.in_ok-serial.serial) (sym c.in_ok-serial.was ∙ c.take.ensures.serial))
     ∙ ap (λ hall. told_in hall c.args.place) c.self.view_is
 
@@ -92,8 +112,12 @@ pub returns-clause-slot : goal.returns-clause-slot
 returns-clause-slot c =
     left-is c.self.inside c.args.place c.from.result c.of-last.result c.index_mut.result.now c.take.new.self
     (record {
-      hall = c.self.invariant; seat = sym c.at.ensures.lane ∙ c.in_ok-lane.was ∙ ap Some (sym c.from.ensures);
-      behind = c.of-last.ensures; here = c.index_mut.ensures.value; held = c.take.ensures.held; count = c.take.ensures.count;
+      hall = c.self.invariant;
+      seat = sym c.at.ensures.lane ∙ c.in_ok-lane.was ∙ ap Some (sym c.from.ensures);
+      behind = c.of-last.ensures;
+      here = c.index_mut.ensures.value;
+      held = c.take.ensures.held;
+      count = c.take.ensures.count;
     }) c.args.slot.now c.take.new.slot c.take.ensures.slot
     ∙ ap (λ hall. left_in (next_in hall c.args.place) c.args.slot.now.value) c.self.view_is
 

@@ -1,13 +1,11 @@
 use Rattle.std.proofs.Common.{◌≡◌, ℕ, ◌+◌, ◌∷◌, sym, ap, subst, ◌∙◌, arith}
-use Rattle.h261_pic.specs.Coded.{Coding}
-use Rattle.pel_model.specs.declared.Quad.{Quad}
 use Rattle.pel_model.specs.declared.Quad.TheVariants.{One, Two, Three, Four}
 use Rattle.pel_model.specs.declared.note.TickNote.{TickNote}
-use Rattle.pel_model.specs.History.{History, Tick}
+use Rattle.pel_model.specs.History.{Tick}
 use Rattle.pel_model.specs.Takes.{choice, waiting}
 use Rattle.hall_core.specs.Fields.{view_of}
 use Rattle.hall_core.specs.Hall.{HallView}
-use Rattle.hall_core.specs.Stands.{StandsFor, box_behind}
+use Rattle.hall_core.specs.Stands.{StandsFor}
 use Rattle.hall_core.specs.Taking.{behind_take, told_in, next_in, left_in, waiting_in}
 use Rattle.hall_core.proofs.Stepping.{goes-on}
 use Rattle.hall_core.proofs.Ticking.{IsTold, ticked, left-same, next-one, next-two, next-three, next-four, tick-stands, takes-told}
@@ -37,8 +35,13 @@ returns-clause-stands c H stands =
     let three = c.take-taken_three.ensures.hall ∙ ap (λ h. behind_take h Three) two in
     let four = c.take-taken_four.ensures.hall ∙ ap (λ h. behind_take h Four) three in
     let note : TickNote = record {
-      step = c.args.step; total = c.self.inside.total + c.from.result; taken_one = c.take-taken_one.result; taken_two = c.take-taken_two.result;
-      taken_three = c.take-taken_three.result; taken_four = c.take-taken_four.result; waiting = c.waiting-waiting.result;
+      step = c.args.step;
+      total = c.self.inside.total + c.from.result;
+      taken_one = c.take-taken_one.result;
+      taken_two = c.take-taken_two.result;
+      taken_three = c.take-taken_three.result;
+      taken_four = c.take-taken_four.result;
+      waiting = c.waiting-waiting.result;
     } in
     subst (λ (v : HallView). StandsFor (stepped v c.from.result) (Tick note ∷ H)) (sym (c.self.view_is ∙ four))
     (tick-stands c.args.self.now H stands c.from.result note (record {
@@ -57,8 +60,13 @@ returns-clause-legal c H stands legal =
     let four = c.take-taken_four.ensures.hall ∙ ap (λ h. behind_take h Four) three in
     let inside = c.self.view_is ∙ four in
     let note : TickNote = record {
-      step = c.args.step; total = c.self.inside.total + c.from.result; taken_one = c.take-taken_one.result; taken_two = c.take-taken_two.result;
-      taken_three = c.take-taken_three.result; taken_four = c.take-taken_four.result; waiting = c.waiting-waiting.result;
+      step = c.args.step;
+      total = c.self.inside.total + c.from.result;
+      taken_one = c.take-taken_one.result;
+      taken_two = c.take-taken_two.result;
+      taken_three = c.take-taken_three.result;
+      taken_four = c.take-taken_four.result;
+      waiting = c.waiting-waiting.result;
     } in
     let told : IsTold c.args.self.now H stands c.from.result note = record {
       is_step = sym c.from.ensures;
@@ -71,8 +79,7 @@ returns-clause-legal c H stands legal =
     let total : c.self.inside.total ≡ c.args.self.now.total = ap (λ (v : HallView). v.total) inside in
     let waits : waiting_in (stepped (view_of c.self.inside) c.from.result) ≡ waiting c.args.self.now.plan.lanes (Tick note ∷ H) =
     subst (λ (v : HallView). waiting_in (stepped v c.from.result) ≡ waiting c.args.self.now.plan.lanes (Tick note ∷ H)) (sym inside)
-    (waiting-same (ticked c.args.self.now H stands c.from.result) (Tick note ∷ H) ticks) in
-    (
+    (waiting-same (ticked c.args.self.now H stands c.from.result) (Tick note ∷ H) ticks) in (
       legal,
       sym stands.ended ∙ goes-on c.args.self.now (sym c.is_over.ensures ∙ c.if-is_over.false),
       record {

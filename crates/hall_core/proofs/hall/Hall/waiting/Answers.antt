@@ -9,10 +9,10 @@ loop-lane-preserved c =
     let n = c.loop-lane.lane in
     elim c.if-is_waited_for.branch [
       | then-is_waited_for w ↦
-        subst (λ (k : ℕ). (k ≡ waiting_below hall (n + 1)) × (k < 2 ^ (n + 1)))
-        (sym (w.waiting-is ∙ ap (λ (k : ℕ). c.loop-lane.waiting + k) (small-bit n (omega (arith, c.loop-lane-test.true, c.len-lane-end.ensures, c.self.invariant.lanes, c.self.invariant.most, c.self.inside.lanes.ok.0)))))
-        (with-bit hall n c.loop-lane.waiting c.loop-lane.invariant.0 c.loop-lane.invariant.1 (sym c.is_waited_for.ensures ∙ w.if-is_waited_for.true))
+          subst (λ (k : ℕ). (k ≡ waiting_below hall (n + 1)) × (k < 2 ^ (n + 1)))
+          (sym (w.waiting-is ∙ ap (λ (k : ℕ). c.loop-lane.waiting + k) (small-bit n (omega (arith, c.loop-lane-test.true, c.len-lane-end.ensures, c.self.invariant.lanes, c.self.invariant.most, c.self.inside.lanes.ok.0)))))
+          (with-bit hall n c.loop-lane.waiting c.loop-lane.invariant.0 c.loop-lane.invariant.1 (sym c.is_waited_for.ensures ∙ w.if-is_waited_for.true))
       | else-is_waited_for w ↦
-        subst (λ (k : ℕ). (k ≡ waiting_below hall (n + 1)) × (k < 2 ^ (n + 1))) (sym w.waiting-is)
-        (without-bit hall n c.loop-lane.waiting c.loop-lane.invariant.0 c.loop-lane.invariant.1 (sym c.is_waited_for.ensures ∙ w.if-is_waited_for.false))
+          subst (λ (k : ℕ). (k ≡ waiting_below hall (n + 1)) × (k < 2 ^ (n + 1))) (sym w.waiting-is)
+          (without-bit hall n c.loop-lane.waiting c.loop-lane.invariant.0 c.loop-lane.invariant.1 (sym c.is_waited_for.ensures ∙ w.if-is_waited_for.false))
     ]
