@@ -1,0 +1,5 @@
+pub mod Hall
+pub mod Stands
+pub mod Boxes
+pub mod Fields
+pub mod Taking
