@@ -3,8 +3,7 @@
 # ratios: bench/compose.sh [RUNS]
 # It proves and builds the programs first, in a temporary folder, over what earlier runs of rt kept in crates/*/out.
 set -eu
-here=$(cd "$(dirname "$0")" && pwd)
-. "$here/building.sh"
+. "$(dirname "$0")/lib.sh"
 
 say "making the pictures"
 python3 "$here/pictures.py" qcif 1000 3 0 ten_kbit > "$work/ten_kbit"

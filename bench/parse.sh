@@ -2,8 +2,7 @@
 # Measures h261_pic::parse against a plain walker in C, as ratios: bench/parse.sh [RUNS]
 # It proves and builds the program first, in a temporary folder, over what earlier runs of rt kept in crates/*/out.
 set -eu
-here=$(cd "$(dirname "$0")" && pwd)
-. "$here/building.sh"
+. "$(dirname "$0")/lib.sh"
 
 say "making the pictures"
 for format in qcif cif; do

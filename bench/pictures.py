@@ -1,8 +1,9 @@
 """Writes framed pictures that look like what encoders send: pictures.py FORMAT COUNT SEED DAMAGED [SIZE] > FILE
 
 FORMAT is qcif or cif. With DAMAGED 1 a bit of each picture is turned, or its end is cut off, so that about half of them are at fault.
-SIZE is usual, or for QCIF ten_kbit or limit: the greatest number of bits, where nearly each block is coded. A frame is a word of 32 bits, whose first is 1 for CIF and whose others are the number of the
-picture's bits, and the octets of these.
+SIZE is usual, or for QCIF ten_kbit or limit, where nearly each block is coded and the picture has almost the greatest number
+of bits. A frame is a word of 32 bits, whose first is 1 for CIF and whose others are the number of the picture's bits, and the
+octets of these.
 """
 import random
 import sys

@@ -1,5 +1,6 @@
-# What parse.sh and compose.sh share: a temporary folder, the pictures, and programs built in it. They source this file,
-# where `here` is its folder.
+# shellcheck shell=sh
+# What the measurements share: they work in $work, the scripts stand in $here, and programs are built by `build_c` and `build`.
+here=$(cd "$(dirname "$0")" && pwd)
 top=$(dirname "$here")
 export PYTHONDONTWRITEBYTECODE=1
 work=$(mktemp -d "${TMPDIR:-/tmp}/bench.XXXXXX")
@@ -44,7 +45,7 @@ build() {
     for crate in $(crates "$@"); do
         [ ! -d "$work/top/crates/$crate" ] || continue
         cp -R "$top/crates/$crate" "$work/top/crates/"
-        grep "^$crate[ :]" "$top/crates.txt" >> "$work/top/crates.txt"
+        grep "^${crate}[ :]" "$top/crates.txt" >> "$work/top/crates.txt"
     done
     cp "$top/HANDLES" "$work/top/"
     # they have other names here, since the gate takes no .rt file outside crates/
