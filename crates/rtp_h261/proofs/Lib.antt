@@ -1,3 +1,5 @@
 mod CutLemmas
 mod GivenLemmas
+mod PayloadLemmas
 mod StepLemmas
+mod TurnLemmas

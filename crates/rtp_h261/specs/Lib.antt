@@ -1,2 +1,6 @@
+pub mod Depack
+pub mod Packets
+pub mod Payload
 pub mod Steps
+pub mod Turns
 pub mod Units
