@@ -67,8 +67,8 @@ take_none (suc n) = refl
 
 take_both : (m n : ℕ) (xs : List Bool) → take m (take n xs) ≡ take (min n m) xs
 take_both m n [] = ap (take m) (take_none n) ∙ take_none m ∙ sym (take_none (min n m))
-take_both zero n (x ∷ xs) = ap (λ k. take k (x ∷ xs)) (omega arith)
-take_both (suc m) zero (x ∷ xs) = ap (λ k. take k (x ∷ xs)) (omega arith)
+take_both zero n (x ∷ xs) = ap (λ k. take k (x ∷ xs)) {x = 0} {y = min n 0} (omega arith)
+take_both (suc m) zero (x ∷ xs) = ap (λ k. take k (x ∷ xs)) {x = 0} {y = min 0 (suc m)} (omega arith)
 take_both (suc m) (suc n) (x ∷ xs) =
     let e : suc (min n m) ≡ min (suc n) (suc m) = omega arith in
     ap (λ (ys : List Bool). x ∷ ys) (take_both m n xs) ∙ ap (λ k. take k (x ∷ xs)) e

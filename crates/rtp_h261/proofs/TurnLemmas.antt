@@ -1,6 +1,6 @@
 -- What a turn of the code's depacketiser gives.
-use Rattle.std.proofs.Common.{◌≡◌, ℕ, zero, suc, ◌+◌, ◌-◌, ◌<◌, ◌≤◌, ◌==◌, nat_le, Bool, true, false, ◌&&◌, if◌then◌else◌, List, [], ◌∷◌, ◌++◌, Option, None, Some, length, min, not, take, refl, sym, ap, ap₂, subst, ◌∙◌, arith, length-append, length-take}
-use Rattle.std.proofs.lemmas.List.{take-take}
+use Rattle.std.proofs.Common.{◌≡◌, ℕ, zero, suc, ◌+◌, ◌-◌, ◌<◌, ◌≤◌, ◌==◌, nat_le, Bool, true, false, ◌&&◌, if◌then◌else◌, List, [], ◌∷◌, ◌++◌, Option, None, Some, option_map, map, ◌%◌, length, min, not, take, refl, sym, ap, ap₂, subst, ◌∙◌, arith, length-append, length-take}
+use Rattle.std.proofs.lemmas.List.{take-take, length-map, map-append}
 use Rattle.std.proofs.Math.Seq.{take-append-add}
 use Rattle.std.proofs.lemmas.Bool.Decides.{nat_tests}
 use Rattle.pel_bits.specs.Bits.{number}
@@ -12,10 +12,12 @@ use Rattle.rtp_h261.specs.declared.depack.Unit.{Unit as Ended}
 use Rattle.rtp_h261.specs.declared.depack.Unit.TheVariants.{Picture, Gap}
 use Rattle.rtp_h261.specs.declared.depack.Carried.{Carried}
 use Rattle.rtp_h261.specs.declared.depack.Fed.{Fed}
-use Rattle.rtp_h261.specs.Depack.{IsUnit, HasUnit, Answers}
-use Rattle.rtp_h261.specs.Steps.{Mode, Seek, Idle, Collect, closed, starting, collected}
-use Rattle.rtp_h261.specs.Turns.{Carries, Turned}
-use Rattle.rtp_h261.specs.Units.{Piece, Given, is_starter}
+use Rattle.rtp_h261.specs.Depack.{IsUnit, HasUnit, Answers, Held, StandsFor, given_behind}
+use Rattle.rtp_h261.specs.Packets.{piece_of}
+use Rattle.rtp_h261.specs.Steps.{Mode, Seek, Idle, Collect, State, state_of, closed, starting, collected, turned, is_refused, follows, moved, step, kept_given}
+use Rattle.rtp_h261.specs.Turns.{Carries, Turned, Stepped}
+use Rattle.rtp_h261.specs.Units.{Piece, Given, nothing, is_starter, fed}
+use Rattle.rtp_h261.proofs.StepLemmas.{step_law}
 
 -- what is kept of a unit's bits says what the unit is
 pub kept_unit : (format : Format) (bits : List Bool) (unit : Ended) (coded : Coding) → IsUnit format (take (kept_length format) bits) unit coded → IsUnit format bits unit coded
@@ -68,14 +70,14 @@ unit_turn format lost c p b unit old new h is holds marked is_unit =
     ap (λ (m : Bool). closed lost c.stamp c.bits m) (sym marked) ∙ started format lost c p b h is holds in
     subst (λ t. Turned format t Idle (record { lost = lost; unit = Some unit }) old new) e (record { mode = refl; given = record { lost = refl; unit = is_unit } })
 
-pub collect_turn : (format : Format) (lost : Bool) (c : Carried) (p : Piece) (b : Bool) (old : Coding) → Carries (kept_length format) c p
-    → b ≡ starts c.bits → b ≡ true → c.marker ≡ false
-    → Turned format (starting (kept_length format) lost p) (Collect c.stamp c.bits) (record { lost = lost; unit = None }) old old
-collect_turn format lost c p b old h is holds unmarked =
+pub collect_turn : (format : Format) (lost : Bool) (c : Carried) (p : Piece) (b : Bool) (all : List Bool) (old : Coding) → Carries (kept_length format) c p
+    → b ≡ starts c.bits → b ≡ true → c.marker ≡ false → all ≡ c.bits
+    → Turned format (starting (kept_length format) lost p) (Collect c.stamp all) (record { lost = lost; unit = None }) old old
+collect_turn format lost c p b all old h is holds unmarked whole =
     let g : Given = record { lost = lost; unit = None } in
-    let e : (Collect c.stamp c.bits, g) ≡ starting (kept_length format) lost p =
-    ap (λ (m : Bool). closed lost c.stamp c.bits m) (sym unmarked) ∙ started format lost c p b h is holds in
-    subst (λ t. Turned format t (Collect c.stamp c.bits) (record { lost = lost; unit = None }) old old) e (record { mode = refl; given = record { lost = refl; unit = refl } })
+    let e : (Collect c.stamp all, g) ≡ starting (kept_length format) lost p =
+    ap (λ (xs : List Bool). (Collect c.stamp xs, g)) whole ∙ ap (λ (m : Bool). closed lost c.stamp c.bits m) (sym unmarked) ∙ started format lost c p b h is holds in
+    subst (λ t. Turned format t (Collect c.stamp all) (record { lost = lost; unit = None }) old old) e (record { mode = refl; given = record { lost = refl; unit = refl } })
 
 -- ---- a packet in a run
 
@@ -85,7 +87,7 @@ take_none (suc n) = refl
 
 take_min : (n : ℕ) (xs : List Bool) → take (min (length xs) n) xs ≡ take n xs
 take_min n [] = take_none (min 0 n) ∙ sym (take_none n)
-take_min zero (x ∷ xs) = ap (λ k. take k (x ∷ xs)) (omega arith)
+take_min zero (x ∷ xs) = ap (λ k. take k (x ∷ xs)) {x = min (length (x ∷ xs)) 0} {y = 0} (omega arith)
 take_min (suc n) (x ∷ xs) =
     let e : min (suc (length xs)) (suc n) ≡ suc (min (length xs) n) = omega arith in
     ap (λ k. take k (x ∷ xs)) e ∙ ap (λ (ys : List Bool). x ∷ ys) (take_min n xs)
@@ -124,3 +126,66 @@ pub idle_turn : (format : Format) (joined lost : Bool) (c : Carried) (p : Piece)
 idle_turn format joined lost c p now answer old new h is turn =
     subst (λ l. Turned format (starting (kept_length format) l p) now answer old new)
     (is ∙ ap (λ (b : Bool). not (joined && b)) (sym (starter_is format c p (starts c.bits) h refl))) turn
+
+-- ---- a step
+
+-- what is kept of what is given says the same
+kept_has : (format : Format) (unit : Option (List Bool)) (answer : Option Ended) (old new : Coding)
+    → HasUnit format (option_map (take (kept_length format)) unit) answer old new → HasUnit format unit answer old new
+kept_has format None None old new h = h
+kept_has format None (Some u) old new h = h
+kept_has format (Some bits) None old new h = h
+kept_has format (Some bits) (Some u) old new h = kept_unit format bits u new h
+
+kept_answers : (format : Format) (g : Given) (answer : Fed) (old new : Coding) → Answers format (kept_given (kept_length format) g) answer old new
+    → Answers format g answer old new
+kept_answers format g answer old new h = record { lost = h.lost; unit = kept_has format g.unit answer.unit old new h.unit }
+
+pub refused_step : (format : Format) (state : State) (p : Piece) (answer : Fed) (old : Coding) → is_refused state.next p ≡ true
+    → answer ≡ record { lost = false; unit = None } → Stepped format (step (kept_length format) state (Some p)) state answer old old
+unfolding step
+refused_step format state p answer old late is =
+    let room = kept_length format in
+    let e : (state, nothing) ≡ step room state (Some p) =
+    ap (λ (b : Bool). if b then (state, nothing) else moved p (turned room (follows state.next p) state.mode p)) (sym late) in
+    subst (λ t. Stepped format t state answer old old) e (record { state = refl; given = record { lost = ap (λ (f : Fed). f.lost) is; unit = rw is refl } })
+
+pub moved_step : (format : Format) (state : State) (p : Piece) (number : ℕ) (joined : Bool) (now : Mode) (answer : Fed) (old new : Coding)
+    → number ≡ p.number → is_refused state.next p ≡ false → joined ≡ follows state.next p
+    → Turned format (turned (kept_length format) joined state.mode p) now answer old new
+    → Stepped format (step (kept_length format) state (Some p)) (record { next = Some ((number + 1) % 65536); mode = now }) answer old new
+unfolding step
+moved_step format state p number joined now answer old new same early is turn =
+    let room = kept_length format in
+    let t = turned room joined state.mode p in
+    let e : moved p t ≡ step room state (Some p) =
+    ap (λ (b : Bool). moved p (turned room b state.mode p)) is
+    ∙ ap (λ (b : Bool). if b then (state, nothing) else moved p (turned room (follows state.next p) state.mode p)) (sym early) in
+    subst (λ (s : State × Given). Stepped format s (record { next = Some ((number + 1) % 65536); mode = now }) answer old new) e
+    (record { state = ap₂ (λ (n : ℕ) (m : Mode). record { next = Some ((n + 1) % 65536); mode = m }) same turn.mode; given = turn.given })
+
+pub unused_step : (format : Format) (state : State) (answer : Fed) (old : Coding)
+    → answer ≡ record { lost = false; unit = None } → Stepped format (step (kept_length format) state None) state answer old old
+unfolding step
+unused_step format state answer old is = record { state = refl; given = record { lost = ap (λ (f : Fed). f.lost) is; unit = rw is refl } }
+
+-- ---- all packets
+
+one_more : (format : Format) (packets : List (List ℕ)) (packet : List ℕ) (d : Held) → StandsFor packets d → d.format ≡ format
+    → step (kept_length format) d.state (piece_of packet)
+    ≡ (state_of (kept_length format) (map piece_of (packets ++ packet ∷ [])), kept_given (kept_length format) (given_behind packets packet))
+one_more format packets packet d stands is =
+    let room = kept_length format in
+    let all : map piece_of (packets ++ packet ∷ []) ≡ map piece_of packets ++ piece_of packet ∷ [] = map-append piece_of packets (packet ∷ []) in
+    let count : length packets ≡ length (map piece_of packets) = sym (length-map packets piece_of) in
+    ap (λ (s : State). step room s (piece_of packet)) (stands ∙ ap (λ (f : Format). state_of (kept_length f) (map piece_of packets)) is)
+    ∙ step_law room (map piece_of packets) (piece_of packet)
+    ∙ ap₂ (λ (ps : List (Option Piece)) (i : ℕ). (state_of room ps, kept_given room (fed ps i))) (sym all) (sym count)
+
+pub feeds : (packets : List (List ℕ)) (packet : List ℕ) (d : Held) (o : Option Piece) (now : State) (answer : Fed) (old new : Coding) → StandsFor packets d → piece_of packet ≡ o
+    → Stepped d.format (step (kept_length d.format) d.state o) now answer old new
+    → (now ≡ state_of (kept_length d.format) (map piece_of (packets ++ packet ∷ []))) × Answers d.format (given_behind packets packet) answer old new
+feeds packets packet d o now answer old new stands is h =
+    let e = ap (λ (x : Option Piece). step (kept_length d.format) d.state x) (sym is) ∙ one_more d.format packets packet d stands refl in
+    let t = subst (λ (s : State × Given). Stepped d.format s now answer old new) e h in
+    (t.state, kept_answers d.format (given_behind packets packet) answer old new t.given)

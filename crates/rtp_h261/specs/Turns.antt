@@ -34,6 +34,11 @@ pub record Carries (room : ℕ) (c : Carried) (p : Piece) : Type 0 where
   pub marker : c.marker ≡ p.marker
   pub bits : c.bits ≡ take room p.bits
 
+-- what it has where a packet is usable, and nothing where it is not
+abbrev pub CarriesIf : ℕ → Option Carried → Option Piece → Type 0
+CarriesIf room None piece = piece ≡ None
+CarriesIf room (Some c) piece = (p : Piece) × (piece ≡ Some p) × Carries room c p × (length c.bits ≤ room)
+
 -- the mode behind a turn, and an answer that is what it gives
 pub record Turned (format : Format) (turn : Mode × Given) (now : Mode) (answer : Fed) (old new : Coding) : Type 0 where
   pub mode : now ≡ turn.0

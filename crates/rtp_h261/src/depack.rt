@@ -1,18 +1,19 @@
 //! Pictures from packets, one packet at a time.
-ghost use Rattle.std.specs.Prelude.{◌≡◌, ℕ, List, [], ◌∷◌, ◌++◌, ◌≤◌, false, not, ◌&&◌, ◌==◌, nat_le, Bool, true, IfOk, IfSome, MatchOption, None, Some, length, take, map};
+ghost use Rattle.std.specs.Prelude.{◌≡◌, ℕ, List, [], ◌∷◌, ◌++◌, ◌≤◌, false, not, ◌&&◌, ◌==◌, nat_le, Bool, true, IfOk, MatchOption, None, Ok, Some, length, take, map};
 ghost use Rattle.pel_bits.specs.Bits.{bits, number};
 ghost use Rattle.picture_laws.specs.Laws.{kept_length};
+ghost use Rattle.rtp_wire.specs.Rtp.{seen};
 ghost use Rattle.rtp_h261.specs.Depack.{StandsFor, Answers, FinishedAt, IsUnit, given_behind};
-ghost use Rattle.rtp_h261.specs.Packets.{piece_of, is_usable, carried};
+ghost use Rattle.rtp_h261.specs.Packets.{carried, is_usable, piece_of, piece_of_read};
 ghost use Rattle.rtp_h261.specs.Steps.{starting, collected, turned, step, is_refused, follows};
-ghost use Rattle.rtp_h261.specs.Turns.{Carries, HasRoom, Stepped, Turned, mode_of};
+ghost use Rattle.rtp_h261.specs.Turns.{Carries, CarriesIf, HasRoom, Stepped, Turned, mode_of};
 ghost use Rattle.rtp_h261.specs.Units.{Piece};
 
 use crate::payload::read_payload;
 use h261_pic::{Coded, parse};
 use pel_bits::{BitBuf, Bits, NoMemory};
 use pel_model::{Fault, Format};
-use rtp_wire::read_packet;
+use rtp_wire::{Packet, read_packet};
 use std::alloc::Global;
 use std::marker::Model;
 
@@ -69,18 +70,25 @@ struct Carried<'a> {
 // What a packet brings, where it is usable, with the first `room` of its bits.
 fn usable(packet: &[u8], room: u32) -> Option<Carried<'_>>
     requires { room ≤ 500000 }
-    ensures short { IfSome result (λ c. length c.bits ≤ room) }
-    ensures piece { MatchOption result (piece_of packet.now ≡ None) (λ c.
-        (p : Piece) × (piece_of packet.now ≡ Some p) × Carries room c p) }
+    ensures { CarriesIf room result (piece_of packet.now) }
 {
-    let Ok(read) = read_packet(packet) else {
-        return None;
-    };
+    match read_packet(packet) {
+        Ok(read) => carried_by(read, room),
+        Err(_) => None,
+    }
+}
+
+// The same of a packet that was read.
+fn carried_by(read: Packet<'_>, room: u32) -> Option<Carried<'_>>
+    requires { room ≤ 500000 }
+    ensures { CarriesIf room result (piece_of_read (Ok (seen read.entry))) }
+{
+    let bits = bits_behind(read.payload, room)?;
     Some(Carried {
         seq: read.seq,
         stamp: read.stamp,
         marker: read.marker,
-        bits: bits_behind(read.payload, room)?,
+        bits,
     })
 }
 

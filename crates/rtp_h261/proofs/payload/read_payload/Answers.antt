@@ -12,18 +12,30 @@ returns c =
     let across : to_z w8 (of_z w8 c.from_five_bits.result) ≡ c.from_five_bits.result = to_z-of_z w8 c.from_five_bits.result (search rules) in
     let down : to_z w8 (of_z w8 c.from_five_bits-2.result) ≡ c.from_five_bits-2.result = to_z-of_z w8 c.from_five_bits-2.result (search rules) in
     let h : PayloadHeader = record {
-      sbit = c.field_at.result; ebit = c.field_at-2.result; i = c.flag_at.result; v = c.flag_at-2.result; gobn = c.field_at-3.result;
-      mbap = c.field_at-4.result; quant = c.field_at-5.result; hmvd = c.from_five_bits.result; vmvd = c.from_five_bits-2.result;
+      sbit = c.field_at.result;
+      ebit = c.field_at-2.result;
+      i = c.flag_at.result;
+      v = c.flag_at-2.result;
+      gobn = c.field_at-3.result;
+      mbap = c.field_at-4.result;
+      quant = c.field_at-5.result;
+      hmvd = c.from_five_bits.result;
+      vmvd = c.from_five_bits-2.result;
     } in
     rw (across, down) (
       omega (arith, c.if-b-lt4.false),
       record {
-        sbit = c.field_at.ensures.small; ebit = c.field_at-2.ensures.small; gobn = c.field_at-3.ensures.small;
-        mbap = c.field_at-4.ensures.small; quant = c.field_at-5.ensures.small; hmvd = c.from_five_bits.ensures.fits; vmvd = c.from_five_bits-2.ensures.fits;
+        sbit = c.field_at.ensures.small;
+        ebit = c.field_at-2.ensures.small;
+        gobn = c.field_at-3.ensures.small;
+        mbap = c.field_at-4.ensures.small;
+        quant = c.field_at-5.ensures.small;
+        hmvd = c.from_five_bits.ensures.fits;
+        vmvd = c.from_five_bits-2.ensures.fits;
       },
       header_is h c.new-bits.result c.field_at.ensures.value c.field_at-2.ensures.value c.flag_at.ensures c.flag_at-2.ensures
-      c.field_at-3.ensures.value c.field_at-4.ensures.value c.field_at-5.ensures.value
-      (ap (λ (n : ℕ). field n 5) c.from_five_bits.ensures.value ∙ c.field_at-6.ensures.value)
-      (ap (λ (n : ℕ). field n 5) c.from_five_bits-2.ensures.value ∙ c.field_at-7.ensures.value)
-      ∙ ap (take 32) c.new-bits.ensures.value ∙ take-take 32 32 (bits c.args.b.now) (omega arith),
+          c.field_at-3.ensures.value c.field_at-4.ensures.value c.field_at-5.ensures.value
+          (ap (λ (n : ℕ). field n 5) c.from_five_bits.ensures.value ∙ c.field_at-6.ensures.value)
+          (ap (λ (n : ℕ). field n 5) c.from_five_bits-2.ensures.value ∙ c.field_at-7.ensures.value)
+          ∙ ap (take 32) c.new-bits.ensures.value ∙ take-take 32 32 (bits c.args.b.now) (omega arith),
     )

@@ -1,9 +1,8 @@
 -- A packet outside a run is skipped, is a unit, or begins to collect.
-use Rattle.std.proofs.Common.{◌≡◌, ◌∙◌, sym, subst, ap, Bool, List, take, length, true, false, arith}
+use Rattle.std.proofs.Common.{◌≡◌, ◌∙◌, ◌++◌, sym, subst, ap, Bool, List, take, length, true, false, arith}
 use Rattle.std.proofs.Math.Seq.{take-length}
+use Rattle.pel_bits.specs.Buffer.{Buffer}
 use Rattle.rtp_h261.specs.Depack.{IsUnit}
-use Rattle.rtp_h261.specs.Steps.{Collect}
-use Rattle.rtp_h261.specs.Turns.{Turned}
 use Rattle.rtp_h261.proofs.TurnLemmas.{skip_turn, unit_turn, collect_turn}
 use Rattle.rtp_h261.proofs.depack.Collector.start.Goals as goal
 
@@ -21,7 +20,7 @@ returns-then-packet-clause-turned c p h =
 pub returns-clause-turned : goal.returns-clause-turned
 returns-clause-turned c p h =
     let whole : c.append.new.self.list ≡ c.args.packet.now.bits =
-    ap (λ b. b.list) c.append.ensures.value ∙ ap (λ b. b.list ++ c.slice-bits.result) c.clear.ensures
+    ap (λ (b : Buffer). b.list) c.append.ensures.value ∙ ap (λ (b : Buffer). b.list ++ c.slice-bits.result) c.clear.ensures
     ∙ c.slice-bits.ensures.value ∙ ap (λ k. take k c.args.packet.now.bits) c.len.ensures ∙ take-length c.args.packet.now.bits in
-    subst (λ (xs : List Bool). Turned c.args.self.now.format _ (Collect c.args.packet.now.stamp xs) _ c.args.into.now c.args.into.now) (sym whole)
-    (collect_turn c.args.self.now.format c.args.lost c.args.packet.now p c.starts_picture.result c.args.into.now h c.starts_picture.ensures c.if-not-starts_picture.false c.if-packet.false)
+    collect_turn c.args.self.now.format c.args.lost c.args.packet.now p c.starts_picture.result c.append.new.self.list c.args.into.now h c.starts_picture.ensures c.if-not-starts_picture.false
+    c.if-packet.false whole
