@@ -1,5 +1,5 @@
 -- The payload header of H.261 over RTP (RFC 4587, 4.1): four octets in front of the bits.
-use Rattle.std.specs.Prelude.{◌≡◌, ℕ, ◌+◌, ◌-◌, ◌%◌, ◌^◌, ◌<◌, Bool, ℤ, pos, negsuc, List, [], ◌∷◌, ◌++◌}
+use Rattle.std.specs.Prelude.{◌≡◌, ◌≢◌, ℕ, ◌+◌, ◌-◌, ◌%◌, ◌^◌, ◌<◌, Bool, ℤ, pos, negsuc, List, [], ◌∷◌, ◌++◌}
 use Rattle.pel_bits.specs.Bits.{field}
 use Rattle.rtp_h261.specs.declared.payload.PayloadHeader.{PayloadHeader}
 
@@ -21,6 +21,12 @@ pub record AreWidths (h : PayloadHeader) : Type 0 where
   pub quant : h.quant < 2 ^ 5
   pub hmvd : FitsFiveBits h.hmvd
   pub vmvd : FitsFiveBits h.vmvd
+
+-- no vector is -16, which has no meaning in a packet
+pub record CanBeSent (h : PayloadHeader) : Type 0 where
+  pub widths : AreWidths h
+  pub across : h.hmvd ≢ negsuc 15
+  pub down : h.vmvd ≢ negsuc 15
 
 -- SBIT 3 bits, EBIT 3, I 1, V 1, GOBN 4, MBAP 5, QUANT 5, HMVD 5, VMVD 5
 abbrev pub header_bits : PayloadHeader → List Bool

@@ -4,7 +4,9 @@
 mod depack;
 mod laws;
 mod payload;
+mod unit_end;
 
 pub use depack::{Depack, Fed, Unit};
-pub use laws::packets_one_by_one;
-pub use payload::{PayloadHeader, read_payload};
+pub use laws::{one_header, packets_one_by_one, worked_packets};
+pub use payload::{PayloadHeader, read_payload, write_payload};
+pub use unit_end::{UnitEnd, UnitStop};

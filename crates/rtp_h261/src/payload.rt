@@ -1,7 +1,8 @@
 //! The payload header of H.261 over RTP (RFC 4587, 4.1).
-ghost use Rattle.std.specs.Prelude.{◌≡◌, ◌+◌, ◌^◌, ◌<◌, ◌≤◌, [], ◌∷◌, length, take, drop, MatchOption};
+ghost use Rattle.std.specs.Prelude.{◌≡◌, ◌+◌, ◌^◌, ◌<◌, ◌≤◌, [], ◌∷◌, length, take, drop, MatchOption, Some};
 ghost use Rattle.pel_bits.specs.Bits.{bits, field};
-ghost use Rattle.rtp_h261.specs.Payload.{AreWidths, FitsFiveBits, header_bits, in_five_bits};
+ghost use Rattle.rtp_h261.specs.declared.payload.PayloadHeader.{PayloadHeader as PayloadHeaderOf};
+ghost use Rattle.rtp_h261.specs.Payload.{AreWidths, CanBeSent, FitsFiveBits, header_bits, in_five_bits};
 
 use byteorder::{BigEndian, ByteOrder};
 use pel_bits::Bits;
@@ -31,8 +32,10 @@ pub struct PayloadHeader {
 
 /// Reads the payload header, the first four octets of a packet's payload. None where there are fewer.
 pub fn read_payload(b: &[u8]) -> Option<PayloadHeader>
-    ensures { MatchOption result (length b.now < 4) (λ h.
+    ensures exact { MatchOption result (length b.now < 4) (λ h.
         (4 ≤ length b.now) × AreWidths h × (header_bits h ≡ take 32 (bits b.now))) }
+    ensures only { (h : PayloadHeaderOf) → AreWidths h → 4 ≤ length b.now →
+        header_bits h ≡ take 32 (bits b.now) → result ≡ Some h }
 {
     if b.len() < 4 {
         return None;
@@ -49,6 +52,49 @@ pub fn read_payload(b: &[u8]) -> Option<PayloadHeader>
         hmvd: from_five_bits(field_at(&bits, 22, 5)),
         vmvd: from_five_bits(field_at(&bits, 27, 5)),
     })
+}
+
+/// Writes the payload header. Each field has to fit its width, and no vector is -16 (RFC 4587, 4.1).
+pub fn write_payload(h: PayloadHeader, out: &mut [u8; 4])
+    requires { CanBeSent h }
+    ensures { bits out.new ≡ header_bits h }
+{
+    write_word(word_of(&h), out);
+}
+
+// The header as a number of 32 bits.
+fn word_of(h: &PayloadHeader) -> u32
+    requires { CanBeSent h.now }
+    ensures { field result 32 ≡ header_bits h.now }
+{
+    let places = u32::from(h.sbit) * 8 + u32::from(h.ebit);
+    let flags = places * 4 + u32::from(h.i) * 2 + u32::from(h.v);
+    let group = flags * 16 + u32::from(h.gobn);
+    let address = group * 32 + u32::from(h.mbap);
+    let quantiser = address * 32 + u32::from(h.quant);
+    let across = quantiser * 32 + u32::from(to_five_bits(h.hmvd));
+    across * 32 + u32::from(to_five_bits(h.vmvd))
+}
+
+// The octets of a number, the highest first.
+fn write_word(word: u32, out: &mut [u8])
+    requires { length out.old ≡ 4 }
+    ensures { bits out.new ≡ field word 32 }
+{
+    BigEndian::write_u32(out, word);
+}
+
+// Two's complement in 5 bits.
+fn to_five_bits(number: i8) -> u8
+    requires { FitsFiveBits number }
+    ensures small { result < 32 }
+    ensures value { result ≡ in_five_bits number }
+{
+    if number < 0 {
+        (number + 32) as u8
+    } else {
+        number as u8
+    }
 }
 
 // The field of `width` bits, 8 at most, from bit `from` on.

@@ -9,7 +9,7 @@ pub returns-then-there-away : goal.returns-then-there-away
 returns-then-there-away c =
     let h = c.in_ok-header.header in
     let octets = c.args.payload.now in
-    let e = c.in_ok-header.ensures in
+    let e = c.in_ok-header.ensures.exact in
     let size : length (take (length octets - 4) (drop 4 octets)) ≡ length octets - 4 = omega (arith, length-take (length octets - 4) (drop 4 octets), length-drop 4 octets) in
     not_usable h octets e.1 e.2 (omega (arith, c.min.ensures, size, c.from.ensures, c.from-2.ensures, c.if-there-away.true))
 
@@ -17,7 +17,7 @@ pub returns : goal.returns
 returns c =
     let h = c.in_ok-header.header in
     let octets = c.args.payload.now in
-    let e = c.in_ok-header.ensures in
+    let e = c.in_ok-header.ensures.exact in
     let size : length (take (length octets - 4) (drop 4 octets)) ≡ length octets - 4 = omega (arith, length-take (length octets - 4) (drop 4 octets), length-drop 4 octets) in
     let rest : take (length octets - 4) (drop 4 octets) ≡ drop 4 octets =
     ap (λ (k : ℕ). take k (drop 4 octets)) (sym (length-drop 4 octets)) ∙ take-length (drop 4 octets) in
