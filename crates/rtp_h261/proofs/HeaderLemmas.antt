@@ -11,9 +11,10 @@ use Rattle.rtp_h261.specs.Payload.{AreWidths, FitsFiveBits, header_bits, in_five
 -- ---- one header has these bits
 
 split : (xs us ys vs : List Bool) → length xs ≡ length us → xs ++ ys ≡ us ++ vs → (xs ≡ us) × (ys ≡ vs)
-split xs us ys vs long same =
-    (sym (take_at xs ys (length xs) refl) ∙ ap (take (length xs)) same ∙ take_at us vs (length xs) (sym long),
-    sym (drop_at xs ys (length xs) refl) ∙ ap (drop (length xs)) same ∙ drop_at us vs (length xs) (sym long))
+split xs us ys vs long same = (
+  sym (take_at xs ys (length xs) refl) ∙ ap (take (length xs)) same ∙ take_at us vs (length xs) (sym long),
+  sym (drop_at xs ys (length xs) refl) ∙ ap (drop (length xs)) same ∙ drop_at us vs (length xs) (sym long),
+)
 
 field_split : (m n w : ℕ) (ys vs : List Bool) → m < 2 ^ w → n < 2 ^ w → field m w ++ ys ≡ field n w ++ vs → (m ≡ n) × (ys ≡ vs)
 field_split m n w ys vs a b same =

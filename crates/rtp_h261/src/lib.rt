@@ -10,3 +10,6 @@ pub use depack::{Depack, Fed, Unit};
 pub use laws::{one_header, packets_one_by_one, worked_packets};
 pub use payload::{PayloadHeader, read_payload, write_payload};
 pub use unit_end::{UnitEnd, UnitStop};
+
+#[cfg(test)]
+mod tests;
