@@ -1,7 +1,8 @@
-"""Writes framed pictures that look like what encoders send: pictures.py FORMAT COUNT SEED DAMAGED > FILE
+"""Writes framed pictures that look like what encoders send: pictures.py FORMAT COUNT SEED DAMAGED [SIZE] > FILE
 
 FORMAT is qcif or cif. With DAMAGED 1 a bit of each picture is turned, or its end is cut off, so that about half of them are at fault.
-A frame is a word of 32 bits, whose first is 1 for CIF and whose others are the number of the picture's bits, and the
+SIZE is usual, or for QCIF ten_kbit or limit, where nearly each block is coded and the picture has almost the greatest number
+of bits. A frame is a word of 32 bits, whose first is 1 for CIF and whose others are the number of the picture's bits, and the
 octets of these.
 """
 import random
@@ -15,7 +16,13 @@ CBP = {n: digits for digits, n in codes.CBP.items()}
 TCOEFF = {run_level: digits for digits, run_level in codes.TCOEFF.items()}
 MVD = {value: digits for digits, values in codes.MVD.items() for value in values}
 
-SHORTEST, LONGEST = 5_000, 20_000
+# by SIZE: the bits of a picture; the most of its macroblocks that are sent; between what bounds the chance of a further
+# coefficient is drawn; and the chances that a block of luminance and one of a colour is coded
+SIZES = {
+    "usual": ((5_000, 20_000), 0.97, (0.6, 0.9), (0.55, 0.2)),
+    "ten_kbit": ((9_000, 11_000), 0.97, (0.6, 0.9), (0.55, 0.2)),
+    "limit": ((60_000, 65_536), 1, (0.99, 0.995), (0.97, 0.9)),
+}
 KINDS = {
     "Inter": 34,
     "McCoded": 20,
@@ -80,7 +87,7 @@ def component(rng, near, first, side):
     return max(-15, -first, min(15, side - 16 - first, value))
 
 
-def group(rng, is_cif, number, sent, more, quant):
+def group(rng, is_cif, number, sent, more, coded, quant):
     words = [codes.GROUP_START, field(number, 4), field(quant, 5), "0"]
     width, height = (352, 288) if is_cif else (176, 144)
     last = 0
@@ -108,7 +115,7 @@ def group(rng, is_cif, number, sent, more, quant):
         if has_cbp:
             pattern = 0
             while pattern == 0:
-                pattern = sum(bit for bit, p in ((32, 0.55), (16, 0.55), (8, 0.55), (4, 0.55), (2, 0.2), (1, 0.2)) if rng.random() < p)
+                pattern = sum(bit for bit in (32, 16, 8, 4, 2, 1) if rng.random() < coded[bit < 4])
             words.append(CBP[pattern])
             count = pattern.bit_count()
         for _ in range(count):
@@ -117,19 +124,20 @@ def group(rng, is_cif, number, sent, more, quant):
     return "".join(words)
 
 
-def picture(rng, is_cif, tr):
+def picture(rng, is_cif, tr, size):
     count = 396 if is_cif else 99
+    (shortest, longest), most, further, coded = SIZES[size]
     while True:
-        target = rng.randint(SHORTEST, LONGEST)
+        target = rng.randint(shortest, longest)
         # the more bits a picture has, the more of its macroblocks are sent, and the more coefficients each has
-        sent = min(0.97, target / (count * rng.uniform(60, 160)))
-        more = min(0.93, rng.uniform(0.6, 0.9))
+        sent = min(most, target / (count * rng.uniform(60, 160)))
+        more = rng.uniform(*further)
         quant = rng.randint(4, 20)
         words = [codes.PICTURE_START, field(tr % 32, 5), "000111" if is_cif else "000011", "0"]
         for number in range(1, 13) if is_cif else (1, 3, 5):
-            words.append(group(rng, is_cif, number, sent, more, quant))
+            words.append(group(rng, is_cif, number, sent, more, coded, quant))
         digits = "".join(words)
-        if SHORTEST <= len(digits) <= LONGEST:
+        if shortest <= len(digits) <= longest:
             return digits
 
 
@@ -141,11 +149,11 @@ def damaged(rng, digits):
 
 
 def main():
-    name, count, seed, turned = sys.argv[1:]
+    name, count, seed, turned, size = (*sys.argv[1:], "usual")[:5]
     is_cif = name == "cif"
     rng = random.Random(int(seed))
     for tr in range(int(count)):
-        digits = picture(rng, is_cif, tr)
+        digits = picture(rng, is_cif, tr, size)
         if turned == "1":
             digits = damaged(rng, digits)
         octets = (len(digits) + 7) // 8

@@ -1,11 +1,8 @@
 /* A plain walker of H.261 pictures, the yardstick of parse.sh: walker ROUNDS < framed pictures
 
-   It reads what program.rattle reads, makes the same checks as h261_pic::parse, writes the same strict text and
+   It reads what parse.rattle reads, makes the same checks as h261_pic::parse, writes the same strict text and
    marks, and prints the same line. One look at a table tells a symbol. Eight octets can be read behind any bit. */
-#include <stdint.h>
-#include <stdio.h>
-#include <stdlib.h>
-#include <string.h>
+#include "input.h"
 
 enum { PAIR, ESCAPE, END };
 struct mba_cell { uint8_t len, step; };
@@ -315,32 +312,21 @@ static uint32_t digest_of(uint32_t digest, const struct picture *p) {
 int main(int count, char **words) {
     static struct picture qcif, cif;
     unsigned rounds = count > 1 ? (unsigned)atoi(words[1]) : 1;
-    size_t size = 0, room = 1 << 16, got;
-    uint8_t *octets = malloc(room + 8);
-    while (octets && (got = fread(octets + size, 1, room - size, stdin)) > 0) {
-        size += got;
-        if (size == room)
-            octets = realloc(octets, (room *= 2) + 8);
-    }
-    if (!octets)
+    struct input input = read_input();
+    if (!input.octets)
         return 1;
-    memset(octets + size, 0, 8);
     uint64_t accepted = 0, macroblocks = 0, bits = 0;
     uint32_t digest = 0x811c9dc5;
     for (unsigned round = 0; round < rounds; round++) {
-        for (size_t at = 0; size - at >= 4;) {
-            uint32_t head = (uint32_t)(load(octets + at) >> 32);
-            uint32_t len = head & 0x7fffffff;
-            size_t whole = ((size_t)len + 7) / 8;
-            if (size - at - 4 < whole)
-                break;
-            struct picture *into = head >> 31 ? &cif : &qcif;
-            accepted += parse(octets + at + 4, len, head >> 31, into);
+        size_t at = 0;
+        struct frame frame;
+        while (next_frame(&input, &at, &frame)) {
+            struct picture *into = frame.is_cif ? &cif : &qcif;
+            accepted += parse(frame.octets, frame.bits, frame.is_cif, into);
             macroblocks += into->marks;
             bits += into->len;
             if (round == 0)
                 digest = digest_of(digest, into);
-            at += 4 + whole;
         }
     }
     printf("accepted %llu macroblocks %llu bits %llu digest %u\n", (unsigned long long)accepted,

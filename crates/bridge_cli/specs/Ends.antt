@@ -5,6 +5,7 @@ use Rattle.std.specs.Global.{Global}
 use Rattle.io_edge.specs.Causes.{Rose}
 use Rattle.bridge_cli.specs.declared.status.Status.{Status}
 use Rattle.bridge_cli.specs.declared.status.Status.TheVariants.{Done, Usage, ReadFault, WriteFault, NoMemory, Unsupported}
+use Rattle.bridge_cli.specs.Decoders.{DecodersShow}
 use Rattle.bridge_cli.specs.FirstForm.{FirstForm, IsFirstForm, longest_packet}
 use Rattle.bridge_cli.specs.OnePacket.{answer}
 
@@ -68,7 +69,7 @@ NoWriteFails before after = after.write_faults ≡ before.write_faults
 
 abbrev pub Ends : Outside → Outside → Status → Type 0
 Ends before after Done =
-    (f : FirstForm) × ReadsForm before after f × Appends before.written after.written (answer f)
+    (f : FirstForm) × ReadsForm before after f × Appends before.written after.written (answer f) × DecodersShow f
     × NoReadFails before after × NoWriteFails before after
 Ends before after WriteFault =
     (f : FirstForm) × ReadsForm before after f

@@ -4,6 +4,7 @@ use Rattle.bridge_cli.specs.FirstForm.{FirstForm}
 use Rattle.pel_bits.specs.Bits.{number}
 use Rattle.pel_bits.specs.Buffer.{whole, filled_up}
 use Rattle.pel_model.specs.declared.Format.TheVariants.{Cif}
+use Rattle.pel_model.specs.Records.{Picture}
 use Rattle.pel_model.specs.Regions.{shown_in}
 use Rattle.pel_model.specs.Text.{text}
 use Rattle.rtp_wire.specs.Frames.{frame}
@@ -35,7 +36,10 @@ one_packet timestamp bits =
       payload = payload bits;
     }))
 
--- what is written for a file of the first form: the picture in its place, with the step as TR, and 3,003 ticks of the
--- clock of 90 kHz for each step
+-- the picture that is written for a file of the first form: the sender's in its place, with the step as TR
+abbrev pub written : FirstForm → Picture
+written f = shown_in f.place f.step f.picture
+
+-- what is written for it: that picture's text, with 3,003 ticks of the clock of 90 kHz for each step
 unfoldable pub answer : FirstForm → List ℕ
-answer f = frame (one_packet (3003 * f.step) (text Cif (shown_in f.place f.step f.picture)))
+answer f = frame (one_packet (3003 * f.step) (text Cif (written f)))

@@ -5,11 +5,11 @@ use Rattle.std.specs.Io.KnownBytes.{Consumes, IsAtEnd}
 use Rattle.io_edge.specs.Causes.{Rose}
 use Rattle.h261_pic.specs.Coded.{Coding, coding}
 use Rattle.pel_model.specs.declared.Format.TheVariants.{Cif}
-use Rattle.pel_model.specs.Regions.{shown_in}
 use Rattle.bridge_cli.specs.declared.status.Status.{Status}
 use Rattle.bridge_cli.specs.declared.status.Status.TheVariants.{ReadFault, Unsupported}
 use Rattle.bridge_cli.specs.Ends.{HasNoFirstForm, TakesAtMostForm}
 use Rattle.bridge_cli.specs.FirstForm.{FirstForm, IsFirstForm}
+use Rattle.bridge_cli.specs.OnePacket.{written}
 
 -- fewer octets than the slice has
 abbrev pub TakesFewer : (old new : Option (List ℕ)) → (slice : List ℕ) → Type 0
@@ -26,7 +26,7 @@ TakesAll old new before now slice (Err _) = ⊥
 
 -- the whole picture that is shown for a file of the first form
 abbrev pub shown : FirstForm → Coding
-shown f = coding Cif (shown_in f.place f.step f.picture)
+shown f = coding Cif (written f)
 
 -- a file of the first form was taken, and its picture composed; or there is none, or the source failed
 abbrev pub TakesForm : (old new : Option (List ℕ)) → (before now : ℕ) → Coding

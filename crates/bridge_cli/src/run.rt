@@ -1,11 +1,12 @@
 //! The top call: the words that ask for a job, and the job itself over any source and any sinks.
 #![tactic(auto)]
 
-ghost use Rattle.std.specs.Prelude.{◌≡◌, ◌↔◌, ◌-◌, ◌≤◌, ◌++◌, false, IsTrue, IfOk, IfNone, IfSome, length, vec_len};
+ghost use Rattle.std.specs.Prelude.{◌≡◌, ◌↔◌, ◌-◌, ◌≤◌, ◌++◌, false, IsTrue, IsFalse, IfOk, IfNone, IfSome, length, vec_len};
 ghost use Rattle.pel_model.specs.declared.Format.TheVariants.{Qcif, Cif};
 ghost use Rattle.pel_model.specs.Records.{Picture};
 ghost use Rattle.pel_model.specs.Refresh.{IsRefresh};
 ghost use Rattle.h261_pic.specs.Coded.{coding};
+ghost use Rattle.bridge_cli.specs.Boxes.{box_of, AreQcif, IsToBeShown};
 ghost use Rattle.bridge_cli.specs.FirstForm.{FirstForm, IsFirstForm, most_bits, packet_bits};
 ghost use Rattle.bridge_cli.specs.Ends.{asks_replay, Ends};
 ghost use Rattle.bridge_cli.specs.Pieces.{IsPacketSize, head_octets};
@@ -17,7 +18,7 @@ use crate::form::{
 use crate::send::{MOST_COMPOSED_BITS, send};
 use crate::show::show;
 use crate::status::Status;
-use h261_pic::{Coded, parse};
+use h261_pic::{Coded, Hand, parse};
 use io_edge::{FillStop, Sink, Source, fill};
 use pel_bits::{Bits, NoMemory};
 use pel_model::{Format, Quad};
@@ -85,21 +86,22 @@ struct Room {
     pictures: Pictures,
 }
 
-// The sender's picture and the composed one.
+// The boxes of the four places, one of which holds the sender's picture, and the composed picture.
 #[derive(Drop)]
 struct Pictures {
-    sent: Coded,
+    hand: Hand,
     whole: Coded,
 }
 
 fn reserve(alloc: Global) -> Result<Room, NoMemory>
     ensures { IfOk result (λ room. (vec_len room.rest ≡ REST_OCTETS)
-        × (room.pictures.sent.format ≡ Qcif) × (room.pictures.whole.format ≡ Cif)) }
+        × AreQcif room.pictures.hand
+        × (room.pictures.whole.format ≡ Cif)) }
 {
     Ok(Room {
         rest: vec![in alloc; 0; REST_OCTETS]?,
         pictures: Pictures {
-            sent: Coded::reserve(alloc, Format::Qcif)?,
+            hand: Hand::reserve(alloc)?,
             whole: Coded::reserve(alloc, Format::Cif)?,
         },
     })
@@ -108,7 +110,7 @@ fn reserve(alloc: Global) -> Result<Room, NoMemory>
 // Reads a file of the first form and writes its picture.
 fn replay<S: Source, K: Sink>(room: &mut Room, input: &mut S, output: &mut K) -> Status
     requires rest { vec_len room.old.rest ≡ REST_OCTETS }
-    requires sent { room.old.pictures.sent.format ≡ Qcif }
+    requires hand { AreQcif room.old.pictures.hand }
     requires whole { room.old.pictures.whole.format ≡ Cif }
     ensures ends { Ends
         (record {
@@ -139,7 +141,7 @@ fn replay<S: Source, K: Sink>(room: &mut Room, input: &mut S, output: &mut K) ->
 // Reads a file of the first form, composes its picture, and gives the step of its tick.
 fn take_form<S: Source>(room: &mut Room, input: &mut S) -> Result<u8, Status>
     requires rest { vec_len room.old.rest ≡ REST_OCTETS }
-    requires sent { room.old.pictures.sent.format ≡ Qcif }
+    requires hand { AreQcif room.old.pictures.hand }
     requires whole { room.old.pictures.whole.format ≡ Cif }
     ensures { TakesForm (S.left input.old) (S.left input.new) (S.faults input.old) (S.faults input.new)
         room.new.pictures.whole result }
@@ -171,7 +173,7 @@ fn take_all<S: Source>(input: &mut S, slice: &mut [u8]) -> Result<(), Status>
 // Composes the picture of a file of the first form, from what its head and its rest say, and gives the step of its tick.
 fn mix(place: Quad, rest: &[u8], pictures: &mut Pictures) -> Option<u8>
     requires size { IsPacketSize (length rest.now - END_OCTETS) }
-    requires sent { pictures.old.sent.format ≡ Qcif }
+    requires hand { AreQcif pictures.old.hand }
     requires whole { pictures.old.whole.format ≡ Cif }
     ensures none { IfNone result ((f : FirstForm)
         → IsFirstForm (head_octets place (length rest.now - END_OCTETS) ++ rest.now) f → ⊥) }
@@ -180,11 +182,10 @@ fn mix(place: Quad, rest: &[u8], pictures: &mut Pictures) -> Option<u8>
         × (step ≡ f.step) × (pictures.new.whole ≡ shown f)) }
 {
     let Rest { packet, step } = read_rest(rest)?;
-    let parsed = parse(packet_bits(packet), Format::Qcif, &mut pictures.sent);
-    if parsed.is_err() || !may_be_shown(&pictures.sent) {
+    if !read_picture(packet_bits(packet), place, &mut pictures.hand) {
         return None;
     }
-    show(&pictures.sent, place, step, &mut pictures.whole);
+    show(&pictures.hand, place, step, &mut pictures.whole);
     Some(step)
 }
 
@@ -196,6 +197,33 @@ fn packet_bits(packet: &[u8]) -> Bits<'_>
     let ebit = u32::from(packet[12] / 4 % 8);
     let payload = &packet[HEADER_OCTETS..];
     Bits::new(payload, 0, (8 * payload.len() as u32).saturating_sub(ebit))
+}
+
+// Reads a picture into the box of its place, and tells whether it is a refresh whose composed picture fits one packet.
+fn read_picture(bits: Bits<'_>, place: Quad, hand: &mut Hand) -> bool
+    requires { AreQcif hand.old }
+    ensures shown { IsTrue result → (p : Picture) × IsToBeShown bits.entry p
+        × (box_of place hand.new ≡ coding Qcif p) }
+    ensures refused { IsFalse result → (p : Picture) → IsToBeShown bits.entry p → ⊥ }
+{
+    match place {
+        Quad::One => read_refresh(bits, &mut hand.one),
+        Quad::Two => read_refresh(bits, &mut hand.two),
+        Quad::Three => read_refresh(bits, &mut hand.three),
+        Quad::Four => read_refresh(bits, &mut hand.four),
+    }
+}
+
+// Reads a picture, and tells whether it is a refresh whose composed picture fits one packet.
+fn read_refresh(bits: Bits<'_>, into: &mut Coded) -> bool
+    requires { into.old.format ≡ Qcif }
+    ensures shown { IsTrue result → (p : Picture) × IsToBeShown bits.entry p × (into.new ≡ coding Qcif p) }
+    ensures refused { IsFalse result → (p : Picture) → IsToBeShown bits.entry p → ⊥ }
+{
+    if parse(bits, Format::Qcif, into).is_err() {
+        return false;
+    }
+    may_be_shown(into)
 }
 
 // Whether a picture is a refresh whose composed picture fits one packet.

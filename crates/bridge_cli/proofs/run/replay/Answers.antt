@@ -4,7 +4,7 @@ use Rattle.h261_pic.specs.Coded.{Coding}
 use Rattle.bridge_cli.specs.FirstForm.{most_composed_bits}
 use Rattle.bridge_cli.proofs.Ends.{sent-is-answer}
 use Rattle.bridge_cli.proofs.Sends.{PutsFront}
-use Rattle.bridge_cli.proofs.Shows.{text-shown}
+use Rattle.bridge_cli.proofs.Shows.{text-shown, decoders-show}
 use Rattle.bridge_cli.proofs.run.replay.Goals as goal
 
 pub send-requires-clause-fits : goal.send-requires-clause-fits
@@ -21,6 +21,7 @@ returns-in-Ok-send-clause-ends g c =
       taken.1,
       subst (λ (t : List ℕ). Appends (g.K.Sink.written c.args.output.now) (g.K.Sink.written c.send.new.sink) t)
           (sent-is-answer taken.0 c.from.result c.in-Ok.step c.take_form.new.room.pictures.whole c.from.ensures taken.3 taken.4) c.in-Ok-send.ensures.bytes,
+      decoders-show taken.0 taken.1.2.accepted.1.valid taken.1.2.refresh (omega (arith, taken.1.2.step)),
       taken.2,
       c.in-Ok-send.ensures.cause.kept,
     )

@@ -1,0 +1,6 @@
+mod CutLemmas
+mod GivenLemmas
+mod HeaderLemmas
+mod PayloadLemmas
+mod StepLemmas
+mod TurnLemmas

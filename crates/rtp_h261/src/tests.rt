@@ -1,0 +1,255 @@
+//! Packets of a small picture as senders send them and networks deliver them, and octets that are no packets.
+
+ghost use Rattle.std.specs.Prelude.{◌≡◌, IfOk};
+
+use crate::{Depack, PayloadHeader, Unit, read_payload, write_payload};
+use h261_pic::Coded;
+use pel_model::Fault;
+use pel_model::Format::{Cif, Qcif};
+use pel_model::Why::{Cut, WrongFormat};
+use std::alloc::{AllocError, Global};
+use std::test::Fail;
+
+/// A QCIF picture of 120 bits: TR 1, three groups with quantiser 8, one Inter macroblock.
+const SMALL: &str =
+    "000000000000000100000000100001100000000000000001000101000011101010100000000000000001001101000000000000000000010101010000";
+
+/// Its bits up to the 60th, and those behind it.
+const FRONT: &str = "000000000000000100000000100001100000000000000001000101000011";
+
+const BACK: &str = "101010100000000000000001001101000000000000000000010101010000";
+
+/// A picture start code and nothing behind it.
+const START: &str = "00000000000000010000";
+
+/// What a packet gives.
+#[derive(Clone, Copy)]
+enum Gives {
+    Nothing,
+    Lost,
+    Picture,
+    LostAndPicture,
+    Gap(u32),
+}
+
+use Gives::{Gap, Lost, LostAndPicture, Nothing, Picture};
+
+impl Gives {
+    fn lost(self) -> bool {
+        matches!(self, Lost | LostAndPicture)
+    }
+
+    fn unit(self) -> Option<Unit> {
+        match self {
+            Nothing | Lost => None,
+            Picture | LostAndPicture => Some(Unit::Picture),
+            Gap(place) => Some(Unit::Gap(Fault { place, why: Cut })),
+        }
+    }
+}
+
+/// A packet: its sequence number, timestamp, marker bit, SBIT and bits, and what it gives.
+#[derive(Clone, Copy)]
+struct Row(u16, u8, bool, u8, &'static str, Gives);
+
+/// The octets of a packet of H.261 with these bits, of which the first stands behind `sbit` others.
+fn packet(alloc: Global, row: &Row) -> Result<Vec<u8>, AllocError> {
+    let Row(number, stamp, marker, sbit, digits, _) = row;
+    let mut octets = Vec::new(alloc);
+    octets.push(0x80)?;
+    octets.push(if *marker { 0x9f } else { 0x1f })?;
+    octets.push((*number >> 8) as u8)?;
+    octets.push((*number & 0xff) as u8)?;
+    octets.extend_from_slice(&[0, 0, 0, *stamp, 0, 0, 0, 1])?;
+    octets.extend_from_slice(&[0, 0, 0, 0])?;
+    let mut at = *sbit & 7;
+    let mut last = 0;
+    for digit in digits.bytes().filter(|digit| matches!(digit, b'0' | b'1')) {
+        last |= (digit - b'0') << (7 - at);
+        at += 1;
+        if at == 8 {
+            octets.push(last)?;
+            last = 0;
+            at = 0;
+        }
+    }
+    let ebit = (8 - at) % 8;
+    if at != 0 {
+        octets.push(last)?;
+    }
+    if let Some(first) = octets.get_mut(12) {
+        *first = (*sbit & 7) << 5 | ebit << 2 | 1;
+    }
+    Ok(octets)
+}
+
+/// Feeds packets to a depacketiser of its own: the number of the first that gives something else, or leaves something else
+/// in the picture.
+fn first_wrong(alloc: Global, rows: &[Row]) -> Result<Option<u16>, Fail> {
+    let mut depack = Depack::reserve(alloc, Qcif)?;
+    let mut coded = Coded::reserve(alloc, Qcif)?;
+    let mut len = 0;
+    for row in rows {
+        let Row(number, _, _, _, _, gives) = row;
+        let octets = packet(alloc, row)?;
+        let fed = depack.feed(octets.as_slice(), &mut coded);
+        match gives.unit() {
+            Some(Unit::Picture) => len = 120,
+            Some(Unit::Gap(_)) => len = 0,
+            None => {}
+        }
+        if fed.lost != gives.lost() || fed.unit != gives.unit() || coded.bits().len() != len {
+            return Ok(Some(*number));
+        }
+    }
+    Ok(None)
+}
+
+#[test]
+fn lost_middle_packet(rt: HostRuntime) -> Result<(), Fail> {
+    let rows = [
+        Row(0, 10, false, 0, FRONT, Nothing),
+        Row(1, 10, true, 4, BACK, Picture),
+        Row(2, 20, false, 0, FRONT, Nothing),
+        Row(4, 30, true, 0, SMALL, LostAndPicture),
+        Row(5, 40, true, 0, SMALL, Picture),
+    ];
+    assert_eq!(rt; first_wrong(rt.alloc(), &rows)?, None);
+    Ok(())
+}
+
+#[test]
+fn late_and_repeated_packets(rt: HostRuntime) -> Result<(), Fail> {
+    let rows = [
+        Row(65535, 10, true, 0, SMALL, Picture),
+        Row(65535, 10, true, 0, SMALL, Nothing),
+        Row(0, 20, false, 0, FRONT, Nothing),
+        Row(32769, 20, true, 0, SMALL, Nothing),
+        Row(65535, 10, true, 0, SMALL, Nothing),
+        Row(1, 20, true, 4, BACK, Picture),
+        Row(32769, 30, true, 0, SMALL, LostAndPicture),
+    ];
+    assert_eq!(rt; first_wrong(rt.alloc(), &rows)?, None);
+    Ok(())
+}
+
+#[test]
+fn packets_that_end_a_run(rt: HostRuntime) -> Result<(), Fail> {
+    let rows = [
+        Row(7, 10, true, 0, "01", Nothing),
+        Row(9, 10, false, 0, FRONT, Nothing),
+        Row(10, 20, true, 4, BACK, Lost),
+        Row(12, 30, false, 0, FRONT, Nothing),
+        Row(13, 40, true, 0, SMALL, LostAndPicture),
+        Row(14, 50, true, 0, "", Lost),
+        Row(15, 60, true, 3, SMALL, Picture),
+    ];
+    assert_eq!(rt; first_wrong(rt.alloc(), &rows)?, None);
+    Ok(())
+}
+
+#[test]
+fn units_that_are_no_pictures(rt: HostRuntime) -> Result<(), Fail> {
+    let rows = [
+        Row(0, 10, true, 0, SMALL, Picture),
+        Row(1, 20, true, 0, START, Gap(20)),
+        Row(2, 30, false, 0, START, Nothing),
+        Row(3, 30, false, 0, "", Nothing),
+        Row(4, 30, true, 5, "0000", Gap(20)),
+        Row(5, 40, true, 0, SMALL, Picture),
+    ];
+    assert_eq!(rt; first_wrong(rt.alloc(), &rows)?, None);
+    Ok(())
+}
+
+#[test]
+fn octets_that_change_nothing(rt: HostRuntime) -> Result<(), Fail> {
+    let mut depack = Depack::reserve(rt.alloc(), Qcif)?;
+    let mut coded = Coded::reserve(rt.alloc(), Qcif)?;
+    let first = packet(rt.alloc(), &Row(0, 10, false, 0, FRONT, Nothing))?;
+    depack.feed(first.as_slice(), &mut coded);
+    let zeros = [0; 15];
+    for (size, first, last) in [
+        (0, 0, 0),
+        (12, 0x40, 0),
+        (12, 0x8f, 0),
+        (15, 0x90, 0),
+        (13, 0xa0, 0),
+        (13, 0xa0, 0xff),
+        (15, 0x80, 0),
+    ] {
+        let mut octets = zeros;
+        octets[0] = first;
+        if size == 13 {
+            octets[12] = last;
+        }
+        let fed = depack.feed(&octets[..size], &mut coded);
+        assert_eq!(rt; (fed.lost, fed.unit), (false, None), "of {size} octets");
+    }
+    let taken_away = [0x80, 0x9f, 0, 1, 0, 0, 0, 10, 0, 0, 0, 1, 0x20, 0, 0, 0];
+    let fed = depack.feed(&taken_away, &mut coded);
+    assert_eq!(rt; (fed.lost, fed.unit), (false, None));
+    let second = packet(rt.alloc(), &Row(1, 10, true, 4, BACK, Picture))?;
+    let fed = depack.feed(second.as_slice(), &mut coded);
+    assert_eq!(rt; (fed.lost, fed.unit), (false, Some(Unit::Picture)));
+    Ok(())
+}
+
+#[test]
+fn pictures_of_the_other_format(rt: HostRuntime) -> Result<(), Fail> {
+    let mut depack = Depack::reserve(rt.alloc(), Cif)?;
+    let mut coded = Coded::reserve(rt.alloc(), Cif)?;
+    let octets = packet(rt.alloc(), &Row(0, 10, true, 0, SMALL, Nothing))?;
+    let fed = depack.feed(octets.as_slice(), &mut coded);
+    let fault = Fault {
+        place: 25,
+        why: WrongFormat,
+    };
+    assert_eq!(rt; fed.unit, Some(Unit::Gap(fault)));
+    assert!(rt; coded.is_empty());
+    Ok(())
+}
+
+#[test]
+fn payload_headers(rt: HostRuntime) -> Result<(), Fail> {
+    let header = |sbit, ebit, i, gobn, mbap, quant, (hmvd, vmvd)| PayloadHeader {
+        sbit,
+        ebit,
+        i,
+        v: !i,
+        gobn,
+        mbap,
+        quant,
+        hmvd,
+        vmvd,
+    };
+    for (octets, want) in [
+        ([0x15, 0, 0, 0], header(0, 5, false, 0, 0, 0, (0, 0))),
+        ([0x6d, 0x60, 0xa0, 0], header(3, 3, false, 6, 1, 8, (0, 0))),
+        ([0xb1, 0xb2, 0x20, 0], header(5, 4, false, 11, 4, 8, (0, 0))),
+        (
+            [0xe6, 0xff, 0xc6, 0x2f],
+            header(7, 1, true, 15, 31, 17, (-15, 15)),
+        ),
+    ] {
+        assert_eq!(rt; read_payload(&octets), Some(want));
+    }
+    assert_eq!(rt; read_payload(&[0x15, 0, 0]), None);
+    let mut octets = [0; 4];
+    write_payload(
+        PayloadHeader {
+            sbit: 7,
+            ebit: 1,
+            i: true,
+            v: false,
+            gobn: 15,
+            mbap: 31,
+            quant: 17,
+            hmvd: -15,
+            vmvd: 15,
+        },
+        &mut octets,
+    );
+    assert_eq!(rt; octets, [0xe6, 0xff, 0xc6, 0x2f]);
+    Ok(())
+}
