@@ -2,6 +2,8 @@
 #![tactic(auto)]
 
 mod hall;
+#[cfg(test)]
+mod tests;
 
 pub use h261_pic::{Coded, Hand};
 pub use hall::{Ended, Hall};
