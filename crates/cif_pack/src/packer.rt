@@ -3,7 +3,7 @@ ghost use Rattle.std.specs.Prelude.{◌≡◌, ℕ, ◌+◌, ◌-◌, ◌*◌, �
 ghost use Rattle.byteorder.specs.Endian.{big_bytes};
 ghost use Rattle.h261_pic.specs.Coded.{coding, IsFinished};
 ghost use Rattle.io_edge.specs.Causes.{HasCause};
-ghost use Rattle.pel_model.specs.Bits.{bits};
+ghost use Rattle.pel_bits.specs.Bits.{bits};
 ghost use Rattle.pel_model.specs.declared.Format.TheVariants.{Cif};
 ghost use Rattle.pel_model.specs.Records.{Picture};
 ghost use Rattle.rtp_wire.specs.Frames.{frame};
@@ -158,6 +158,7 @@ fn put_packets<K: Sink>(
     requires mtu { settings.now.mtu ≤ 9000 }
     requires room { settings.now.mtu + 2 ≤ vec_capacity buffer.old }
     requires inside { text.now.len ≤ 8 * length text.now.octets.now }
+    requires short { text.now.len < 2 ^ 32 }
     requires few { length ends.now ≤ 396 }
     requires rises { Rises settings.now.mtu text.now.len 0 ends.now }
     ensures packets { Puts (K.written sink.old) (K.written sink.new) result
@@ -229,6 +230,7 @@ fn write_frame(
     requires some { start.now.at < to }
     requires within { to ≤ text.now.len }
     requires inside { text.now.len ≤ 8 * length text.now.octets.now }
+    requires short { text.now.len < 2 ^ 32 }
     requires fits { octets_between start.now.at to + 16 ≤ 9000 }
     requires room { octets_between start.now.at to + 18 ≤ vec_capacity buffer.old }
     ensures octets { buffer.new.items ≡ frame (packet settings.now stamp 0

@@ -1,7 +1,7 @@
 //! The payload of a packet of H.261 (RFC 4587, 4.1): its header, and the octets of the text in which its bits stand.
 ghost use Rattle.std.specs.Prelude.{◌≡◌, ◌+◌, ◌-◌, ◌*◌, ◌/◌, ◌<◌, ◌≤◌, [], ◌∷◌, ◌++◌, length, take, drop, false, true, vec_len, vec_capacity};
 ghost use Rattle.pel_bits.specs.Reading.{zeros};
-ghost use Rattle.pel_model.specs.Bits.{bits, field};
+ghost use Rattle.pel_bits.specs.Bits.{bits, field};
 ghost use Rattle.cif_pack.specs.Cuts.{octets_between};
 ghost use Rattle.cif_pack.specs.Payload.{header_bits, in_five_bits, packed, sbit_of, ebit_of};
 
