@@ -1,2 +1,4 @@
 pub mod Octets
 pub mod Parts
+pub mod MarkEnds
+pub mod CutLemmas

@@ -50,7 +50,7 @@ record Cut (octets : List ℕ) (first last : ℕ) : Type 0 where
   is : octets ≡ take first octets ++ (slice_index octets first ∷ (middle ++ (slice_index octets last ∷ behind)))
   middle_is : take (last - (first + 1)) (drop (first + 1) octets) ≡ middle
 
-abbrev cut_of : (octets : List ℕ) (first last : ℕ) → first < last → last < length octets → Cut octets first last
+cut_of : (octets : List ℕ) (first last : ℕ) → first < last → last < length octets → Cut octets first last
 cut_of octets first last less inside =
     let middle = take (last - (first + 1)) (drop (first + 1) octets) in
     let behind = drop (last + 1) octets in
@@ -92,6 +92,7 @@ pub several-octets : (octets : List ℕ) (from to x y : ℕ) → from < to → t
     → field y 8 ≡ take (8 - (8 - to % 8) % 8) (field (slice_index octets ((to - 1) / 8)) 8) ++ zeros ((8 - to % 8) % 8)
     → x ∷ (take ((to - 1) / 8 - (from / 8 + 1)) (drop (from / 8 + 1) octets) ++ y ∷ [])
     ≡ packed (zeros (from % 8) ++ (take (to - from) (drop from (bits octets)) ++ zeros ((8 - to % 8) % 8)))
+unfolding cut_of
 several-octets octets from to x y some inside far x_small y_small small x_is y_is =
     let first = from / 8 in
     let last = (to - 1) / 8 in
