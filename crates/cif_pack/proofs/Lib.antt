@@ -2,3 +2,4 @@ pub mod Octets
 pub mod Parts
 pub mod MarkEnds
 pub mod CutLemmas
+pub mod Frames

@@ -1,10 +1,15 @@
 -- Ends of atoms from marks and group views are those of the picture.
-use Rattle.std.proofs.Common.{◌≡◌, ℕ, zero, suc, ◌+◌, ◌-◌, ◌*◌, ◌<◌, ◌≤◌, ◌==◌, Bool, true, false, List, [], ◌∷◌, ◌++◌, length, take, drop, get_or, Option, Some, None, refl, sym, ◌∙◌, ap, ap₂, subst, arith, append_assoc, length-append, pos}
+use Rattle.std.proofs.Common.{◌≡◌, ℕ, zero, suc, ◌+◌, ◌-◌, ◌*◌, ◌<◌, ◌≤◌, ◌==◌, Bool, true, false, List, [], ◌∷◌, ◌++◌, length, take, drop, get_or, Option, Some, None, refl, sym, ◌∙◌, ap, ap₂, subst, arith, append_assoc, length-append, length-take, append-nil, pos}
 use Rattle.std.proofs.lemmas.Bool.Decides.{nat_tests}
 use Rattle.std.proofs.lemmas.List.{take_at, drop_at}
 use Rattle.std.proofs.lemmas.List.Elements.{All-head, All-tail}
 use Rattle.std.specs.Prelude.{All}
-use Rattle.h261_pic.specs.Coded.{Coding, coding, views}
+use Rattle.std.proofs.Math.Logic.{∥∥₁_elim}
+use Rattle.std.proofs.Props.{props}
+use Rattle.atom_laws.proofs.Macroblocks.{group_is_short}
+use Rattle.pel_model.specs.declared.Format.TheVariants.{Cif}
+use Rattle.pel_model.specs.Valid.{IsValid, IsValidGroup}
+use Rattle.h261_pic.specs.Coded.{Coding, coding, views, IsWhole}
 use Rattle.h261_pic.specs.declared.coded.GroupView.{GroupView}
 use Rattle.pel_model.specs.declared.Format.{Format}
 use Rattle.pel_model.specs.declared.Mark.{Mark}
@@ -73,3 +78,61 @@ in_groups at front (g ∷ gs) =
 
 pub ends_of_picture : (format : Format) (p : Picture) → views_ends (coding format p).marks (coding format p).groups ≡ atom_ends p
 ends_of_picture format p = in_groups 32 [] p.groups
+
+-- ---- group by group
+
+pub views-ends-more : (marks : List Mark) (vs : List GroupView) (v : GroupView) → views_ends marks (vs ++ v ∷ []) ≡ views_ends marks vs ++ view_ends marks v
+views-ends-more marks [] v = append-nil (view_ends marks v)
+views-ends-more marks (w ∷ vs) v =
+    ap (λ (t : List AtomEnd). view_ends marks w ++ t) (views-ends-more marks vs v) ∙ sym (append_assoc (view_ends marks w) (views_ends marks vs) (view_ends marks v))
+
+-- the marks of a view are there, and there are at most 33 of them
+abbrev pub IsFine : ℕ → GroupView → Type 0
+IsFine count v = (v.first_mark + v.marks ≤ count) × (v.marks ≤ 33)
+
+abbrev pub no_view : GroupView
+no_view = record { number = 0; quant = 0; from = 0; len = 0; first_mark = 0; marks = 0 }
+
+few-ends : (marks : List Mark) (n : ℕ) → n ≤ 33 → (at : ℕ) → length marks ≤ n → length (ends_in at marks) ≤ 33
+few-ends [] n few at short = omega arith
+few-ends (m ∷ ms) n few at short = omega (arith, few, short, length-mark_ends (m ∷ ms))
+
+pub few-view-ends : (marks : List Mark) (v : GroupView) → v.marks ≤ 33 → length (view_ends marks v) ≤ 33
+few-view-ends marks v few =
+    few-ends (take v.marks (drop v.first_mark marks)) v.marks few v.from (omega (arith, length-take v.marks (drop v.first_mark marks)))
+
+pub few-count : (v : GroupView) → v.marks ≤ 33 → count_of v ≤ 33
+few-count v few = at-most v.marks few
+  where
+    at-most : (n : ℕ) → n ≤ 33 → ends_of_marks n ≤ 33
+    at-most zero h = omega arith
+    at-most (suc n) h = h
+
+fine_views : (at before : ℕ) (gs : List Group) (i : ℕ) → All (IsValidGroup Cif) gs → i < length gs
+    → IsFine (before + length (group_marks at gs)) (get_or (views at before gs) i no_view)
+fine_views at before [] i valid less = absurd (omega (arith, less))
+fine_views at before (g ∷ gs) zero valid less =
+    let own = macroblock_marks (at + 26) g.number g.quant None g.macroblocks in
+    (
+      omega (arith, length-marks (at + 26) g.number g.quant None g.macroblocks, length-append own (group_marks (at + length (group_text g)) gs)),
+      group_is_short Cif g (All-head (IsValidGroup Cif) g gs valid),
+    )
+fine_views at before (g ∷ gs) (suc i) valid less =
+    let own = macroblock_marks (at + 26) g.number g.quant None g.macroblocks in
+    let next = at + length (group_text g) in
+    subst (λ n. IsFine n (get_or (views next (before + length g.macroblocks) gs) i no_view))
+    (omega (arith, length-marks (at + 26) g.number g.quant None g.macroblocks, length-append own (group_marks next gs)))
+    (fine_views next (before + length g.macroblocks) gs i (All-tail (IsValidGroup Cif) g gs valid) (omega (arith, less)))
+
+fine_in : (coded : Coding) (p : Picture) (i : ℕ) → coded ≡ coding Cif p → IsValid Cif p → i < 12 → IsFine (length coded.marks) (get_or coded.groups i no_view)
+fine_in coded p i is valid less =
+    subst (λ (c : Coding). IsFine (length c.marks) (get_or c.groups i no_view)) (sym is)
+    (subst (λ n. IsFine n (get_or (views 32 0 p.groups) i no_view)) no_more (fine_views 32 0 p.groups i valid.so_far.groups (omega (arith, less, valid.whole))))
+  where
+    no_more : 0 + length (group_marks 32 p.groups) ≡ length (group_marks 32 p.groups)
+    no_more = omega arith
+
+pub fine-of : (coded : Coding) (i : ℕ) → coded.format ≡ Cif → IsWhole coded → i < 12 → IsFine (length coded.marks) (get_or coded.groups i no_view)
+fine-of coded i cif whole less =
+    ∥∥₁_elim whole (hlevel props)
+    (λ h. fine_in coded h.0 i (h.1 ∙ ap (λ (f : Format). coding f h.0) cif) (subst (λ (f : Format). IsValid f h.0) cif h.2) less)

@@ -36,7 +36,8 @@ pub struct AtomEnd {
 pub fn atom_ends(picture: &Coded) -> ArrayVec<AtomEnd, MOST_ATOMS>
     requires cif { picture.now.format ≡ Cif }
     requires finished { IsFinished picture.now }
-    ensures { (p : Picture) → picture.now ≡ coding Cif p → result.items ≡ atom_ends p }
+    ensures ends { (p : Picture) → picture.now ≡ coding Cif p → result.items ≡ atom_ends p }
+    ensures few { length result.items ≤ most_atoms }
 {
     let _bits = picture.bits();
     let marks = picture.marks();
