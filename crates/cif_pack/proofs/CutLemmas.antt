@@ -6,7 +6,7 @@ use Rattle.std.proofs.lemmas.List.Elements.{All-cons, All-nil}
 use Rattle.std.specs.Prelude.{All, Contains}
 use Rattle.cif_pack.specs.declared.atoms.AtomEnd.{AtomEnd}
 use Rattle.cif_pack.specs.Cuts.{octets_between, fits, IsCut, AreCuts, is_cut, with_cut, from_behind, cuts}
-use Rattle.cif_pack.specs.Sending.{Rises}
+use Rattle.cif_pack.specs.Sending.{rises, Rises}
 
 -- the parts of what is known of the first end
 pub record Ahead (mtu last from : ℕ) (e : AtomEnd) (es : List AtomEnd) : Type 0 where
@@ -39,11 +39,11 @@ rises-from mtu last from e es a =
 
 -- behind an end that is no cut, the next one fits too
 pub rises-on : (mtu last from : ℕ) (e : AtomEnd) (es : List AtomEnd) → Rises mtu last from (e ∷ es) → is_cut mtu from es ≡ false → Rises mtu last from es
-rises-on mtu last from e [] rise no = absurd (cc)
-rises-on mtu last from e (f ∷ es) rise no =
+rises-on mtu last from e [] rise stays = absurd (cc)
+rises-on mtu last from e (f ∷ es) rise stays =
     let a = ahead mtu last from e (f ∷ es) rise in
     let b = ahead mtu last e.at f es a.rest in
-    rises-from mtu last from f es (record { behind = omega (arith, a.behind, b.behind); within = b.within; fit = not-false (fits mtu from f.at) no; rest = b.rest })
+    rises-from mtu last from f es (record { behind = omega (arith, a.behind, b.behind); within = b.within; fit = not-false (fits mtu from f.at) stays; rest = b.rest })
   where
     not-false : (b : Bool) → not b ≡ false → b ≡ true
     not-false true h = refl

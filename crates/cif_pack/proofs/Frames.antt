@@ -64,3 +64,70 @@ frame-pieces f word n from to context part word_is n_is =
     let long : length (fixed ++ (big_bytes 4 word ++ part)) ≡ n =
     omega (arith, n_is, length-append fixed (big_bytes 4 word ++ part), length-append (big_bytes 4 word) part) in
     ap (λ (k : ℕ). big_bytes 2 k ++ (fixed ++ (big_bytes 4 word ++ part))) (sym long) ∙ ap frame whole
+
+abbrev header_fields : Settings → (marker : Bool) (stamp : ℕ) → Fields
+header_fields s marker stamp = record { marker = marker; kind = 31; seq = s.seq; stamp = stamp; ssrc = s.ssrc; payload = [] }
+
+-- the octets in which a part of bits stands
+abbrev pub part_octets : List Bool → (from to : ℕ) → List ℕ
+part_octets bs from to = packed (zeros (sbit_of from) ++ (take (to - from) (drop from bs) ++ zeros (ebit_of to)))
+
+-- a buffer to which these pieces were added one by one
+pub record IsBuilt (s : Settings) (stamp len from to n word : ℕ) (context : Context) (octets : List ℕ) (empty one two three four : List ℕ) : Type 0 where
+  pub empty_is : empty ≡ []
+  pub n_is : n ≡ octets_between from to + 16
+  pub one_is : one ≡ empty ++ big_bytes 2 n
+  pub two_is : two ≡ one ++ octets_of (plain (header_fields s (to == len) stamp))
+  pub word_is : field word 32 ≡ header_bits (sbit_of from) (ebit_of to) false true context
+  pub three_is : three ≡ two ++ big_bytes 4 word
+  pub four_is : four ≡ three ++ part_octets (bits octets) from to
+
+built-pieces : (a b c d : List ℕ) (empty one two three four : List ℕ) → empty ≡ [] → one ≡ empty ++ a → two ≡ one ++ b → three ≡ two ++ c → four ≡ three ++ d
+    → four ≡ a ++ (b ++ (c ++ d))
+built-pieces a b c d empty one two three four e0 e1 e2 e3 e4 =
+    let first : one ≡ a = e1 ∙ ap (λ t. t ++ a) e0 in
+    let third : three ≡ a ++ (b ++ c) = e3 ∙ ap (λ t. t ++ c) (e2 ∙ ap (λ t. t ++ b) first) ∙ append_assoc a b c in
+    e4 ∙ ap (λ t. t ++ d) third ∙ append_assoc a (b ++ c) d ∙ ap (λ t. a ++ t) (append_assoc b c d)
+
+pub length-built : (s : Settings) (stamp len from to n word : ℕ) (context : Context) (octets : List ℕ) (empty one two three four : List ℕ)
+    → from < to → to ≤ len → len ≤ 8 * length octets
+    → IsBuilt s stamp len from to n word context octets empty one two three four → length four ≡ octets_between from to + 18
+length-built s stamp len from to n word context octets empty one two three four some within inside b =
+    let fixed = octets_of (plain (header_fields s (to == len) stamp)) in
+    let part = part_octets (bits octets) from to in
+    let long : length part ≡ octets_between from to = length-part-octets (bits octets) from to some (omega (arith, within, inside, length-bits octets)) in
+    let all = built-pieces (big_bytes 2 n) fixed (big_bytes 4 word) part empty one two three four b.empty_is b.one_is b.two_is b.three_is b.four_is in
+    omega (arith, ap length all, long, length-append (big_bytes 2 n) (fixed ++ (big_bytes 4 word ++ part)), length-append fixed (big_bytes 4 word ++ part), length-append (big_bytes 4 word) part)
+
+pub frame-built : (s : Settings) (stamp len from to n word : ℕ) (context : Context) (octets : List ℕ) (empty one two three four : List ℕ)
+    → from < to → to ≤ len → len ≤ 8 * length octets → s.seq < 65536
+    → IsBuilt s stamp len from to n word context octets empty one two three four → four ≡ frame (packet s stamp 0 (take len (bits octets)) from to context)
+frame-built s stamp len from to n word context octets empty one two three four some within inside small b =
+    let fixed = octets_of (plain (header_fields s (to == len) stamp)) in
+    let part = part_octets (bits octets) from to in
+    let text = take len (bits octets) in
+    let full : len ≤ length (bits octets) = omega (arith, inside, length-bits octets) in
+    let text_long : length text ≡ len = length-take-le len (bits octets) full in
+    let long : length part ≡ octets_between from to = length-part-octets (bits octets) from to some (omega (arith, within, full)) in
+    let same : part ≡ part_octets text from to =
+    ap (λ t. packed (zeros (sbit_of from) ++ (t ++ zeros (ebit_of to)))) (sym (part-before (bits octets) len from to (omega (arith, some)) within full)) in
+    let all = built-pieces (big_bytes 2 n) fixed (big_bytes 4 word) part empty one two three four b.empty_is b.one_is b.two_is b.three_is b.four_is in
+    let framed = frame-pieces (header_fields s (to == len) stamp) word n from to context part b.word_is (omega (arith, b.n_is, long)) in
+    let number : s.seq ≡ number_of s 0 = omega (arith, small) in
+    all ∙ framed
+    ∙ ap₂ (λ (k : ℕ) (p : List ℕ). frame (octets_of (plain (record {
+      marker = to == k;
+      kind = 31;
+      seq = s.seq;
+      stamp = stamp;
+      ssrc = s.ssrc;
+      payload = packed (header_bits (sbit_of from) (ebit_of to) false true context) ++ p;
+    })))) (sym text_long) same
+    ∙ ap (λ (k : ℕ). frame (octets_of (plain (record {
+      marker = to == length text;
+      kind = 31;
+      seq = k;
+      stamp = stamp;
+      ssrc = s.ssrc;
+      payload = payload text from to context;
+    })))) number

@@ -3,3 +3,4 @@ pub mod Parts
 pub mod MarkEnds
 pub mod CutLemmas
 pub mod Frames
+pub mod Sends

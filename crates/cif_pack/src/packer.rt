@@ -235,7 +235,7 @@ fn write_frame(
     requires room { octets_between start.now.at to + 18 ≤ vec_capacity buffer.old }
     ensures octets { buffer.new.items ≡ frame (packet settings.now stamp 0
         (take text.now.len (bits text.now.octets.now)) start.now.at to start.now.context) }
-    ensures long { vec_len buffer.new ≡ octets_between start.now.at to + 18 }
+    ensures long { length buffer.new.items ≡ octets_between start.now.at to + 18 }
     ensures kept { vec_capacity buffer.old ≤ vec_capacity buffer.new }
 {
     let len = octets_between(start.at, to) + HEADER_OCTETS;
