@@ -1,8 +1,10 @@
 -- Packets that were put one by one.
-use Rattle.std.proofs.Common.{◌≡◌, ℕ, zero, suc, ◌+◌, ◌-◌, ◌*◌, ◌<◌, ◌≤◌, ◌==◌, ◌%◌, Bool, true, false, List, [], ◌∷◌, ◌++◌, length, take, drop, get_or, flat_map, Option, Result, Ok, Err, refl, sym, ◌∙◌, ap, ap₂, subst, arith, append_assoc, append-nil, length-append, pos}
-use Rattle.std.proofs.lemmas.List.{drop_more, take-append-le}
+use Rattle.std.proofs.Common.{◌≡◌, ℕ, zero, suc, ◌+◌, ◌-◌, ◌*◌, ◌<◌, ◌≤◌, ◌==◌, ◌%◌, Bool, true, false, List, [], ◌∷◌, ◌++◌, length, take, drop, get_or, flat_map, Option, Some, None, Result, Ok, Err, refl, sym, ◌∙◌, ap, ap₂, subst, arith, append_assoc, append-nil, length-append, pos}
+use Rattle.std.proofs.lemmas.List.{drop_more, take-append-le, take_all, length-drop}
 use Rattle.std.proofs.Math.Seq.{take-append-add}
+use Rattle.std.proofs.lemmas.Bool.{leb-true}
 use Rattle.std.proofs.KnownBytes.{Appends-trans}
+use Rattle.std.specs.Prelude.{All, IsErr}
 use Rattle.std.specs.Io.KnownBytes.{Appends}
 use Rattle.rtp_wire.specs.Frames.{frame}
 use Rattle.cif_pack.specs.declared.atoms.AtomEnd.{AtomEnd}
@@ -15,7 +17,7 @@ use Rattle.cif_pack.specs.declared.atoms.Context.{Context}
 use Rattle.rtp_wire.specs.Rtp.{octets_of, plain}
 use Rattle.cif_pack.specs.Sending.{Rises}
 use Rattle.cif_pack.specs.State.{framed, Puts, behind}
-use Rattle.cif_pack.proofs.CutLemmas.{Ahead, ahead, rises-on}
+use Rattle.cif_pack.proofs.CutLemmas.{Ahead, ahead, rises-on, rises-near}
 
 abbrev pub no_end : AtomEnd
 no_end = record { at = 0; context = no_context }
@@ -94,12 +96,12 @@ stands-on s stamp len text ends i start sent old new less goes w =
       short = omega (arith, w.short);
     }
 
-pub stands-cut : (s : Settings) (stamp len : ℕ) (text : List Bool) (ends : List AtomEnd) (i : ℕ) (start : AtomEnd) (sent : Sent) (old new now : Option (List ℕ)) (piece : List ℕ)
+pub stands-cut : (s : Settings) (stamp len : ℕ) (text : List Bool) (ends : List AtomEnd) (i : ℕ) (start : AtomEnd) (sent : Sent) (old new now : Option (List ℕ)) (piece : List ℕ) (count : ℕ)
     → i < length ends → is_cut s.mtu start.at (drop (i + 1) ends) ≡ true
-    → piece ≡ frame (packet s stamp sent.packets text start.at (get_or ends i no_end).at start.context) → length piece ≤ 9002 → Appends new now piece
+    → piece ≡ frame (packet s stamp sent.packets text start.at (get_or ends i no_end).at start.context) → count ≡ length piece → length piece ≤ 9002 → Appends new now piece
     → Stands s stamp len text ends i start sent old new
-    → Stands s stamp len text ends (i + 1) (get_or ends i no_end) (record { packets = sent.packets + 1; octets = sent.octets + length piece }) old now
-stands-cut s stamp len text ends i start sent old new now piece less ends_here piece_is short put w =
+    → Stands s stamp len text ends (i + 1) (get_or ends i no_end) (record { packets = sent.packets + 1; octets = sent.octets + count }) old now
+stands-cut s stamp len text ends i start sent old new now piece count less ends_here piece_is count_is short put w =
     let e = get_or ends i no_end in
     let es = drop (i + 1) ends in
     let p = packet s stamp sent.packets text start.at e.at start.context in
@@ -112,10 +114,10 @@ stands-cut s stamp len text ends i start sent old new now piece less ends_here p
       all = w.all ∙ ap (λ (t : List (List ℕ)). w.done ++ t) next ∙ sym (append_assoc w.done (p ∷ []) (rest_of s stamp text (sent.packets + 1) e es));
       bytes = subst (Appends old now) (sym more) (Appends-trans old new now (framed w.done) piece w.bytes put);
       packets = omega (arith, w.packets, length-append w.done (p ∷ []));
-      octets = omega (arith, w.octets, ap length more, length-append (framed w.done) piece);
+      octets = omega (arith, count_is, w.octets, ap length more, length-append (framed w.done) piece);
       rise = (next-ahead s.mtu len start.at ends i less w.rise).rest;
       few = omega (arith, w.few);
-      short = omega (arith, w.short, short);
+      short = omega (arith, count_is, w.short, short);
     }
 
 -- at the end of the ends all was put
@@ -127,11 +129,11 @@ stands-last E s stamp len text ends start sent old new rest none i left w =
     (subst (λ (t : List (List ℕ)). Appends old new (framed t)) (sym all) w.bytes, w.packets ∙ ap length (sym all), w.octets ∙ ap (λ (t : List (List ℕ)). length (framed t)) (sym all))
 
 -- where the sink failed, a front was put
-pub stands-failed : {E : Type 0} (s : Settings) (stamp len : ℕ) (text : List Bool) (ends : List AtomEnd) (i : ℕ) (start : AtomEnd) (sent : Sent) (old new now : Option (List ℕ)) (piece : List ℕ) (n : ℕ) (error : E)
+pub stands-failed : (s : Settings) (stamp len : ℕ) (text : List Bool) (ends : List AtomEnd) (i : ℕ) (start : AtomEnd) (sent : Sent) (old new now : Option (List ℕ)) (piece : List ℕ) (n : ℕ)
     → i < length ends → is_cut s.mtu start.at (drop (i + 1) ends) ≡ true
     → piece ≡ frame (packet s stamp sent.packets text start.at (get_or ends i no_end).at start.context) → n < length piece → Appends new now (take n piece)
-    → Stands s stamp len text ends i start sent old new → Puts {E = E} old now (Err error) (rest_of s stamp text 0 no_end ends)
-stands-failed s stamp len text ends i start sent old new now piece n error less ends_here piece_is part put w =
+    → Stands s stamp len text ends i start sent old new → let all = framed (rest_of s stamp text 0 no_end ends) in (n : ℕ) × (n < length all) × Appends old now (take n all)
+stands-failed s stamp len text ends i start sent old new now piece n less ends_here piece_is part put w =
     let e = get_or ends i no_end in
     let es = drop (i + 1) ends in
     let p = packet s stamp sent.packets text start.at e.at start.context in
@@ -157,3 +159,32 @@ packet-behind s stamp n text from to c =
   where
     same : number_of (behind s n) 0 ≡ number_of s n
     same = omega arith
+
+pub nothing-appended : (old : Option (List ℕ)) → Appends old old []
+nothing-appended None = tt
+nothing-appended (Some xs) = sym (append-nil xs)
+
+-- the ends behind the next one
+pub left-is : (ends : List AtomEnd) (i : ℕ) → take (length ends - (i + 1)) (drop (i + 1) ends) ≡ drop (i + 1) ends
+left-is ends i = take_all (length ends - (i + 1)) (drop (i + 1) ends) (omega (arith, length-drop (i + 1) ends))
+
+pub near-left : (mtu last from : ℕ) (ends : List AtomEnd) (i far : ℕ) → last < far → i < length ends → Rises mtu last from (drop i ends) → All (λ (e : AtomEnd). e.at < far) (drop (i + 1) ends)
+near-left mtu last from ends i far near less rise =
+    rises-near mtu last (get_or ends i no_end).at (drop (i + 1) ends) far near (next-ahead mtu last from ends i less rise).rest
+
+-- the same of equal states
+pub stands-same : (s : Settings) (stamp len : ℕ) (text : List Bool) (ends : List AtomEnd) (i : ℕ) (start start2 : AtomEnd) (sent sent2 : Sent) (old new new2 : Option (List ℕ))
+    → start2 ≡ start → sent2 ≡ sent → new2 ≡ new → Stands s stamp len text ends i start sent old new → Stands s stamp len text ends i start2 sent2 old new2
+stands-same s stamp len text ends i start start2 sent sent2 old new new2 start_is sent_is new_is w =
+    subst (λ (e : AtomEnd). Stands s stamp len text ends i e sent2 old new2) (sym start_is)
+    (subst (λ (t : Sent). Stands s stamp len text ends i start t old new2) (sym sent_is)
+    (subst (Stands s stamp len text ends i start sent old) (sym new_is) w))
+
+-- an end that fits makes a short frame
+pub short-frame : (mtu last from : ℕ) (e : AtomEnd) (es : List AtomEnd) → mtu ≤ 9000 → Ahead mtu last from e es → octets_between from e.at + 18 ≤ 9002
+short-frame mtu last from e es most a = omega (arith, most, leb-true (octets_between from e.at) (mtu - 16) a.fit)
+
+pub puts-of-error : {E : Type 0} (old now : Option (List ℕ)) (packets : List (List ℕ)) (result : Result Sent E) → IsErr result
+    → (n : ℕ) × (n < length (framed packets)) × Appends old now (take n (framed packets)) → Puts old now result packets
+puts-of-error old now packets (Ok _) is puts = absurd (cc)
+puts-of-error old now packets (Err _) is puts = puts

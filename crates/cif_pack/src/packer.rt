@@ -167,8 +167,11 @@ fn put_packets<K: Sink>(
     ensures cause { HasCause (K.faults sink.old) (K.faults sink.new) result }
     ensures kept { vec_capacity buffer.old ≤ vec_capacity buffer.new }
 {
-    let mut sent = Sent::default();
-    let mut start = AtomEnd::default();
+    let mut sent = Sent {
+        packets: 0,
+        octets: 0,
+    };
+    let mut start = beginning();
     for i in 0..ends.len() {
         if is_cut(settings.mtu, start.at, &ends[i + 1..]) {
             write_frame(
@@ -186,6 +189,13 @@ fn put_packets<K: Sink>(
         }
     }
     Ok(sent)
+}
+
+/// The beginning of a text.
+fn beginning() -> AtomEnd
+    ensures { result ≡ record { at = 0; context = no_context } }
+{
+    AtomEnd::default()
 }
 
 /// The settings with the number of the packet behind so many.
