@@ -4,3 +4,4 @@ pub mod MarkEnds
 pub mod CutLemmas
 pub mod Frames
 pub mod Sends
+pub mod AtomsRise
