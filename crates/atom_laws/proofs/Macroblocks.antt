@@ -109,7 +109,7 @@ macroblock_is_short format group last m valid =
     let f : length blocks ≤ 1282 * length m.blocks = blocks_are_short (is_intra m.kind) (has_cbp m.kind) m.blocks valid.blocks in
     let g : 0 < length (mtype_word m.kind) = mtype_is_there m.kind in
     let long : length (macroblock_text last m)
-        ≡ length (mba_word last m) + (length (mtype_word m.kind) + (length (mquant_text m.mquant) + (length (mvd_text last m) + (length (cbp_text m) + length blocks)))) =
+    ≡ length (mba_word last m) + (length (mtype_word m.kind) + (length (mquant_text m.mquant) + (length (mvd_text last m) + (length (cbp_text m) + length blocks)))) =
     six_sums (mba_word last m) (mtype_word m.kind) (mquant_text m.mquant) (mvd_text last m) (cbp_text m) blocks in
     (omega (arith, g, long), omega (arith, a, b, c, d, e, f, valid.six, long))
 

@@ -28,8 +28,10 @@ rises-from mtu last from e es a =
   where
     lt : (m n : ℕ) → m < n → nat_lt m n ≡ true
     lt m n h = grind (arith, nat_tests)
+
     le : (m n : ℕ) → m ≤ n → nat_le m n ≡ true
     le m n h = grind (arith, nat_tests)
+
     both : (a b c d : Bool) → a ≡ true → b ≡ true → c ≡ true → d ≡ true → ((a && b) && (c && d)) ≡ true
     both true true true true h i j k = refl
     both false b c d h i j k = absurd (cc)

@@ -112,8 +112,7 @@ fine_views : (at before : ℕ) (gs : List Group) (i : ℕ) → All (IsValidGroup
     → IsFine (before + length (group_marks at gs)) (get_or (views at before gs) i no_view)
 fine_views at before [] i valid less = absurd (omega (arith, less))
 fine_views at before (g ∷ gs) zero valid less =
-    let own = macroblock_marks (at + 26) g.number g.quant None g.macroblocks in
-    (
+    let own = macroblock_marks (at + 26) g.number g.quant None g.macroblocks in (
       omega (arith, length-marks (at + 26) g.number g.quant None g.macroblocks, length-append own (group_marks (at + length (group_text g)) gs)),
       group_is_short Cif g (All-head (IsValidGroup Cif) g gs valid),
     )

@@ -145,8 +145,7 @@ stands-failed s stamp len text ends i start sent old new now piece n less ends_h
     ∙ ap (λ (t : List ℕ). framed w.done ++ (t ++ framed left)) (sym piece_is) in
     let front : take (length (framed w.done) + n) (framed (rest_of s stamp text 0 no_end ends)) ≡ framed w.done ++ take n piece =
     ap (take (length (framed w.done) + n)) all ∙ take-append-add (framed w.done) (piece ++ framed left) n
-    ∙ ap (λ (t : List ℕ). framed w.done ++ t) (take-append-le n piece (framed left) (omega (arith, part))) in
-    (
+    ∙ ap (λ (t : List ℕ). framed w.done ++ t) (take-append-le n piece (framed left) (omega (arith, part))) in (
       length (framed w.done) + n,
       omega (arith, part, ap length all, length-append (framed w.done) (piece ++ framed left), length-append piece (framed left)),
       subst (Appends old now) (sym front) (Appends-trans old new now (framed w.done) (take n piece) w.bytes put),

@@ -282,13 +282,13 @@ fn put_u32(buffer: &mut Vec<u8>, number: u32)
 fn put_fixed(buffer: &mut Vec<u8>, marker: bool, settings: &Settings, stamp: u32)
     requires { vec_len buffer.old + 12 ≤ vec_capacity buffer.old }
     ensures items { buffer.new.items ≡ buffer.old.items ++ octets_of (plain (record {
-          marker = marker;
-          kind = 31;
-          seq = settings.now.seq;
-          stamp = stamp;
-          ssrc = settings.now.ssrc;
-          payload = [];
-        })) }
+      marker = marker;
+      kind = 31;
+      seq = settings.now.seq;
+      stamp = stamp;
+      ssrc = settings.now.ssrc;
+      payload = [];
+    })) }
     ensures kept { vec_capacity buffer.old ≤ vec_capacity buffer.new }
 {
     let mut fixed = [0; 12];

@@ -37,10 +37,9 @@ loop-i-preserved c =
     let inside : i < length coded.groups = omega (arith, c.loop-i-test.true, c.requires.finished.1, ap group_count c.requires.cif) in
     let more : take (i + 1) coded.groups ≡ take i coded.groups ++ v ∷ [] =
     take_more coded.groups i no_view inside
-    ∙ ap (λ (w : GroupView). take i coded.groups ++ w ∷ []) (get_or_from_slice_get coded.groups i v no_view c.group.ensures) in
-    (
+    ∙ ap (λ (w : GroupView). take i coded.groups ++ w ∷ []) (get_or_from_slice_get coded.groups i v no_view c.group.ensures) in (
       added ∙ ap (λ (t : List AtomEnd). t ++ view_ends coded.marks v) c.loop-i.invariant.0
-      ∙ sym (ap (views_ends coded.marks) more ∙ views-ends-more coded.marks (take i coded.groups) v),
+          ∙ sym (ap (views_ends coded.marks) more ∙ views-ends-more coded.marks (take i coded.groups) v),
       omega (arith, ap length added, length-append c.loop-i.ends.items (view_ends coded.marks v), few-view-ends coded.marks v h.1, c.loop-i.invariant.1),
     )
 

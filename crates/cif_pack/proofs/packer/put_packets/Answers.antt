@@ -64,25 +64,25 @@ loop-i-preserved g c =
     let cut_is : c.is_cut.result ≡ is_cut s.mtu start.at (drop (i + 1) ends) =
     c.is_cut.ensures ∙ ap (is_cut s.mtu start.at) (left-is ends i) in
     elim c.if-is_cut.branch [
-      then-is_cut+in_ok-put_all w ↦ (
-        let piece_is : w.as_slice.result.now ≡ frame (packet s c.args.stamp sent.packets text start.at e.at start.context) =
-        w.as_slice.ensures.value ∙ w.write_frame.ensures.octets
-        ∙ ap (λ (t : Settings). frame (packet t c.args.stamp 0 text start.at e.at start.context)) w.numbered.ensures
-        ∙ ap frame (packet-behind s c.args.stamp sent.packets text start.at e.at start.context) in
-        let short = short-frame s.mtu c.args.text.now.len start.at e (drop (i + 1) ends) c.requires.mtu
-        (next-ahead s.mtu c.args.text.now.len start.at ends i c.loop-i-test.true here.rise) in
-        record {
-        stands = stands-same s c.args.stamp c.args.text.now.len text ends (i + 1) e c.if-is_cut.start (record { packets = sent.packets + 1; octets = sent.octets + w.len.result }) c.if-is_cut.sent old
-            (g.K.Sink.written w.put_all.new.sink) (g.K.Sink.written c.if-is_cut.sink)
-            w.start-is w.sent-is (ap g.K.Sink.written w.sink-is)
-            (stands-cut s c.args.stamp c.args.text.now.len text ends i start sent old (g.K.Sink.written c.loop-i.sink) (g.K.Sink.written w.put_all.new.sink) w.as_slice.result.now w.len.result
-            c.loop-i-test.true (sym cut_is ∙ w.if-is_cut.true) piece_is
-            (w.len.ensures ∙ sym w.as_slice.ensures.len) (omega (arith, short, w.write_frame.ensures.long, ap length w.as_slice.ensures.value)) w.in_ok-put_all.ensures.bytes
-            here);
-        kept = ap g.K.Sink.faults w.sink-is ∙ w.in_ok-put_all.ensures.cause.kept ∙ c.loop-i.invariant.kept;
-        capacity = omega (arith, ap vec_capacity w.buffer-is, w.write_frame.ensures.kept, c.loop-i.invariant.capacity);
-      })
-    | else-is_cut w ↦ record {
+      | then-is_cut+in_ok-put_all w ↦ (
+          let piece_is : w.as_slice.result.now ≡ frame (packet s c.args.stamp sent.packets text start.at e.at start.context) =
+          w.as_slice.ensures.value ∙ w.write_frame.ensures.octets
+          ∙ ap (λ (t : Settings). frame (packet t c.args.stamp 0 text start.at e.at start.context)) w.numbered.ensures
+          ∙ ap frame (packet-behind s c.args.stamp sent.packets text start.at e.at start.context) in
+          let short = short-frame s.mtu c.args.text.now.len start.at e (drop (i + 1) ends) c.requires.mtu
+          (next-ahead s.mtu c.args.text.now.len start.at ends i c.loop-i-test.true here.rise) in
+          record {
+            stands = stands-same s c.args.stamp c.args.text.now.len text ends (i + 1) e c.if-is_cut.start (record { packets = sent.packets + 1; octets = sent.octets + w.len.result }) c.if-is_cut.sent old
+                (g.K.Sink.written w.put_all.new.sink) (g.K.Sink.written c.if-is_cut.sink)
+                w.start-is w.sent-is (ap g.K.Sink.written w.sink-is)
+                (stands-cut s c.args.stamp c.args.text.now.len text ends i start sent old (g.K.Sink.written c.loop-i.sink) (g.K.Sink.written w.put_all.new.sink) w.as_slice.result.now w.len.result
+                c.loop-i-test.true (sym cut_is ∙ w.if-is_cut.true) piece_is
+                (w.len.ensures ∙ sym w.as_slice.ensures.len) (omega (arith, short, w.write_frame.ensures.long, ap length w.as_slice.ensures.value)) w.in_ok-put_all.ensures.bytes
+                here);
+            kept = ap g.K.Sink.faults w.sink-is ∙ w.in_ok-put_all.ensures.cause.kept ∙ c.loop-i.invariant.kept;
+            capacity = omega (arith, ap vec_capacity w.buffer-is, w.write_frame.ensures.kept, c.loop-i.invariant.capacity);
+          })
+      | else-is_cut w ↦ record {
         stands = stands-same s c.args.stamp c.args.text.now.len text ends (i + 1) start c.if-is_cut.start sent c.if-is_cut.sent old
             (g.K.Sink.written c.loop-i.sink) (g.K.Sink.written c.if-is_cut.sink) w.start-is w.sent-is (ap g.K.Sink.written w.sink-is)
             (stands-on s c.args.stamp c.args.text.now.len text ends i start sent old (g.K.Sink.written c.loop-i.sink)
