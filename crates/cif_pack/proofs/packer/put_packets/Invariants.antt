@@ -1,0 +1,11 @@
+use Rattle.std.proofs.Common.{◌≡◌, ◌+◌, ◌≤◌, take, vec_capacity}
+use Rattle.pel_bits.specs.Bits.{bits}
+use Rattle.cif_pack.proofs.Sends.{Stands}
+use Rattle.cif_pack.proofs.packer.put_packets.Given as goal
+
+abbrev pub invariant-loop-i : goal.invariant-loop-i
+invariant-loop-i g l = record {
+  stands : Stands l.settings l.stamp l.text.len (take l.text.len (bits l.text.octets.now)) l.ends l.i l.start l.sent (g.K.Sink.written l.fn.sink) (g.K.Sink.written l.sink);
+  kept : g.K.Sink.faults l.sink ≡ g.K.Sink.faults l.fn.sink;
+  capacity : vec_capacity l.fn.buffer ≤ vec_capacity l.buffer;
+}

@@ -1,0 +1,7 @@
+pub mod Atoms
+pub mod Cuts
+pub mod Marked
+pub mod Packets
+pub mod Payload
+pub mod State
+pub mod Sending

@@ -1,0 +1,32 @@
+-- A packer, as its callers see it, and what sending a picture does.
+use Rattle.std.specs.Prelude.{◌≡◌, ℕ, ◌<◌, Bool, true, List, length, take, flat_map, Option, Result, Ok, Err}
+use Rattle.std.specs.Io.KnownBytes.{Appends}
+use Rattle.cif_pack.specs.declared.packer.Sent.{Sent}
+use Rattle.cif_pack.specs.declared.packer.Settings.{Settings}
+use Rattle.cif_pack.specs.Packets.{number_of}
+use Rattle.rtp_wire.specs.Frames.{frame}
+
+-- the settings with the number of the next packet, and whether a sink failed, so that it cannot be used again
+pub record PackerState : Type 0 where
+  pub settings : Settings
+  pub spent : Bool
+
+-- the packets, each in its frame
+abbrev pub framed : List (List ℕ) → List ℕ
+framed packets = flat_map frame packets
+
+-- What a sink was given for these packets: all of them, each in its frame, and their number and octets are told; or, where
+-- the sink failed, a front of them and not all.
+abbrev pub Puts : {E : Type 0} → (old new : Option (List ℕ)) → Result Sent E → List (List ℕ) → Type 0
+Puts old new (Ok sent) packets =
+    Appends old new (framed packets) × (sent.packets ≡ length packets) × (sent.octets ≡ length (framed packets))
+Puts old new (Err _) packets = (n : ℕ) × (n < length (framed packets)) × Appends old new (take n (framed packets))
+
+-- the settings behind so many packets: the number of the first one is that of the next
+abbrev pub behind : Settings → ℕ → Settings
+behind s count = record s { seq = number_of s count }
+
+-- what becomes of a packer that sends these packets: it goes on behind them, or is spent
+abbrev pub GoesOn : {E : Type 0} → (old new : PackerState) → Result Sent E → List (List ℕ) → Type 0
+GoesOn old new (Ok _) packets = new ≡ record old { settings = behind old.settings (length packets) }
+GoesOn old new (Err _) packets = new.spent ≡ true
