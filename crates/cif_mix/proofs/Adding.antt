@@ -15,7 +15,8 @@ use Rattle.cif_mix.specs.Shows.{Shows}
 
 bits-grown : (old : Coding) (quant : ℕ) (bits : List Bool) (marks : List Mark) → length (grown old quant bits marks).bits ≡ length old.bits + 26 + length bits
 bits-grown old quant bits marks =
-    omega (arith,
+    omega (
+      arith,
       length-append (old.bits ++ group_header (next_number old) quant) bits,
       length-append old.bits (group_header (next_number old) quant),
       length-group_header (next_number old) quant,

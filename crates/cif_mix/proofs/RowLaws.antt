@@ -62,7 +62,7 @@ pub record AtPair (show_left : Bool) (left : Coding) (show_right : Bool) (right 
   pub more : length now.groups ≡ length old.groups + 2 * i
   pub long : length now.bits ≤ length old.bits + 52 * i + shown_below show_left left i + shown_below show_right right i
   pub is : (l r : Option Picture) (whole : Picture) → Shows show_left left l → Shows show_right right r → old ≡ coding Cif whole
-    → now ≡ coding Cif (with_rows whole (or_blank l) (or_blank r) (length old.groups) i)
+      → now ≡ coding Cif (with_rows whole (or_blank l) (or_blank r) (length old.groups) i)
 
 module _ (show_left : Bool) (left : Coding) (show_right : Bool) (right : Coding) (old : Coding) where
   abbrev Pair : Coding → ℕ → Type 0
@@ -155,8 +155,13 @@ module _ (show_left : Bool) (left : Coding) (show_right : Bool) (right : Coding)
     cif = pair.cif;
     begun = pair.begun;
     more = omega (arith, pair.more);
-    long = omega (arith, pair.long,
-      shown-few show_left left 2 (λ s. box (may s)) (omega arith), shown-more show_left left 2,
-      shown-few show_right right 2 (λ s. box_right (may_right s)) (omega arith), shown-more show_right right 2);
+    long = omega (
+      arith,
+      pair.long,
+      shown-few show_left left 2 (λ s. box (may s)) (omega arith),
+      shown-more show_left left 2,
+      shown-few show_right right 2 (λ s. box_right (may_right s)) (omega arith),
+      shown-more show_right right 2,
+    );
     is = pair.is;
   }

@@ -49,7 +49,7 @@ pub record IsAdded (shown : Bool) (picture : Coding) (i : ℕ) (old new : Coding
   pub more : length new.groups ≡ length old.groups + 1
   pub long : length new.bits ≤ length old.bits + 26 + bits_shown shown picture i
   pub is : (p : Option Picture) (whole : Picture) → Shows shown picture p → old ≡ coding Cif whole
-    → new ≡ coding Cif (with_group whole (renumbered (next_number old) (group_in (or_blank p) i)))
+      → new ≡ coding Cif (with_group whole (renumbered (next_number old) (group_in (or_blank p) i)))
 
 -- ---- the groups of two places
 
@@ -73,4 +73,4 @@ pub record IsRowAdded (show_left : Bool) (left : Coding) (show_right : Bool) (ri
   pub more : length new.groups ≡ length old.groups + 6
   pub long : length new.bits ≤ length old.bits + 156 + 130852
   pub is : (l r : Option Picture) (whole : Picture) → Shows show_left left l → Shows show_right right r → old ≡ coding Cif whole
-    → new ≡ coding Cif (with_rows whole (or_blank l) (or_blank r) (length old.groups) 3)
+      → new ≡ coding Cif (with_rows whole (or_blank l) (or_blank r) (length old.groups) 3)

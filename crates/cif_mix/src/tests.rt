@@ -114,7 +114,9 @@ impl Sent {
                 for macroblock in 0..33_u32 {
                     self.put("1 0001")?;
                     for block in 1..7_u32 {
-                        self.put_full_block(third.wrapping_mul(198).wrapping_add(macroblock * 6 + block))?;
+                        self.put_full_block(
+                            third.wrapping_mul(198).wrapping_add(macroblock * 6 + block),
+                        )?;
                     }
                 }
                 Ok(())
@@ -190,7 +192,10 @@ fn try_row(rt: &HostRuntime, row: &Row) -> Result<(), Fail>
     compose(&hand, one, two, three, four, row.tr, &mut whole);
     let want = expected(alloc, row)?;
     assert_eq!(rt; whole.octets(), want.octets.as_slice());
-    assert_eq!(rt; (whole.bits().len(), whole.octets().len()), (row.bits, row.octets));
+    assert_eq!(rt;
+        (whole.bits().len(), whole.octets().len()),
+        (row.bits, row.octets)
+    );
     Ok(())
 }
 
