@@ -1,5 +1,5 @@
 -- The parts of a list of packets with one packet more.
-use Rattle.std.proofs.Common.{◌≡◌, ◌⊎◌, ℕ, zero, suc, ◌+◌, ◌<◌, ◌≤◌, Bool, true, false, if◌then◌else◌, List, [], ◌∷◌, ◌++◌, Option, None, Some, inl, inr, length, refl, sym, ap, ◌∙◌, arith, length-append, append-nil}
+use Rattle.std.proofs.Common.{◌≡◌, ◌⊎◌, ℕ, zero, suc, ◌<◌, ◌≤◌, Bool, true, false, if◌then◌else◌, List, [], ◌∷◌, ◌++◌, Option, None, Some, inl, inr, length, refl, sym, ap, ◌∙◌, arith, append-nil}
 use Rattle.rtp_h261.specs.Units.{Piece, Part, Skipped, Run, is_starter, goes_on, run_behind, part_at, more, cut, last_of}
 use Rattle.rtp_h261.specs.Steps.{last_part}
 

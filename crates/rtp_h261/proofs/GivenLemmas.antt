@@ -1,8 +1,8 @@
 -- What packets give with one packet more.
-use Rattle.std.proofs.Common.{◌≡◌, ℕ, zero, suc, ◌+◌, ◌<◌, ◌≤◌, Bool, true, false, not, ◌&&◌, if◌then◌else◌, List, [], ◌∷◌, ◌++◌, Option, None, Some, length, slice_index_or, refl, sym, ap, ap₂, ◌∙◌, arith, length-append, append-nil, append_assoc}
+use Rattle.std.proofs.Common.{◌≡◌, ℕ, zero, suc, ◌+◌, ◌≤◌, Bool, true, false, not, ◌&&◌, if◌then◌else◌, List, [], ◌∷◌, ◌++◌, Option, None, Some, length, slice_index_or, refl, sym, ap, ap₂, ◌∙◌, arith, length-append, append-nil, append_assoc}
 use Rattle.rtp_h261.specs.Units.{Piece, Part, Skipped, Run, Given, nothing, member, later, members, present, is_starter, goes_on, run_behind, part_at, more, cut, last_of, is_complete, bits_of, first_of, loses, unit_of, run_gives, part_gives, gives, spread, parts, all_given, fed}
 use Rattle.rtp_h261.specs.Steps.{last_part, last_member}
-use Rattle.rtp_h261.proofs.CutLemmas.{grow, extend, part_after, cut_more, last_of_more}
+use Rattle.rtp_h261.proofs.CutLemmas.{grow, extend, cut_more}
 
 abbrev pub fresh : Bool → Piece → Given
 fresh lost p = record { lost = lost; unit = if is_starter p then unit_of p [] else None }

@@ -1,8 +1,8 @@
 -- One step from what is held of some packets gives what the next packet gives in the whole list.
-use Rattle.std.proofs.Common.{◌≡◌, ◌⊎◌, ℕ, zero, suc, ◌+◌, ◌<◌, ◌≤◌, ◌==◌, Bool, true, false, not, ◌&&◌, if◌then◌else◌, List, [], ◌∷◌, ◌++◌, Option, None, Some, option_map, inl, inr, length, take, refl, sym, ap, ap₂, ◌∙◌, arith, length-append, append-nil, append_assoc}
-use Rattle.rtp_h261.specs.Units.{Piece, Part, Skipped, Run, Given, nothing, next_number, distance, is_late, is_joined, member, later, members, present, is_starter, goes_on, part_at, cut, last_of, is_complete, bits_of, unit_of, loses, parts, all_given, fed}
-use Rattle.rtp_h261.specs.Steps.{Mode, Seek, Idle, Collect, State, mode_behind, last_part, last_member, state_of, closed, starting, collected, turned, is_refused, follows, moved, step, kept_given, LawOfSteps, LawOfFronts}
-use Rattle.rtp_h261.proofs.CutLemmas.{part_after, extend, cut_more, last_of_more}
+use Rattle.std.proofs.Common.{◌≡◌, ◌⊎◌, ℕ, zero, suc, ◌==◌, Bool, true, false, not, ◌&&◌, if◌then◌else◌, List, [], ◌∷◌, ◌++◌, Option, None, Some, option_map, inl, inr, take, refl, sym, ap, ap₂, ◌∙◌, arith, append_assoc}
+use Rattle.rtp_h261.specs.Units.{Piece, Part, Skipped, Run, Given, nothing, next_number, is_late, is_joined, member, later, members, present, is_starter, goes_on, part_at, cut, last_of, is_complete, bits_of, unit_of, parts, all_given}
+use Rattle.rtp_h261.specs.Steps.{Mode, Seek, Idle, Collect, State, mode_behind, last_part, last_member, state_of, closed, starting, collected, turned, follows, moved, step, kept_given, LawOfSteps, LawOfFronts}
+use Rattle.rtp_h261.proofs.CutLemmas.{part_after, cut_more, last_of_more}
 use Rattle.rtp_h261.proofs.GivenLemmas.{fresh, answer, answer_to, members_more, last_member_more, present_some, present_none, all_given_more, fed_last}
 
 -- ---- lists

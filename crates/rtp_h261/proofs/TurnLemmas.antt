@@ -1,12 +1,12 @@
 -- What a turn of the code's depacketiser gives.
-use Rattle.std.proofs.Common.{◌≡◌, ℕ, zero, suc, ◌+◌, ◌-◌, ◌<◌, ◌≤◌, ◌==◌, nat_le, Bool, true, false, ◌&&◌, if◌then◌else◌, List, [], ◌∷◌, ◌++◌, Option, None, Some, option_map, map, ◌%◌, length, min, not, take, refl, sym, ap, ap₂, subst, ◌∙◌, arith, length-append, length-take}
+use Rattle.std.proofs.Common.{◌≡◌, ℕ, zero, suc, ◌+◌, ◌-◌, ◌≤◌, ◌==◌, nat_le, Bool, true, false, ◌&&◌, if◌then◌else◌, List, [], ◌∷◌, ◌++◌, Option, None, Some, option_map, map, ◌%◌, length, min, not, take, refl, sym, ap, ap₂, subst, ◌∙◌, arith, length-take}
 use Rattle.std.proofs.lemmas.List.{take-take, length-map, map-append}
 use Rattle.std.proofs.Math.Seq.{take-append-add}
 use Rattle.std.proofs.lemmas.Bool.Decides.{nat_tests}
 use Rattle.pel_bits.specs.Bits.{number}
 use Rattle.pel_model.specs.declared.Format.{Format}
 use Rattle.h261_pic.specs.Coded.{Coding}
-use Rattle.picture_laws.specs.Laws.{kept_length, KeptLength}
+use Rattle.picture_laws.specs.Laws.{kept_length}
 use Rattle.picture_laws.proofs.Kept.{kept-length}
 use Rattle.rtp_h261.specs.declared.depack.Unit.{Unit as Ended}
 use Rattle.rtp_h261.specs.declared.depack.Unit.TheVariants.{Picture, Gap}

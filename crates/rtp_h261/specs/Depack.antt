@@ -1,6 +1,5 @@
 -- What a depacketiser holds and gives, by the list of all packets that it was fed.
-use Rattle.std.specs.Prelude.{◌≡◌, ℕ, Bool, List, [], ◌∷◌, ◌++◌, length, take, map, Option, None, Some}
-use Rattle.pel_model.specs.declared.Fault.{Fault}
+use Rattle.std.specs.Prelude.{◌≡◌, ℕ, Bool, List, [], ◌∷◌, ◌++◌, length, map, Option, None, Some}
 use Rattle.pel_model.specs.declared.Format.{Format}
 use Rattle.pel_model.specs.Accepts.{Accepts}
 use Rattle.pel_model.specs.Grammar.{next_within_limit}
@@ -13,7 +12,7 @@ use Rattle.rtp_h261.specs.declared.depack.Unit.{Unit as Ended}
 use Rattle.rtp_h261.specs.declared.depack.Unit.TheVariants.{Picture, Gap}
 use Rattle.rtp_h261.specs.Packets.{piece_of}
 use Rattle.rtp_h261.specs.Steps.{State, state_of}
-use Rattle.rtp_h261.specs.Units.{Piece, Given, fed}
+use Rattle.rtp_h261.specs.Units.{Given, fed}
 
 -- what contracts see of a depacketiser
 pub record Held : Type 0 where

@@ -1,5 +1,5 @@
 -- The payload header of H.261 over RTP (RFC 4587, 4.1): four octets in front of the bits.
-use Rattle.std.specs.Prelude.{◌≡◌, ◌≢◌, ℕ, ◌+◌, ◌-◌, ◌%◌, ◌^◌, ◌<◌, Bool, ℤ, pos, negsuc, List, [], ◌∷◌, ◌++◌}
+use Rattle.std.specs.Prelude.{◌≡◌, ◌≢◌, ℕ, ◌-◌, ◌%◌, ◌^◌, ◌<◌, Bool, ℤ, pos, negsuc, List, ◌∷◌, ◌++◌}
 use Rattle.pel_bits.specs.Bits.{field}
 use Rattle.rtp_h261.specs.declared.payload.PayloadHeader.{PayloadHeader}
 

@@ -1,5 +1,5 @@
 -- Packets one by one: what has to be held of the packets that came so that the next one gives what it should.
-use Rattle.std.specs.Prelude.{◌≡◌, ℕ, ◌+◌, ◌^◌, ◌==◌, nat_le, Bool, true, false, not, ◌&&◌, if◌then◌else◌, List, [], ◌∷◌, ◌++◌, length, take, Option, None, Some, option_map}
+use Rattle.std.specs.Prelude.{◌≡◌, ℕ, ◌^◌, ◌==◌, nat_le, Bool, true, false, not, ◌&&◌, if◌then◌else◌, List, [], ◌∷◌, ◌++◌, length, take, Option, None, Some, option_map}
 use Rattle.rtp_h261.specs.Units.{Piece, Part, Skipped, Run, Given, nothing, next_number, distance, member, later, is_starter, is_complete, bits_of, parts, all_given, fed}
 
 -- ---- what is held

@@ -9,7 +9,7 @@ use Rattle.rtp_h261.specs.declared.depack.Collector.{Collector}
 use Rattle.rtp_h261.specs.declared.depack.Fed.{Fed}
 use Rattle.rtp_h261.specs.declared.depack.Phase.{Phase}
 use Rattle.rtp_h261.specs.declared.depack.Phase.TheVariants as phase
-use Rattle.rtp_h261.specs.Depack.{Held, Answers}
+use Rattle.rtp_h261.specs.Depack.{Answers}
 use Rattle.rtp_h261.specs.Steps.{Mode, Seek, Idle, Collect, State}
 use Rattle.rtp_h261.specs.Units.{Piece, Given}
 

@@ -2,7 +2,7 @@
 -- packets come by unreliable transport: some are lost, repeated or late (RFC 3550, 5.1, of sequence numbers). A picture is
 -- sent in packets of one timestamp with numbers that follow one another, the marker bit set on its last (RFC 4587, 4.1).
 -- Everything is said of the whole list of packets.
-use Rattle.std.specs.Prelude.{ℕ, zero, suc, ◌+◌, ◌-◌, ◌%◌, ◌^◌, ◌==◌, nat_le, Bool, true, false, not, ◌&&◌, if◌then◌else◌, List, [], ◌∷◌, ◌++◌, length, take, slice_index_or, Option, None, Some}
+use Rattle.std.specs.Prelude.{ℕ, zero, suc, ◌+◌, ◌-◌, ◌%◌, ◌^◌, ◌==◌, nat_le, Bool, false, not, ◌&&◌, if◌then◌else◌, List, [], ◌∷◌, ◌++◌, length, take, slice_index_or, Option, None, Some}
 use Rattle.pel_bits.specs.Bits.{number}
 
 -- what a usable packet brings

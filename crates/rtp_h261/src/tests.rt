@@ -62,21 +62,20 @@ fn packet(alloc: Global, row: &Row) -> Result<Vec<u8>, AllocError> {
     octets.push((*number & 0xff) as u8)?;
     octets.extend_from_slice(&[0, 0, 0, *stamp, 0, 0, 0, 1])?;
     octets.extend_from_slice(&[0, 0, 0, 0])?;
-    let mut at = *sbit & 7;
-    let mut last = 0;
+    let mut len = u32::from(*sbit & 7);
+    if len != 0 {
+        octets.push(0)?;
+    }
     for digit in digits.bytes().filter(|digit| matches!(digit, b'0' | b'1')) {
-        last |= (digit - b'0') << (7 - at);
-        at += 1;
-        if at == 8 {
-            octets.push(last)?;
-            last = 0;
-            at = 0;
+        if len % 8 == 0 {
+            octets.push(0)?;
         }
+        if let Some(last) = octets.last_mut() {
+            *last |= (digit - b'0') << (7 - len % 8);
+        }
+        len = len.wrapping_add(1);
     }
-    let ebit = (8 - at) % 8;
-    if at != 0 {
-        octets.push(last)?;
-    }
+    let ebit = ((8 - len % 8) % 8) as u8;
     if let Some(first) = octets.get_mut(12) {
         *first = (*sbit & 7) << 5 | ebit << 2 | 1;
     }

@@ -1,5 +1,5 @@
 -- As many bits are there as the header says, as far as there is room.
-use Rattle.std.proofs.Common.{◌≡◌, ◌∙◌, ◌-◌, ◌*◌, ◌+◌, ◌<◌, ◌≤◌, ◌++◌, ℕ, sym, subst, ap, ap₂, Bool, List, take, drop, length, min, arith, length-drop, length-take}
+use Rattle.std.proofs.Common.{◌≡◌, ◌∙◌, ◌-◌, ◌*◌, ◌+◌, ℕ, sym, ap, ap₂, List, take, drop, length, min, arith, length-drop, length-take}
 use Rattle.std.proofs.Math.Seq.{take-length}
 use Rattle.pel_bits.specs.Bits.{bits}
 use Rattle.rtp_h261.proofs.PayloadLemmas.{not_usable, usable, carried_is}

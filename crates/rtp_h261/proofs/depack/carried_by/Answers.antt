@@ -1,5 +1,5 @@
 -- The bits behind the header are those of a usable packet.
-use Rattle.std.proofs.Common.{◌≡◌, Bool, if◌then◌else◌, Option, None, Some, length, refl, ap, arith, length-take}
+use Rattle.std.proofs.Common.{Bool, if◌then◌else◌, None, Some, length, refl, ap, arith, length-take}
 use Rattle.rtp_wire.specs.Rtp.{seen}
 use Rattle.rtp_h261.specs.Packets.{piece_of_fields, carried}
 use Rattle.rtp_h261.specs.Units.{Piece}

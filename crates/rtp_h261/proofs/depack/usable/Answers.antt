@@ -1,10 +1,9 @@
 -- What is read of the octets says what they bring.
-use Rattle.std.proofs.Common.{◌≡◌, ℕ, sym, subst, ap, Option, None, Ok, Err, Result}
-use Rattle.rtp_wire.specs.Rtp.{Fields, seen, packet_of}
+use Rattle.std.proofs.Common.{sym, subst, ap, Result}
+use Rattle.rtp_wire.specs.Rtp.{Fields}
 use Rattle.rtp_wire.specs.declared.header.PacketFault.{PacketFault}
 use Rattle.rtp_h261.specs.Packets.{piece_of, piece_of_read}
 use Rattle.rtp_h261.specs.Turns.{CarriesIf}
-use Rattle.rtp_h261.specs.Units.{Piece}
 use Rattle.rtp_h261.proofs.depack.usable.Goals as goal
 
 pub returns-in-Ok : goal.returns-in-Ok

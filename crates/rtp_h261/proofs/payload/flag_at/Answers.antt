@@ -1,5 +1,5 @@
 -- One bit is the number that it spells.
-use Rattle.std.proofs.Common.{◌≡◌, ◌==◌, ℕ, List, [], ◌∷◌, ap, ◌∙◌}
+use Rattle.std.proofs.Common.{◌==◌, ℕ, [], ◌∷◌, ap, ◌∙◌}
 use Rattle.rtp_h261.proofs.PayloadLemmas.{flag_is}
 use Rattle.rtp_h261.proofs.payload.flag_at.Goals as goal
 

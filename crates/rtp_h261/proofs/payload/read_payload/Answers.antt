@@ -1,5 +1,5 @@
 -- The fields are those of the header's bits.
-use Rattle.std.proofs.Common.{◌≡◌, ◌≤◌, ℕ, ℤ, Bool, List, take, drop, length, Some, sym, ap, ◌∙◌, rules, arith, w8, to_z, of_z}
+use Rattle.std.proofs.Common.{◌≡◌, ℕ, take, Some, sym, ap, ◌∙◌, rules, arith, w8, to_z, of_z}
 use Rattle.std.proofs.lemmas.Int.{to_z-of_z}
 use Rattle.std.proofs.lemmas.List.{take-take}
 use Rattle.pel_bits.specs.Bits.{bits, field}

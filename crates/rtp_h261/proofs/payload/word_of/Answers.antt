@@ -1,5 +1,5 @@
 -- The number spells the fields one after another.
-use Rattle.std.proofs.Common.{◌≡◌, ◌+◌, ◌*◌, ℕ, Bool, true, false, refl, if◌then◌else◌, ap, ◌∙◌, arith, rules, w8}
+use Rattle.std.proofs.Common.{◌≡◌, ℕ, Bool, true, false, refl, if◌then◌else◌, ap, ◌∙◌, arith, rules, w8}
 use Rattle.std.proofs.lemmas.Int.{to_z-of_z}
 use Rattle.pel_bits.specs.Bits.{field}
 use mir.Val.{bool_byte}

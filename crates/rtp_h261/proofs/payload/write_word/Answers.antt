@@ -1,5 +1,5 @@
 -- The octets of the number have its bits.
-use Rattle.std.proofs.Common.{◌≡◌, ◌++◌, ℕ, List, [], ap, drop, ◌∙◌, append-nil}
+use Rattle.std.proofs.Common.{◌++◌, ℕ, List, ap, ◌∙◌, append-nil}
 use Rattle.byteorder.specs.Endian.{big_bytes}
 use Rattle.pel_bits.specs.Bits.{bits}
 use Rattle.rtp_h261.proofs.HeaderLemmas.{word_bits, none_behind}

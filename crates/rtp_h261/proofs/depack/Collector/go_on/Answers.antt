@@ -1,9 +1,7 @@
 -- The bits are kept as far as there is room.
-use Rattle.std.proofs.Common.{◌≡◌, ◌∙◌, ◌-◌, ◌++◌, ℕ, sym, subst, ap, ap₂, Bool, List, take, length, min, arith}
+use Rattle.std.proofs.Common.{◌≡◌, ◌∙◌, ◌-◌, ◌++◌, ℕ, ap, Bool, List, take, length, min, arith}
 use Rattle.pel_bits.specs.Buffer.{Buffer}
 use Rattle.picture_laws.specs.Laws.{kept_length}
-use Rattle.rtp_h261.specs.Depack.{IsUnit}
-use Rattle.rtp_h261.specs.Units.{Piece}
 use Rattle.rtp_h261.proofs.TurnLemmas.{appended, marked_turn, unmarked_turn}
 use Rattle.rtp_h261.proofs.depack.Collector.go_on.Goals as goal
 

@@ -1,5 +1,5 @@
 -- A packet outside a run is skipped, is a unit, or begins to collect.
-use Rattle.std.proofs.Common.{◌≡◌, ◌∙◌, ◌++◌, sym, subst, ap, Bool, List, take, length, true, false, arith}
+use Rattle.std.proofs.Common.{◌≡◌, ◌∙◌, ◌++◌, subst, ap, Bool, List, take}
 use Rattle.std.proofs.Math.Seq.{take-length}
 use Rattle.pel_bits.specs.Buffer.{Buffer}
 use Rattle.rtp_h261.specs.Depack.{IsUnit}

@@ -1,5 +1,5 @@
 -- A packet behind a complete run.
-use Rattle.std.proofs.Common.{◌≡◌, sym, subst}
+use Rattle.std.proofs.Common.{sym, subst}
 use Rattle.picture_laws.specs.Laws.{kept_length}
 use Rattle.rtp_h261.specs.declared.depack.Phase.{Phase}
 use Rattle.rtp_h261.specs.Steps.{turned}

@@ -1,5 +1,5 @@
 -- A step from what is held of the packets before.
-use Rattle.std.proofs.Common.{◌≡◌, ◌++◌, ◌∷◌, [], ◌∙◌, ℕ, List, map, Some, sym, subst, ap}
+use Rattle.std.proofs.Common.{◌≡◌, ◌++◌, ◌∷◌, [], ◌∙◌, ℕ, map, Some, sym, subst, ap}
 use Rattle.picture_laws.specs.Laws.{kept_length}
 use Rattle.pel_model.specs.declared.Format.{Format}
 use Rattle.rtp_h261.specs.Depack.{Held}

@@ -1,5 +1,5 @@
 -- Late packets change nothing; the others take a turn.
-use Rattle.std.proofs.Common.{◌≡◌, ◌∙◌, sym, subst, ap}
+use Rattle.std.proofs.Common.{◌∙◌, sym, subst, ap}
 use Rattle.picture_laws.specs.Laws.{kept_length}
 use Rattle.rtp_h261.specs.Depack.{Held}
 use Rattle.rtp_h261.specs.Steps.{turned, is_refused, follows}
