@@ -10,6 +10,7 @@ use h261_pic::{Coded, Hand, parse};
 use pel_bits::{Bits, NoMemory};
 use pel_model::Format::{Cif, Qcif};
 use std::alloc::{AllocError, Global};
+use std::process::Abort;
 use std::test::Fail;
 
 /// A picture whose groups have quantiser 8: one block with level 1; all blocks with INTRADC 255; the same with coefficients
@@ -177,10 +178,9 @@ fn expected(alloc: Global, row: &Row) -> Result<Sent, AllocError> {
 }
 
 // Composes all four boxes, and then as the row asks.
-fn try_row(rt: &HostRuntime, row: &Row) -> Result<(), Fail>
+fn try_row(rt: &impl Abort, alloc: Global, row: &Row) -> Result<(), Fail>
     requires { row.now.tr < 32 }
 {
-    let alloc = rt.alloc();
     let mut hand = Hand::reserve(alloc)?;
     fill(alloc, row.boxes[0], &mut hand.one)?;
     fill(alloc, row.boxes[1], &mut hand.two)?;
@@ -203,6 +203,7 @@ fn try_row(rt: &HostRuntime, row: &Row) -> Result<(), Fail>
 fn nothing_shown(rt: HostRuntime) -> Result<(), Fail> {
     try_row(
         &rt,
+        rt.alloc(),
         &Row {
             boxes: [Grey, Small, Grey, Small],
             shown: [false, false, false, false],
@@ -218,6 +219,7 @@ fn nothing_shown(rt: HostRuntime) -> Result<(), Fail> {
 fn grey_bottom_right(rt: HostRuntime) -> Result<(), Fail> {
     try_row(
         &rt,
+        rt.alloc(),
         &Row {
             boxes: [Small, Small, Small, Grey],
             shown: [false, false, false, true],
@@ -233,6 +235,7 @@ fn grey_bottom_right(rt: HostRuntime) -> Result<(), Fail> {
 fn crossed_places(rt: HostRuntime) -> Result<(), Fail> {
     try_row(
         &rt,
+        rt.alloc(),
         &Row {
             boxes: [Grey, Small, Grey, Small],
             shown: [false, true, true, false],
@@ -248,6 +251,7 @@ fn crossed_places(rt: HostRuntime) -> Result<(), Fail> {
 fn four_full_pictures(rt: HostRuntime) -> Result<(), Fail> {
     try_row(
         &rt,
+        rt.alloc(),
         &Row {
             boxes: [Full, Full, Full, Full],
             shown: [true, true, true, true],
