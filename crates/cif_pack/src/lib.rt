@@ -6,4 +6,4 @@ mod atoms;
 mod packer;
 mod payload;
 
-pub use packer::{Packer, Sent};
+pub use packer::{Packer, Sent, Settings};
