@@ -7,3 +7,6 @@ mod packer;
 mod payload;
 
 pub use packer::{Packer, Sent, Settings};
+
+#[cfg(test)]
+mod tests;
