@@ -6,4 +6,7 @@ mod atoms;
 mod packer;
 mod payload;
 
-pub use packer::{Packer, Sent};
+pub use packer::{Packer, Sent, Settings};
+
+#[cfg(test)]
+mod tests;
