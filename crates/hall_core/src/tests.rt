@@ -1,4 +1,4 @@
-//! What a hall answers, takes and waits for, by what came. What is expected comes from a model made apart from this one.
+//! What a hall answers, takes and waits for, by what came. What is expected is counted by hand from the rule of takes.
 
 ghost use Rattle.std.specs.Prelude.{◌≡◌, IfOk};
 ghost use Rattle.h261_pic.specs.Coded.{IsFinished};
