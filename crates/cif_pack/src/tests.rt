@@ -48,7 +48,8 @@ fn fill(alloc: Global, sample: Sample, picture: &mut Coded) -> Result<(), Fail>
     let mut len = 0;
     put(&mut octets, &mut len, "00000000000000010000000010001110")?;
     for number in [
-        "0001", "0010", "0011", "0100", "0101", "0110", "0111", "1000", "1001", "1010", "1011", "1100",
+        "0001", "0010", "0011", "0100", "0101", "0110", "0111", "1000", "1001", "1010", "1011",
+        "1100",
     ] {
         put(&mut octets, &mut len, "0000000000000001")?;
         put(&mut octets, &mut len, number)?;
@@ -105,7 +106,10 @@ fn try_row(rt: &impl Abort, alloc: Global, row: &Row) -> Result<(), Fail>
     let mut sink = MemSink::reserve(alloc, 10_000, Vec::new(alloc), row.piece)?;
     let sent = packer.pack(&picture, row.total, &mut sink)?;
     assert_eq!(rt; (sent.packets, sent.octets), (row.packets, row.octets));
-    assert_eq!(rt; (sink.bytes().len() as u64, sum_of(sink.bytes())), (row.octets, row.sum));
+    assert_eq!(rt;
+        (sink.bytes().len() as u64, sum_of(sink.bytes())),
+        (row.octets, row.sum)
+    );
     Ok(())
 }
 
