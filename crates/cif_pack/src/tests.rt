@@ -10,6 +10,7 @@ use io_edge::MemSink;
 use pel_bits::Bits;
 use pel_model::Format::Cif;
 use std::alloc::{AllocError, Global};
+use std::process::Abort;
 use std::test::Fail;
 
 /// What is sent of the macroblocks of a CIF picture with GQUANT 8.
