@@ -1,7 +1,7 @@
 -- A run of bits within one word, and the octets of a word.
-use Rattle.std.proofs.Common.{◌≡◌, ℕ, zero, suc, ◌+◌, ◌-◌, ◌*◌, ◌/◌, ◌%◌, ◌^◌, ◌<◌, ◌≤◌, Bool, false, List, [], ◌∷◌, ◌++◌, length, get_or, take, drop, set, refl, sym, ◌∙◌, ap, subst, arith, append_assoc, length-append, length-drop, length-take, length-set, append-nil, take_at, take-take}
+use Rattle.std.proofs.Common.{◌≡◌, ℕ, zero, suc, ◌+◌, ◌-◌, ◌*◌, ◌/◌, ◌%◌, ◌^◌, ◌<◌, ◌≤◌, Bool, false, List, [], ◌∷◌, ◌++◌, length, get_or, take, drop, set, refl, sym, zero-add, ◌∙◌, ap, subst, arith, append_assoc, length-append, length-drop, length-take, length-set, append-nil, take_at, take-take}
 use Rattle.std.proofs.lemmas.List.{drop-drop, drop-take, drop_more, get_or-drop, take_more_set, take-append-le, take-replicate, take_all, length-replicate, replicate-append-replicate}
-use Rattle.std.proofs.lemmas.Nat.{shr-shr, field_of, shl_below, shr_below, shl_whole, mod_below, pow-add, mul-add-lt}
+use Rattle.std.proofs.lemmas.Nat.{shr-shr, shr_high, mod_low, mod-pow-add, field_of, shl_below, shr_below, shl_whole, mod_below, pow_pos, pow-add, mul-add-lt}
 use Rattle.std.proofs.Math.Nat.{mul_comm, pow-le-pow_right}
 use Rattle.std.proofs.Math.Seq.{take-add, take-append-add}
 use Rattle.pel_bits.specs.Bits.{bits, field, number}
@@ -199,21 +199,25 @@ run_fits kept s value w low fits p q =
 pub kept_below : (octet s : ℕ) → s < 8 → octet < 256 → octet / 2 ^ (8 - s) < 2 ^ s
 kept_below octet s low fits = shr_below octet s (8 - s) (subst (λ (k : ℕ). octet < 2 ^ k) (sym (plus-rest s 8 (omega arith))) fits)
 
+-- the first bits of an octet
+front-of-octet : (octets : List ℕ) (i s : ℕ) → i < length octets → s ≤ 8 → take s (drop (8 * i) (bits octets)) ≡ field (get_or octets i 0 / 2 ^ (8 - s)) s
+front-of-octet octets i s inside fits =
+    let octet : ℕ = get_or octets i 0 in
+    let one : drop (8 * i) (bits octets) ≡ field octet 8 ++ bits (drop (i + 1) octets) = drop-bits i octets (omega arith) ∙ ap bits (drop_more octets i 0 inside) in
+    let eight : s + (8 - s) ≡ 8 = omega arith in
+    ap (take s) one
+    ∙ (take-append-le s (field octet 8) (bits (drop (i + 1) octets)) (omega (arith, length-field octet 8))
+    ∙ (ap (λ (k : ℕ). take s (field octet k)) (sym eight) ∙ take-field octet s (8 - s)))
+
 -- the first `at` bits, from whole octets and the first bits of the next
 pub bits-before : (octets : List ℕ) (at : ℕ) → at / 8 < length octets → take at (bits octets) ≡ take (8 * (at / 8)) (bits octets) ++ field (get_or octets (at / 8) 0 / 2 ^ (8 - at % 8)) (at % 8)
 bits-before octets at inside =
     let i : ℕ = at / 8 in
     let s : ℕ = at % 8 in
-    let octet : ℕ = get_or octets (at / 8) 0 in
     let sum : at ≡ 8 * i + s = omega arith in
-    let one : drop (8 * i) (bits octets) ≡ field octet 8 ++ bits (drop (i + 1) octets) = drop-bits i octets (omega arith) ∙ ap bits (drop_more octets i 0 inside) in
-    let eight : s + (8 - s) ≡ 8 = omega arith in
-    let first : take s (field octet 8 ++ bits (drop (i + 1) octets)) ≡ field (octet / 2 ^ (8 - s)) s =
-    take-append-le s (field octet 8) (bits (drop (i + 1) octets)) (omega (arith, length-field octet 8))
-    ∙ (ap (λ (k : ℕ). take s (field octet k)) (sym eight) ∙ take-field octet s (8 - s)) in
     ap (λ (k : ℕ). take k (bits octets)) sum
     ∙ (take-add (8 * i) s (bits octets)
-    ∙ ap (λ (t : List Bool). take (8 * i) (bits octets) ++ t) (ap (take s) one ∙ first))
+    ∙ ap (λ (t : List Bool). take (8 * i) (bits octets) ++ t) (front-of-octet octets i s inside (omega arith)))
 
 -- zeros behind a list, cut short
 pub take-zeros : (bs : List Bool) (n z : ℕ) → length bs ≤ n → n ≤ length bs + z → take n (bs ++ zeros z) ≡ bs ++ zeros (n - length bs)
@@ -274,20 +278,55 @@ part_below source from w inside =
     let piece : List Bool = take w (drop from (bits source)) in
     subst (λ (n : ℕ). number piece < 2 ^ n) (length-part source from w inside) (number_below piece)
 
--- 64 bits are copied as the numbers of their halves
-pub copied-word : (old new source : List ℕ) (at from high low : ℕ) → at % 8 ≡ 0 → at / 8 + 8 ≤ length old → from / 8 + 12 ≤ length source → high ≡ number (take 32 (drop from (bits source))) → low ≡ number (take 32 (drop (from + 32) (bits source))) → take (8 * (at / 8 + 8)) (bits new) ≡ take (8 * (at / 8)) (bits old) ++ field (high * 2 ^ 32 % 2 ^ 64 + low) 64 → take (whole (at + 64)) (bits new) ≡ filled_up (take at (bits old) ++ take 64 (drop from (bits source)))
-copied-word old new source at from high low even room inside high_is low_is stored =
-    let high_below : high < 2 ^ 32 = subst (λ (n : ℕ). n < 2 ^ 32) (sym high_is) (part_below source from 32 (omega arith)) in
-    let low_below : low < 2 ^ 32 = subst (λ (n : ℕ). n < 2 ^ 32) (sym low_is) (part_below source (from + 32) 32 (omega arith)) in
-    let word : high * 2 ^ 32 % 2 ^ 64 ≡ high * 2 ^ 32 = shl_whole high 32 32 64 high_below (omega arith) in
-    let first : field high 32 ≡ take 32 (drop from (bits source)) = ap (λ (n : ℕ). field n 32) high_is ∙ field-of-part source from 32 (omega arith) in
-    let second : field low 32 ≡ take 32 (drop 32 (drop from (bits source))) =
-    ap (λ (n : ℕ). field n 32) low_is ∙ (field-of-part source (from + 32) 32 (omega arith) ∙ ap (take 32) (sym (drop-drop 32 from (bits source)))) in
-    let run : field (high * 2 ^ 32 % 2 ^ 64 + low) 64 ≡ take 64 (drop from (bits source)) =
-    ap (λ (n : ℕ). field (n + low) 64) word
-    ∙ (field-join high low 32 32 low_below
-    ∙ (ap (λ (t : List Bool). t ++ field low 32) first
-    ∙ (ap (λ (t : List Bool). take 32 (drop from (bits source)) ++ t) second ∙ sym (take-add 32 32 (drop from (bits source)))))) in
+-- a word that is shifted to the left keeps its lower bits
+kept-by-shift : (word s : ℕ) → s ≤ 64 → word * 2 ^ s % 2 ^ 64 ≡ word % 2 ^ (64 - s) * 2 ^ s
+kept-by-shift word s fits =
+    let plain : word * 2 ^ s ≡ word * 2 ^ s + 0 = omega arith in
+    let width : 64 ≡ (64 - s) + s = omega arith in
+    let high : word * 2 ^ s / 2 ^ s ≡ word = ap (λ (n : ℕ). n / 2 ^ s) plain ∙ shr_high word s 0 (pow_pos s) in
+    let low : word * 2 ^ s % 2 ^ s ≡ 0 = ap (λ (n : ℕ). n % 2 ^ s) plain ∙ mod_low word s 0 (pow_pos s) in
+    ap (λ (k : ℕ). word * 2 ^ s % 2 ^ k) width
+    ∙ (mod-pow-add (word * 2 ^ s) (64 - s) s
+    ∙ (ap (λ (n : ℕ). n % 2 ^ (64 - s) * 2 ^ s + word * 2 ^ s % 2 ^ s) high
+    ∙ (ap (λ (n : ℕ). word % 2 ^ (64 - s) * 2 ^ s + n) low ∙ omega arith)))
+
+-- 64 bits are those of a word from its bit s on, and the first s bits of the octet behind it
+pub word-and-octet : (octets : List ℕ) (from word : ℕ) → from / 8 + 9 ≤ length octets → get_or octets (from / 8 + 8) 0 < 256 → field word 64 ≡ bits (take 8 (drop (from / 8) octets)) → field (word * 2 ^ (from % 8) % 2 ^ 64 + get_or octets (from / 8 + 8) 0 / 2 ^ (8 - from % 8)) 64 ≡ take 64 (drop from (bits octets))
+word-and-octet octets from word inside octet_fits same =
+    let i : ℕ = from / 8 in
+    let s : ℕ = from % 8 in
+    let w : ℕ = 64 - s in
+    let rest : ℕ = get_or octets (from / 8 + 8) 0 / 2 ^ (8 - s) in
+    let low : s < 8 = mod_below from 8 (omega arith) in
+    let width : 64 ≡ w + s = omega arith in
+    let turned : 64 ≡ s + w = omega arith in
+    let place : from + w ≡ 8 * (i + 8) = omega arith in
+    let lower : take w (drop s (field word 64)) ≡ field word w =
+    ap (λ (k : ℕ). take w (drop s (field word k))) turned
+    ∙ (ap (take w) (drop-field word s w) ∙ take_all w (field word w) (omega (arith, length-field word w))) in
+    let first : take w (drop from (bits octets)) ≡ field word w = run-of-front octets from w 8 word (omega arith) (omega arith) same ∙ lower in
+    let behind : take s (drop w (drop from (bits octets))) ≡ field rest s =
+    ap (take s) (drop-drop w from (bits octets))
+    ∙ (ap (λ (k : ℕ). take s (drop k (bits octets))) place ∙ front-of-octet octets (i + 8) s (omega arith) (omega arith)) in
+    let kept : field (word % 2 ^ w) w ≡ field word w = ap (λ (k : ℕ). field (word % 2 ^ k) w) (sym (zero-add w)) ∙ field-mod word 0 w in
+    ap (λ (n : ℕ). field (n + rest) 64) (kept-by-shift word s (omega arith))
+    ∙ (ap (field (word % 2 ^ w * 2 ^ s + rest)) width
+    ∙ (field-join (word % 2 ^ w) rest w s (kept_below (get_or octets (from / 8 + 8) 0) s low octet_fits)
+    ∙ (ap (λ (t : List Bool). t ++ field rest s) (kept ∙ sym first)
+    ∙ (ap (λ (t : List Bool). take w (drop from (bits octets)) ++ t) (sym behind)
+    ∙ (sym (take-add w s (drop from (bits octets))) ∙ ap (λ (k : ℕ). take k (drop from (bits octets))) (sym width))))))
+
+pub long_word_fits : (word octet s : ℕ) → s < 8 → octet < 256 → word * 2 ^ s % 2 ^ 64 + octet / 2 ^ (8 - s) < 2 ^ 64
+long_word_fits word octet s low octet_fits =
+    let width : (64 - s) + s ≡ 64 = omega arith in
+    let high : word % 2 ^ (64 - s) < 2 ^ (64 - s) = mod_below word (2 ^ (64 - s)) (pow_pos (64 - s)) in
+    let joined : word % 2 ^ (64 - s) * 2 ^ s + octet / 2 ^ (8 - s) < 2 ^ 64 =
+    subst (λ (k : ℕ). word % 2 ^ (64 - s) * 2 ^ s + octet / 2 ^ (8 - s) < 2 ^ k) width (join_below (word % 2 ^ (64 - s)) (octet / 2 ^ (8 - s)) (64 - s) s high (kept_below octet s low octet_fits)) in
+    subst (λ (n : ℕ). n + octet / 2 ^ (8 - s) < 2 ^ 64) (sym (kept-by-shift word s (omega arith))) joined
+
+-- 64 bits are copied as one word
+pub copied-word : (old new source : List ℕ) (at from word : ℕ) → at % 8 ≡ 0 → at / 8 + 8 ≤ length old → from / 8 + 9 ≤ length source → field word 64 ≡ take 64 (drop from (bits source)) → take (8 * (at / 8 + 8)) (bits new) ≡ take (8 * (at / 8)) (bits old) ++ field word 64 → take (whole (at + 64)) (bits new) ≡ filled_up (take at (bits old) ++ take 64 (drop from (bits source)))
+copied-word old new source at from word even room inside run stored =
     let place : 8 * (at / 8) ≡ at = omega arith in
     let now : List Bool = take at (bits old) ++ take 64 (drop from (bits source)) in
     let len : length now ≡ at + 64 =
@@ -296,12 +335,9 @@ copied-word old new source at from high low even room inside high_is low_is stor
     let none : whole (length now) - length now ≡ 0 = omega (arith, len) in
     ap (λ (n : ℕ). take n (bits new)) (omega arith)
     ∙ (stored
-    ∙ (ap (λ (n : ℕ). take n (bits old) ++ field (high * 2 ^ 32 % 2 ^ 64 + low) 64) place
+    ∙ (ap (λ (n : ℕ). take n (bits old) ++ field word 64) place
     ∙ (ap (λ (t : List Bool). take at (bits old) ++ t) run
     ∙ (sym (append-nil now) ∙ ap (λ (n : ℕ). now ++ zeros n) (sym none)))))
-
-pub word_fits : (high low : ℕ) → low < 2 ^ 32 → high < 2 ^ 32 → high * 4294967296 % 18446744073709551616 + low < 18446744073709551616
-word_fits high low p q = omega arith
 
 -- the run that was written behind the first n bits stands there
 pub now-holds : (octets : List ℕ) (bs run : List Bool) (n w : ℕ) → length bs ≡ n → length run ≡ w → take (whole (n + w)) (bits octets) ≡ filled_up (bs ++ run) → take (n + w) (bits octets) ≡ bs ++ run

@@ -28,7 +28,8 @@ impl Model for BitBuf {
 
     ghost view = { λ b. record { list = take b.len (bits b.octets.items); capacity = b.capacity } };
 
-    ghost invariant = { λ b. (b.len ≤ b.capacity) × (b.capacity < 2 ^ 32) × (b.capacity + 64 ≤ 8 * length b.octets.items) × (take (whole b.len) (bits b.octets.items) ≡ filled_up (take b.len (bits b.octets.items))) };
+    ghost invariant = { λ b. (b.len ≤ b.capacity) × (b.capacity < 2 ^ 32) × (b.capacity + 64 ≤ 8 * length b.octets.items)
+        × (take (whole b.len) (bits b.octets.items) ≡ filled_up (take b.len (bits b.octets.items))) };
 }
 
 impl BitBuf {

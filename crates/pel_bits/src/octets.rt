@@ -125,8 +125,8 @@ pub fn copy_run(octets: &mut [u8], at: usize, source: &[u8], from: usize, len: u
 {
     let mut done = len.min(56 - at % 8);
     copy_piece(octets, at, source, from, done);
-    // from here on the place is at the beginning of an octet; where 96 bits are left, so are twelve octets
-    while len - done >= 96 {
+    // from here on the place is at the beginning of an octet; where 72 bits are left, so are nine octets
+    while len - done >= 72 {
         copy_word(octets, at + done, source, from + done);
         done += 64;
     }
@@ -157,12 +157,22 @@ fn copy_piece(octets: &mut [u8], at: usize, source: &[u8], from: usize, len: usi
 fn copy_word(octets: &mut [u8], at: usize, source: &[u8], from: usize)
     requires whole { at % 8 ≡ 0 }
     requires room { at / 8 + 8 ≤ length octets.old }
-    requires inside { from / 8 + 12 ≤ length source.now }
-    requires small { from < 2 ^ 40 }
+    requires inside { from / 8 + 9 ≤ length source.now }
     ensures { take (whole (at + 64)) (bits octets.new)
         ≡ filled_up (take at (bits octets.old) ++ take 64 (drop from (bits source.now))) }
 {
-    let high = word_at(source, from, 32);
-    let low = word_at(source, from + 32, 32);
-    store(octets, at / 8, (high << 32) + low);
+    let word = long_word_at(source, from);
+    store(octets, at / 8, word);
+}
+
+// The 64 bits from bit `from` on: those that one load holds of them, and the rest in the octet behind it. Made so, and
+// not of two halves, the word is stored at once.
+#[inline]
+fn long_word_at(octets: &[u8], from: usize) -> u64
+    requires { from / 8 + 9 ≤ length octets.now }
+    ensures { field result 64 ≡ take 64 (drop from (bits octets.now)) }
+{
+    let first = load(octets, from / 8);
+    let rest = u64::from(octets[from / 8 + 8]) >> (8 - from % 8);
+    (first << (from % 8)) + rest
 }

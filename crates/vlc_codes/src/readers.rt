@@ -135,7 +135,8 @@ fn pair(r: &mut Reader<'_>, top: u32, len: u32, run: u8, level: u8) -> Result<Co
     requires short { len ≤ 16 }
     requires inside { len ≤ length r.old.0 }
     requires small { level ≤ 15 }
-    ensures { (code : _) → length code ≡ len → TakesWord coefficient_element (whole_word (coefficient_row code run level) r.old.0) result r.old r.new }
+    ensures { (code : _) → length code ≡ len →
+        TakesWord coefficient_element (whole_word (coefficient_row code run level) r.old.0) result r.old r.new }
 {
     if r.left() <= len {
         return Err(Why::Cut);

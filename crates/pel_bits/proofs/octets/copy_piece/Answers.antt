@@ -1,4 +1,4 @@
-use Rattle.std.proofs.Common.{◌≡◌, ◌<◌, ◌^◌, ◌++◌, ℕ, Bool, List, take, ap, ◌∙◌, subst, sym}
+use Rattle.std.proofs.Common.{◌<◌, ◌^◌, ◌++◌, ℕ, Bool, List, take, ap, ◌∙◌, subst, sym}
 use Rattle.pel_bits.specs.Bits.{bits}
 use Rattle.pel_bits.specs.Buffer.{filled_up}
 use Rattle.pel_bits.proofs.RunBits.{field-of-part, part_below}

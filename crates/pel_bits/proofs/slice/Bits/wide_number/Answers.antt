@@ -1,5 +1,5 @@
-use Rattle.std.proofs.Common.{◌≡◌, ◌+◌, length, ap, sym, ◌∙◌, arith}
-use Rattle.pel_bits.specs.Bits.{bits, number}
+use Rattle.std.proofs.Common.{◌≡◌, length, ap, sym, ◌∙◌, arith}
+use Rattle.pel_bits.specs.Bits.{number}
 use Rattle.pel_bits.proofs.OctetBits.{length-part, part-part}
 use Rattle.pel_bits.proofs.slice.Bits.wide_number.Goals as goal
 
