@@ -1,2 +1,3 @@
+mod HouseLemmas
 mod ReadLemmas
 mod WriteLemmas

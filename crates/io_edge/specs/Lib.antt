@@ -1,4 +1,6 @@
 pub mod Causes
 pub mod Edge
+pub mod House
 pub mod Memory
+pub mod Steps
 pub mod Whole

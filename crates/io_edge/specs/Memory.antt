@@ -1,5 +1,7 @@
--- Sources and sinks in memory, as their callers see them. Calls are numbered from 1.
-use Rattle.std.specs.Prelude.{ℕ, ◌+◌, ◌-◌, ◌^◌, List, min}
+-- Sources, sinks, tickers and houses in memory, as their callers see them. Calls are numbered from 1.
+use Rattle.std.specs.Prelude.{ℕ, ◌+◌, ◌-◌, ◌^◌, List, map, min, String, string_bytes}
+use Rattle.std.specs.declared.alloc.Global.{Global}
+use Rattle.io_edge.specs.House.{NamedOctets}
 
 -- the octets that it has not given, the numbers of the calls that fail, the most octets that one call gives, the
 -- calls made, and the faults met
@@ -19,6 +21,22 @@ pub record SinkState : Type 0 where
   pub piece : ℕ
   pub calls : ℕ
   pub faults : ℕ
+
+-- the steps that it has not given, the numbers of the calls that fail, the calls made, and the faults met
+pub record TickerState : Type 0 where
+  pub steps : List ℕ
+  pub fails : List ℕ
+  pub calls : ℕ
+  pub faults : ℕ
+
+-- the names and the sources that it has not given, and the faults met
+pub record HouseState : Type 0 where
+  pub sources : List (String Global × SourceState)
+  pub faults : ℕ
+
+-- what such sources have left, each behind its name
+abbrev pub named : List (String Global × SourceState) → List NamedOctets
+named sources = map (λ (e : String Global × SourceState). record { name = string_bytes e.0; octets = e.1.left }) sources
 
 -- the number of the next call; the last number of 64 bits stays
 abbrev pub call_after : ℕ → ℕ

@@ -4,13 +4,19 @@
 #![tactic(auto)]
 
 mod edges;
+mod houses;
+mod lines;
 mod memory;
 mod outside;
+mod ticks;
 mod whole;
 
 pub use edges::{Failed, Sink, Source};
+pub use houses::{FileHouse, MemHouse, Opener};
+pub use lines::LineTicker;
 pub use memory::{MemSink, MemSource};
 pub use outside::{ReadEdge, WriteEdge};
+pub use ticks::{MemTicker, Ticker};
 pub use whole::{FillStop, Filled, fill, put_all};
 
 #[cfg(test)]

@@ -1,6 +1,7 @@
 //! What the objects do in a row of calls, with the answers counted by hand.
 use super::{
-    Failed, FillStop, MemSink, MemSource, ReadEdge, Sink, Source, WriteEdge, fill, put_all,
+    Failed, FileHouse, FillStop, LineTicker, MemHouse, MemSink, MemSource, MemTicker, Opener,
+    ReadEdge, Sink, Source, Ticker, WriteEdge, fill, put_all,
 };
 use std::io;
 use std::io::{ErrorKind, Read, Write};
@@ -131,4 +132,83 @@ fn a_writer_is_a_sink(rt: HostRuntime) {
     let mut broken = WriteEdge::new(Broken);
     assert_eq!(rt; broken.write(b"abc"), Err(Failed));
     assert_eq!(rt; broken.flush(), Err(Failed));
+}
+
+#[test]
+fn a_ticker_gives_its_steps_and_fails_the_listed_calls(rt: HostRuntime) -> Result<(), Fail> {
+    let alloc = rt.alloc();
+    let steps = vec![in alloc; 1, 31, 3]?;
+    let fails = vec![in alloc; 2, 5]?;
+    let mut ticker = MemTicker::new(steps, fails);
+    let wants = [
+        Ok(Some(1)),
+        Err(Failed),
+        Ok(Some(31)),
+        Ok(Some(3)),
+        Err(Failed),
+        Ok(None),
+        Ok(None),
+    ];
+    for want in wants {
+        assert_eq!(rt; ticker.next(), want);
+    }
+    Ok(())
+}
+
+#[test]
+fn lines_of_one_or_two_digits_are_steps(rt: HostRuntime) {
+    // what the reader has; the first three answers
+    let rows = [
+        ("1\n31\n", [Ok(Some(1)), Ok(Some(31)), Ok(None)]),
+        ("09\n7", [Ok(Some(9)), Ok(Some(7)), Ok(None)]),
+        ("12", [Ok(Some(12)), Ok(None), Ok(None)]),
+        ("0\n5", [Err(Failed), Ok(Some(5)), Ok(None)]),
+        ("00\n5", [Err(Failed), Err(Failed), Ok(Some(5))]),
+        ("32\n5", [Err(Failed), Err(Failed), Ok(Some(5))]),
+        ("100\n", [Err(Failed), Err(Failed), Ok(None)]),
+        ("\n5\n", [Err(Failed), Ok(Some(5)), Ok(None)]),
+        (" 5", [Err(Failed), Ok(Some(5)), Ok(None)]),
+        ("3\r\n", [Err(Failed), Err(Failed), Ok(None)]),
+    ];
+    for (lines, wants) in rows {
+        let mut ticker = LineTicker::new(lines.as_bytes());
+        for want in wants {
+            assert_eq!(rt; ticker.next(), want, "{lines:?}");
+        }
+    }
+    assert_eq!(rt; LineTicker::new(Broken).next(), Err(Failed));
+}
+
+#[test]
+fn a_house_gives_each_source_of_a_name_once(rt: HostRuntime) -> Result<(), Fail> {
+    let alloc = rt.alloc();
+    let mut sources = Vec::new(alloc);
+    for (name, octet) in [("a", 1), ("b", 2), ("a", 3)] {
+        let bytes = vec![in alloc; octet]?;
+        let source = MemSource::new(bytes, Vec::new(alloc), 9);
+        sources.push((String::from_str(alloc, name)?, source))?;
+    }
+    let mut house = MemHouse::new(sources);
+    for (name, octet) in [("a", 1), ("a", 3), ("b", 2)] {
+        match house.reach(name) {
+            Ok(source) => assert_eq!(rt; source.left(), [octet].as_slice()),
+            Err(Failed) => assert!(rt; false, "{name} is not there"),
+        }
+    }
+    for name in ["a", "b", "c", ""] {
+        assert!(rt; house.reach(name).is_err());
+    }
+    Ok(())
+}
+
+#[test]
+fn a_house_of_files_gives_their_octets(rt: HostRuntime) {
+    let mut house = FileHouse::new(&rt);
+    let mut buf = [1; 4];
+    match house.reach("/dev/zero") {
+        Ok(mut source) => assert_eq!(rt; source.read(&mut buf), Ok(4)),
+        Err(Failed) => assert!(rt; false, "the file is not there"),
+    }
+    assert_eq!(rt; buf, [0; 4]);
+    assert!(rt; house.reach("/dev/no such file").is_err());
 }
