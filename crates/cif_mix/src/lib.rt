@@ -29,6 +29,7 @@ pub fn compose(hand: &Hand, one: bool, two: bool, three: bool, four: bool, tr: u
         → Shows two hand.now.two.value (shown Two) → Shows three hand.now.three.value (shown Three)
         → Shows four hand.now.four.value (shown Four) → into.new ≡ coding Cif (composed_of tr shown) }
     ensures within { length into.new.bits ≤ written_limit }
+    ensures cif { into.new.format ≡ Cif }
 {
     into.start(tr);
     add_row(&hand.one, one, &hand.two, two, into);

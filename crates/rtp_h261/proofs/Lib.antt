@@ -1,6 +1,6 @@
-mod CutLemmas
-mod GivenLemmas
+pub mod CutLemmas
+pub mod GivenLemmas
 mod HeaderLemmas
 mod PayloadLemmas
-mod StepLemmas
+pub mod StepLemmas
 mod TurnLemmas

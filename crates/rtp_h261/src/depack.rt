@@ -126,6 +126,7 @@ impl Collector {
         requires short { length packet.now.bits ≤ kept_length self.old.format }
         ensures room { HasRoom self.new }
         ensures format { self.new.format ≡ self.old.format }
+        ensures into { into.new.format ≡ into.old.format }
         ensures turned { (p : Piece) → Carries (kept_length self.old.format) packet.now p →
             Turned self.old.format (turned (kept_length self.old.format) joined (mode_of self.old) p)
             (mode_of self.new) result into.old into.new }
@@ -154,6 +155,7 @@ impl Collector {
         requires short { length packet.now.bits ≤ kept_length self.old.format }
         ensures room { HasRoom self.new }
         ensures format { self.new.format ≡ self.old.format }
+        ensures into { into.new.format ≡ into.old.format }
         ensures turned { (p : Piece) → Carries (kept_length self.old.format) packet.now p →
             Turned self.old.format (starting (kept_length self.old.format) lost p)
             (mode_of self.new) result into.old into.new }
@@ -183,6 +185,7 @@ impl Collector {
         requires room { HasRoom self.old }
         ensures room { HasRoom self.new }
         ensures format { self.new.format ≡ self.old.format }
+        ensures into { into.new.format ≡ into.old.format }
         ensures turned { (p : Piece) → Carries (kept_length self.old.format) packet.now p →
             Turned self.old.format
             (collected (kept_length self.old.format) true stamp self.old.kept.list p)
@@ -250,6 +253,7 @@ impl Depack {
     pub fn feed(&mut self, packet: &[u8], into: &mut Coded) -> Fed
         requires { into.old.format ≡ self.old.format }
         ensures format { self.new.format ≡ self.old.format }
+        ensures into { into.new.format ≡ into.old.format }
         ensures stands { (packets : List (List ℕ)) → StandsFor packets self.old →
             StandsFor (packets ++ packet.now ∷ []) self.new }
         ensures given { (packets : List (List ℕ)) → StandsFor packets self.old →
@@ -267,6 +271,7 @@ impl Depack {
         requires format { into.old.format ≡ self.old.format }
         requires short { length packet.now.bits ≤ kept_length self.old.format }
         ensures format { self.new.format ≡ self.old.format }
+        ensures into { into.new.format ≡ into.old.format }
         ensures stepped { (p : Piece) → Carries (kept_length self.old.format) packet.now p →
             Stepped self.old.format (step (kept_length self.old.format) self.old.state (Some p))
             self.new.state result into.old into.new }
@@ -325,6 +330,7 @@ fn breaks(joined: bool, bits: &Bits<'_>) -> bool
 fn unit_of(bits: Bits<'_>, format: Format, into: &mut Coded) -> Unit
     requires { into.old.format ≡ format }
     ensures unit { IsUnit format bits.entry result into.new }
+    ensures into { into.new.format ≡ into.old.format }
     ensures finished { FinishedAt (Some result) into.new }
 {
     match parse(bits, format, into) {
