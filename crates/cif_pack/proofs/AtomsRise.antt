@@ -31,11 +31,11 @@ one-more : (mtu last from : ℕ) (e : AtomEnd) (es : List AtomEnd) → 1000 ≤ 
 one-more mtu last from e es most behind near within rest =
     rises-from mtu last from e es (record { behind = behind; within = within; fit = fits-in mtu from e.at most near; rest = rest })
 
-length-more : (last : Option Macroblock) (m : Macroblock) (ms : List Macroblock) → length (macroblocks_text last (m ∷ ms)) ≡ length (macroblock_text last m) + length (macroblocks_text (Some m) ms)
+pub length-more : (last : Option Macroblock) (m : Macroblock) (ms : List Macroblock) → length (macroblocks_text last (m ∷ ms)) ≡ length (macroblock_text last m) + length (macroblocks_text (Some m) ms)
 unfolding macroblocks_text
 length-more last m ms = length-append (macroblock_text last m) (macroblocks_text (Some m) ms)
 
-length-none : (last : Option Macroblock) → length (macroblocks_text last []) ≡ 0
+pub length-none : (last : Option Macroblock) → length (macroblocks_text last []) ≡ 0
 unfolding macroblocks_text
 length-none last = refl
 

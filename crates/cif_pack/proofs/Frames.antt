@@ -48,7 +48,7 @@ length-part-octets text from to some within =
     length-packed (octets_between from to) (zeros s ++ (part ++ zeros e))
     (omega (arith, some, long, length-append (zeros s) (part ++ zeros e), length-append part (zeros e), length-replicate s false, length-replicate e false))
 
-header-and-payload : (f : Fields) (octets : List ℕ) → octets_of (plain (record f { payload = octets })) ≡ octets_of (plain (record f { payload = [] })) ++ octets
+pub header-and-payload : (f : Fields) (octets : List ℕ) → octets_of (plain (record f { payload = octets })) ≡ octets_of (plain (record f { payload = [] })) ++ octets
 header-and-payload f octets = ap (λ (t : List ℕ). octets_of (plain (record f { payload = [] })) ++ t) (append-nil octets)
 
 -- the pieces of a framed packet: its length, its fixed header, its payload header, and the octets of its part

@@ -5,3 +5,8 @@ pub mod CutLemmas
 pub mod Frames
 pub mod Sends
 pub mod AtomsRise
+pub mod TextEnds
+pub mod CutLaws
+pub mod PacketLaws
+pub mod ListLaws
+mod Worked

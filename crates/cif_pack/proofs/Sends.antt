@@ -11,12 +11,12 @@ use Rattle.cif_pack.specs.declared.atoms.AtomEnd.{AtomEnd}
 use Rattle.cif_pack.specs.declared.packer.Sent.{Sent}
 use Rattle.cif_pack.specs.declared.packer.Settings.{Settings}
 use Rattle.cif_pack.specs.Cuts.{is_cut, with_cut, from_behind, cuts, octets_between, fits}
-use Rattle.cif_pack.specs.Packets.{packet, packets_to, number_of}
+use Rattle.cif_pack.specs.Packets.{packet, packets_to, number_of, framed}
 use Rattle.cif_pack.specs.Payload.{no_context, payload}
 use Rattle.cif_pack.specs.declared.atoms.Context.{Context}
 use Rattle.rtp_wire.specs.Rtp.{octets_of, plain}
 use Rattle.cif_pack.specs.Sending.{Rises}
-use Rattle.cif_pack.specs.State.{framed, Puts, behind}
+use Rattle.cif_pack.specs.State.{Puts, behind}
 use Rattle.cif_pack.proofs.CutLemmas.{Ahead, ahead, rises-on, rises-near}
 
 abbrev pub no_end : AtomEnd

@@ -1,5 +1,6 @@
 pub mod Atoms
 pub mod Cuts
+pub mod Laws
 pub mod Marked
 pub mod Packets
 pub mod Payload

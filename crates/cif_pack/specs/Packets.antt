@@ -44,10 +44,16 @@ abbrev pub packets : Settings → (total before : ℕ) → Picture → List (Lis
 packets s total before picture =
     packets_to s (stamp_at s total) before (text Cif picture) 0 no_context (cuts s.mtu 0 (atom_ends picture))
 
--- the octets of pictures that are sent one after the other behind so many packets, each at its total: their packets, each
--- in its frame
+-- packets as they stand on a stream of octets, each in its frame
+abbrev pub framed : List (List ℕ) → List ℕ
+framed packets = flat_map frame packets
+
+-- the packets of pictures that are sent one after the other behind so many packets, each at its total
+abbrev pub sent_packets : Settings → (before : ℕ) → List (ℕ × Picture) → List (List ℕ)
+sent_packets s before [] = []
+sent_packets s before (next ∷ pictures) =
+    packets s next.0 before next.1 ++ sent_packets s (before + length (packets s next.0 before next.1)) pictures
+
+-- their octets
 abbrev pub out : Settings → (before : ℕ) → List (ℕ × Picture) → List ℕ
-out s before [] = []
-out s before (next ∷ pictures) =
-    flat_map frame (packets s next.0 before next.1)
-    ++ out s (before + length (packets s next.0 before next.1)) pictures
+out s before pictures = framed (sent_packets s before pictures)

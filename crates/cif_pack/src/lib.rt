@@ -3,9 +3,14 @@
 #![tactic(auto)]
 
 mod atoms;
+mod laws;
 mod packer;
 mod payload;
 
+pub use laws::{
+    cuts_are_the_furthest, excluded_bits_are_zeros, marker_on_the_last, packets_fit, packets_go_on,
+    pictures_one_by_one,
+};
 pub use packer::{Packer, Sent, Settings};
 
 #[cfg(test)]

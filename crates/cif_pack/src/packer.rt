@@ -13,7 +13,7 @@ ghost use Rattle.cif_pack.specs.Cuts.{octets_between, is_cut, cuts};
 ghost use Rattle.cif_pack.specs.Packets.{packets, packets_to, stamp_at, packet};
 ghost use Rattle.cif_pack.specs.Payload.{payload, no_context};
 ghost use Rattle.cif_pack.specs.Sending.{Rises};
-ghost use Rattle.cif_pack.specs.State.{Puts, GoesOn, behind};
+ghost use Rattle.cif_pack.specs.State.{Puts, GoesOn, AreFew, behind};
 
 use crate::atoms::{AtomEnd, atom_ends};
 use crate::payload::{append_part, extend, header};
@@ -107,6 +107,7 @@ impl Packer {
             (packets self.old.settings total 0 p) }
         ensures state { (p : Picture) → picture.now ≡ coding Cif p →
             GoesOn self.old self.new result (packets self.old.settings total 0 p) }
+        ensures few { IfOk result (λ sent. AreFew sent) }
         ensures cause { HasCause (K.faults sink.old) (K.faults sink.new) result }
     {
         self.spent = true;
@@ -164,6 +165,7 @@ fn put_packets<K: Sink>(
     ensures packets { Puts (K.written sink.old) (K.written sink.new) result
         (packets_to settings.now stamp 0 (take text.now.len (bits text.now.octets.now)) 0 no_context
         (cuts settings.now.mtu 0 ends.now)) }
+    ensures few { IfOk result (λ sent. AreFew sent) }
     ensures cause { HasCause (K.faults sink.old) (K.faults sink.new) result }
     ensures kept { vec_capacity buffer.old ≤ vec_capacity buffer.new }
 {
