@@ -1,0 +1,5 @@
+pub mod Pieces
+pub mod Runs
+pub mod Cuts
+pub mod Pictures
+pub mod Laws
