@@ -1,0 +1,235 @@
+-- What a packet makes of a conference.
+use Rattle.std.proofs.Common.{◌≡◌, ◌≢◌, ℕ, zero, suc, ◌+◌, ◌<◌, ◌≤◌, ◌==◌, if◌then◌else◌, Bool, true, false, List, [], ◌∷◌, ◌++◌, Option, None, Some, length, map, slice_get, slice_set, inl, inr, refl, sym, ap, subst, ◌∙◌, arith, length-set}
+use Rattle.std.proofs.lemmas.Bool.Decides.{nat_tests}
+use Rattle.bridge_replay.specs.declared.conference.Conference.{Conference}
+use Rattle.bridge_replay.specs.Output.{pictures_written}
+use Rattle.bridge_replay.specs.Steps.{packets_in, after_loss, AfterUnit, AfterEntry}
+use Rattle.bridge_replay.specs.UnderWay.{step_octets, Counts, Follows, IsOpen, GoesOn, Makes, AreFed, IsFedQcif, IsSameBeside, Place, UnderWay, StaysOpen, Entered}
+use Rattle.cif_pack.specs.Packets.{sent_packets, out}
+use Rattle.cif_pack.specs.State.{behind}
+use Rattle.hall_core.specs.Hall.{HallView, lanes_of}
+use Rattle.hall_core.specs.Stands.{StandsFor, IsQcifHand}
+use Rattle.std.specs.Io.KnownBytes.{Appends}
+use Rattle.conf_file.specs.Entries.{Content, Packet}
+use Rattle.h261_pic.specs.Coded.{Coding, coding}
+use Rattle.pel_model.specs.declared.Fault.{Fault}
+use Rattle.pel_model.specs.declared.Format.TheVariants.{Qcif}
+use Rattle.pel_model.specs.Accepts.{Accepts}
+use Rattle.pel_model.specs.History.{History, Step, Post, Gap, has_ended}
+use Rattle.pel_model.specs.Legal.{IsPostable}
+use Rattle.pel_model.specs.Records.{Picture}
+use Rattle.pel_model.specs.Text.{text}
+use Rattle.pel_model.specs.Valid.{limit}
+use Rattle.rtp_h261.specs.declared.depack.Unit.{Unit as Ended}
+use Rattle.rtp_h261.specs.declared.depack.Unit.TheVariants as unit
+use Rattle.rtp_h261.specs.Depack.{Held, HasUnit, given_behind, StandsFor as IsFed}
+
+-- a picture that was accepted and is within the limit may be posted
+pub may-post : (bits : List Bool) (p : Picture) (item : Coding) → Accepts Qcif bits p → item ≡ coding Qcif p → length item.bits ≤ limit item.format → IsPostable p
+may-post bits p item accepted is short = record {
+  valid = accepted.1.valid;
+  short = subst (λ (c : Coding). length c.bits ≤ limit c.format) is short;
+}
+
+-- no unit ended
+pub none-goes : (lane : ℕ) (bits : Option (List Bool)) (former item : Coding) (lanes : ℕ) (history : History) (c : Conference) → HasUnit Qcif bits None former item
+    → Follows lanes history c → IsOpen 1 history → GoesOn lane bits lanes history c
+none-goes lane None former item lanes history c has follows free = record {
+  after = history;
+  is = refl;
+  follows = follows;
+  going = free.going;
+  few = omega arith;
+  more = omega arith;
+  silent = refl;
+}
+none-goes lane (Some bits) former item lanes history c has follows free = absurd has
+
+-- the unit is a picture
+pub picture-goes : (lane : ℕ) (bits : Option (List Bool)) (former item : Coding) (lanes : ℕ) (history : History) (old new : Conference) → HasUnit Qcif bits (Some unit.Picture) former item
+    → length item.bits ≤ limit item.format → ((p : Picture) → item ≡ coding Qcif p → IsPostable p → Makes old new (Post lane p))
+    → Follows lanes history old → IsOpen 1 history → GoesOn lane bits lanes history new
+picture-goes lane None former item lanes history old new has short made follows free = absurd has
+picture-goes lane (Some bits) former item lanes history old new has short made follows free = record {
+  after = Post lane has.0 ∷ history;
+  is = inl (has.0, has.1, refl);
+  follows = made has.0 has.2 (may-post bits has.0 item has.1 has.2 short) lanes history follows;
+  going = free.going;
+  few = omega arith;
+  more = omega arith;
+  silent = refl;
+}
+
+-- the unit is a gap
+pub gap-goes : (lane : ℕ) (bits : Option (List Bool)) (fault : Fault) (former item : Coding) (lanes : ℕ) (history : History) (old new : Conference)
+    → HasUnit Qcif bits (Some (unit.Gap fault)) former item → ((l : ℕ) (H : History) → Follows l H old → Follows l (after_loss lane true H) new)
+    → Follows lanes history old → IsOpen 1 history → GoesOn lane bits lanes history new
+gap-goes lane None fault former item lanes history old new has made follows free = absurd has
+gap-goes lane (Some bits) fault former item lanes history old new has made follows free = record {
+  after = Gap lane ∷ history;
+  is = inr (fault.place, fault.why, has.0, refl);
+  follows = made lanes history follows;
+  going = free.going;
+  few = omega arith;
+  more = omega arith;
+  silent = refl;
+}
+
+-- ---- a loss
+
+loss-length : (lane : ℕ) (lost : Bool) (history : History) → (length (after_loss lane lost history) ≤ length history + 1) × (length history ≤ length (after_loss lane lost history))
+loss-length lane true history = (omega arith, omega arith)
+loss-length lane false history = (omega arith, omega arith)
+
+loss-silent : (lanes lane : ℕ) (lost : Bool) (history : History) → pictures_written lanes (after_loss lane lost history) ≡ pictures_written lanes history
+loss-silent lanes lane true history = refl
+loss-silent lanes lane false history = refl
+
+loss-going : (lane : ℕ) (lost : Bool) (history : History) → has_ended (after_loss lane lost history) ≡ has_ended history
+loss-going lane true history = refl
+loss-going lane false history = refl
+
+pub loss-open : (lane : ℕ) (lost : Bool) (history : History) → IsOpen 2 history → IsOpen 1 (after_loss lane lost history)
+loss-open lane lost history free = record {
+  going = loss-going lane lost history ∙ free.going;
+  room = omega (arith, free.room, (loss-length lane lost history).0);
+}
+
+-- what follows a history in the hall and the tally does not look at the rest
+pub still-follows : (lanes : ℕ) (history : History) (c d : Conference) → d.hall ≡ c.hall → d.tally ≡ c.tally → Follows lanes history c → Follows lanes history d
+still-follows lanes history c d hall tally follows = record {
+  stands = subst (λ (h : HallView). StandsFor h history) (sym hall) follows.stands;
+  lanes_are = ap lanes_of hall ∙ follows.lanes_are;
+  limit = ap (λ (h : HallView). h.limit) hall ∙ follows.limit;
+  legal = follows.legal;
+  counts = subst (Counts history) (sym tally) follows.counts;
+}
+
+-- ---- depacketisers
+
+get-set_same : {X : Type 0} (xs : List X) (i : ℕ) (x : X) → i < length xs → slice_get (slice_set xs i x) i ≡ Some x
+get-set_same [] i x below = absurd (omega (arith, below))
+get-set_same (y ∷ ys) zero x below = refl
+get-set_same (y ∷ ys) (suc i) x below = get-set_same ys i x (omega (arith, below))
+
+get-set_other : {X : Type 0} (xs : List X) (i j : ℕ) (x : X) → i ≢ j → slice_get (slice_set xs i x) j ≡ slice_get xs j
+get-set_other [] i j x apart = refl
+get-set_other (y ∷ ys) zero zero x apart = absurd (apart refl)
+get-set_other (y ∷ ys) zero (suc j) x apart = refl
+get-set_other (y ∷ ys) (suc i) zero x apart = refl
+get-set_other (y ∷ ys) (suc i) (suc j) x apart = get-set_other ys i j x (λ e. apart (ap suc e))
+
+fed-get : (packets : List (List ℕ)) (o : Option Held) → IsFedQcif packets o → (d : Held) × (o ≡ Some d) × (d.format ≡ Qcif) × IsFed packets d
+fed-get packets None fed = absurd fed
+fed-get packets (Some d) fed = (d, refl, fed.0, fed.1)
+
+-- that of a lane
+pub fed-there : (lanes : ℕ) (entries : List Content) (depacks : List Held) (lane : ℕ) (d : Held) → AreFed lanes entries depacks → lane < lanes
+    → slice_get depacks lane ≡ Some d → (d.format ≡ Qcif) × IsFed (packets_in entries lane) d
+fed-there lanes entries depacks lane d fed below is =
+    let h = subst (IsFedQcif (packets_in entries lane)) is (fed.each lane below) in
+    (h.0, h.1)
+
+same-lane : (entries : List Content) (lane : ℕ) (packet : List ℕ) (c : ℕ) (b : Bool) → (lane == c) ≡ b
+    → packets_in (Packet lane packet ∷ entries) c ≡ (if b then packets_in entries c ++ packet ∷ [] else packets_in entries c)
+same-lane entries lane packet c b e = ap (λ (t : Bool). if t then packets_in entries c ++ packet ∷ [] else packets_in entries c) e
+
+-- behind a packet of a lane
+pub fed-further : (lanes : ℕ) (entries : List Content) (depacks : List Held) (lane : ℕ) (packet : List ℕ) (d : Held) → AreFed lanes entries depacks → lane < lanes
+    → d.format ≡ Qcif → IsFed (packets_in entries lane ++ packet ∷ []) d → AreFed lanes (Packet lane packet ∷ entries) (slice_set depacks lane d)
+fed-further lanes entries depacks lane packet d fed below format is = record {
+  count = length-set depacks lane d ∙ fed.count;
+  each = λ c within. at c within (lane == c) refl;
+}
+  where
+    at : (c : ℕ) → c < lanes → (b : Bool) → (lane == c) ≡ b → IsFedQcif (packets_in (Packet lane packet ∷ entries) c) (slice_get (slice_set depacks lane d) c)
+    at c within true e =
+        let same : lane ≡ c = grind (arith, nat_tests) in
+        subst (λ (k : ℕ). IsFedQcif (packets_in (Packet lane packet ∷ entries) k) (slice_get (slice_set depacks lane d) k)) same
+        (subst (λ (o : Option Held). IsFedQcif (packets_in (Packet lane packet ∷ entries) lane) o) (sym (get-set_same depacks lane d (omega (arith, below, fed.count))))
+        (subst (λ (ps : List (List ℕ)). IsFedQcif ps (Some d)) (sym (same-lane entries lane packet lane true (ap (λ (k : ℕ). lane == k) same ∙ e))) (format, is)))
+    at c within false e =
+        let apart : lane ≢ c = grind (arith, nat_tests) in
+        subst (λ (o : Option Held). IsFedQcif (packets_in (Packet lane packet ∷ entries) c) o) (sym (get-set_other depacks lane c d apart))
+        (subst (λ (ps : List (List ℕ)). IsFedQcif ps (slice_get depacks c)) (sym (same-lane entries lane packet c false e)) (fed.each c within))
+
+-- ---- a packet
+
+pub beside-both : (a b c : Conference) → IsSameBeside a b → IsSameBeside b c → IsSameBeside a c
+beside-both a b c x y = record {
+  depacks = y.depacks ∙ x.depacks;
+  composed = y.composed ∙ x.composed;
+  packer = y.packer ∙ x.packer;
+  packets = y.packets ∙ x.packets;
+  octets = y.octets ∙ x.octets;
+}
+
+-- a packet came, and made of the history what it should; `fed` is the conference behind the depacketiser
+pub packet-enters : (p : Place) (lane : ℕ) (packet : List ℕ) (lost : Bool) (bits : Option (List Bool)) (fed old mid new : Conference) (first now : Option (List ℕ))
+    → IsSameBeside fed mid → UnderWay p old first now → IsOpen 2 p.history → lost ≡ (given_behind (packets_in p.entries lane) packet).lost
+    → bits ≡ (given_behind (packets_in p.entries lane) packet).unit → AreFed p.lanes (Packet lane packet ∷ p.entries) fed.depacks.items
+    → fed ≡ record old { depacks = fed.depacks } → IsSameBeside mid new → new.hand ≡ fed.hand → GoesOn lane bits p.lanes (after_loss lane lost p.history) new
+    → Entered p (Packet lane packet) new first now
+packet-enters p lane packet lost bits fed old mid new first now beside_first u free lost_is bits_is depacks is beside_then hand goes =
+    let beside = beside-both fed mid new beside_first beside_then in
+    let loss = loss-length lane lost p.history in
+    record {
+      after = goes.after;
+      under_way = record {
+        steps = (
+          p.history,
+          u.steps,
+          subst (λ (b : Bool). AfterUnit lane (given_behind (packets_in p.entries lane) packet).unit (after_loss lane b p.history) goes.after) lost_is
+              (subst (λ (o : Option (List Bool)). AfterUnit lane o (after_loss lane lost p.history) goes.after) bits_is goes.is),
+        );
+        follows = goes.follows;
+        depacks = subst (AreFed p.lanes (Packet lane packet ∷ p.entries)) (sym beside.depacks) depacks;
+        hand = subst IsQcifHand (sym (hand ∙ ap (λ (c : Conference). c.hand) is)) u.hand;
+        composed = ap (λ (c : Coding). c.format) (beside.composed ∙ ap (λ (c : Conference). c.composed) is) ∙ u.composed;
+        sent = record {
+          state = beside.packer ∙ ap (λ (c : Conference). c.packer) is ∙ u.sent.state ∙ ap (λ (ps : List (ℕ × Picture)). record { settings = behind p.set (length (sent_packets p.set 0 ps)); spent = false }) (sym silent);
+          packets_told = beside.packets ∙ ap (λ (c : Conference). c.tally.packets) is ∙ u.sent.packets_told ∙ ap (λ (ps : List (ℕ × Picture)). length (sent_packets p.set 0 ps)) (sym silent);
+          octets_told = beside.octets ∙ ap (λ (c : Conference). c.tally.octets) is ∙ u.sent.octets_told ∙ ap (λ (ps : List (ℕ × Picture)). length (out p.set 0 ps)) (sym silent);
+          written = subst (λ (ps : List (ℕ × Picture)). Appends first now (out p.set 0 ps)) (sym silent) u.sent.written;
+        };
+        few_packets = omega (arith, beside.packets, ap (λ (c : Conference). c.tally.packets) is, u.few_packets, goes.more, loss.1);
+        few_octets = omega (arith, beside.octets, ap (λ (c : Conference). c.tally.octets) is, u.few_octets, goes.more, loss.1);
+      };
+      few = omega (arith, goes.few, loss.0);
+      going = goes.going;
+    }
+  where
+    silent : pictures_written p.lanes goes.after ≡ pictures_written p.lanes p.history
+    silent = goes.silent ∙ loss-silent p.lanes lane lost p.history
+
+-- ---- a command, and the end
+
+-- an entry that is one step, at which nothing is sent
+pub step-enters : (p : Place) (content : Content) (s : Step) (old new : Conference) (first now : Option (List ℕ))
+    → UnderWay p old first now → Follows p.lanes (s ∷ p.history) new → IsSameBeside old new → new.hand ≡ old.hand
+    → AfterEntry p.lanes p.entries content p.history (s ∷ p.history) → ((c : ℕ) → packets_in (content ∷ p.entries) c ≡ packets_in p.entries c)
+    → pictures_written p.lanes (s ∷ p.history) ≡ pictures_written p.lanes p.history → StaysOpen content (s ∷ p.history)
+    → Entered p content new first now
+step-enters p content s old new first now u follows beside hand after none silent free = record {
+  after = s ∷ p.history;
+  under_way = record {
+    steps = (p.history, u.steps, after);
+    follows = follows;
+    depacks = subst (AreFed p.lanes (content ∷ p.entries)) (sym beside.depacks) (record {
+      count = u.depacks.count;
+      each = λ c below. subst (λ (ps : List (List ℕ)). IsFedQcif ps (slice_get old.depacks.items c)) (sym (none c)) (u.depacks.each c below);
+    });
+    hand = subst IsQcifHand (sym hand) u.hand;
+    composed = ap (λ (c : Coding). c.format) beside.composed ∙ u.composed;
+    sent = record {
+      state = beside.packer ∙ u.sent.state ∙ ap (λ (ps : List (ℕ × Picture)). record { settings = behind p.set (length (sent_packets p.set 0 ps)); spent = false }) (sym silent);
+      packets_told = beside.packets ∙ u.sent.packets_told ∙ ap (λ (ps : List (ℕ × Picture)). length (sent_packets p.set 0 ps)) (sym silent);
+      octets_told = beside.octets ∙ u.sent.octets_told ∙ ap (λ (ps : List (ℕ × Picture)). length (out p.set 0 ps)) (sym silent);
+      written = subst (λ (ps : List (ℕ × Picture)). Appends first now (out p.set 0 ps)) (sym silent) u.sent.written;
+    };
+    few_packets = omega (arith, beside.packets, u.few_packets);
+    few_octets = omega (arith, beside.octets, u.few_octets);
+  };
+  few = omega arith;
+  going = free;
+}

@@ -1,0 +1,44 @@
+-- What a tally counts.
+use Rattle.std.specs.Prelude.{◌≡◌, ℕ, ◌+◌, Bool, true, false, if◌then◌else◌, List, [], ◌∷◌, length, Option, is_some, not}
+use Rattle.bridge_replay.specs.declared.tally.Tally.{Tally}
+use Rattle.bridge_replay.specs.Output.{pictures_written}
+use Rattle.cif_pack.specs.declared.packer.Settings.{Settings as Packing}
+use Rattle.cif_pack.specs.Packets.{sent_packets, out}
+use Rattle.pel_model.specs.declared.note.TickNote.{TickNote}
+use Rattle.pel_model.specs.History.{Step, Post, Gap, Order, Tick, End, History}
+use Rattle.pel_model.specs.Plan.{is_done}
+
+abbrev pub one_if : Bool → ℕ
+one_if b = if b then 1 else 0
+
+-- how many places a tick took a picture in
+abbrev pub takes_in : TickNote → ℕ
+takes_in note =
+    one_if (is_some note.taken_one) + one_if (is_some note.taken_two)
+    + one_if (is_some note.taken_three) + one_if (is_some note.taken_four)
+
+-- a tally in which nothing is counted
+abbrev pub nothing_counted : Tally
+nothing_counted = record { ticks = 0; pictures = 0; gaps = 0; commands = 0; refused = 0; taken = 0; packets = 0; octets = 0 }
+
+-- the tally with one step more
+abbrev pub with_step : Tally → Step → Tally
+with_step t (Post lane picture) = record t { pictures = t.pictures + 1 }
+with_step t (Gap lane) = record t { gaps = t.gaps + 1 }
+with_step t (Order command reply) =
+    record t { commands = t.commands + 1; refused = t.refused + one_if (not (is_done reply)) }
+with_step t (Tick note) = record t { ticks = t.ticks + 1; taken = t.taken + takes_in note }
+with_step t End = t
+
+-- the steps of a history
+abbrev pub steps_counted : History → Tally
+steps_counted [] = nothing_counted
+steps_counted (s ∷ history) = with_step (steps_counted history) s
+
+-- the steps of this history, and the packets of the pictures that were written whole, which are those of the other, and
+-- their octets, with those of the frames' lengths
+abbrev pub tally_of : Packing → ℕ → (history whole : History) → Tally
+tally_of set lanes history whole = record (steps_counted history) {
+  packets = length (sent_packets set 0 (pictures_written lanes whole));
+  octets = length (out set 0 (pictures_written lanes whole));
+}

@@ -1,0 +1,184 @@
+-- Inner contracts alone use this; nothing here has to be believed.
+-- A conference under way, behind entries and their history.
+use Rattle.std.specs.Prelude.{◌≡◌, ℕ, ◌+◌, ◌*◌, ◌^◌, ◌<◌, ◌≤◌, false, Bool, is_some, Option, None, Some, List, [], ◌∷◌, ◌++◌, length, slice_get, take, vec_len, Result, Ok, Err}
+use Rattle.std.specs.Io.KnownBytes.{Appends}
+use Rattle.bridge_replay.specs.declared.conference.Conference.{Conference}
+use Rattle.bridge_replay.specs.declared.tally.Tally.{Tally}
+use Rattle.bridge_replay.specs.Output.{pictures_written}
+use Rattle.bridge_replay.specs.Steps.{packets_in, after_loss, AfterUnit, IsHistory}
+use Rattle.bridge_replay.specs.Tallies.{steps_counted, tally_of}
+use Rattle.cif_mix.specs.Shows.{MayBeShown, Shows}
+use Rattle.cif_pack.specs.declared.packer.Settings.{Settings as Packing}
+use Rattle.cif_pack.specs.declared.packer.Sent.{Sent}
+use Rattle.cif_pack.specs.Packets.{packets, out}
+use Rattle.cif_pack.specs.State.{Puts, GoesOn as SendsOn, AreFew, HasSent}
+use Rattle.conf_file.specs.Entries.{Content, Packet, Chair, Tick as TickEntry, End, IsStep}
+use Rattle.h261_pic.specs.declared.hand.Hand.{Hand}
+use Rattle.hall_core.specs.Hall.{lanes_of, is_over}
+use Rattle.hall_core.specs.Stands.{StandsFor, IsQcifHand, box_of}
+use Rattle.io_edge.specs.declared.edges.Failed.{Failed}
+use Rattle.io_edge.specs.Causes.{Rose}
+use Rattle.pel_model.specs.declared.Format.TheVariants.{Qcif, Cif}
+use Rattle.pel_model.specs.declared.Quad.{Quad}
+use Rattle.pel_model.specs.declared.note.TickNote.{TickNote}
+use Rattle.pel_model.specs.History.{History, Step, Tick, taken_in, has_ended}
+use Rattle.pel_model.specs.Legal.{Legal}
+use Rattle.pel_model.specs.Records.{Picture}
+use Rattle.rtp_h261.specs.Depack.{Held, StandsFor as IsFed}
+
+-- the most steps of a conference
+abbrev pub most_steps : ℕ
+most_steps = 2 ^ 41
+
+-- ---- steps
+
+-- the tally counts these steps, whatever was sent
+abbrev pub Counts : History → Tally → Type 0
+Counts history tally =
+    tally ≡ record (steps_counted history) { packets = tally.packets; octets = tally.octets }
+
+-- the hall and the tally follow a legal history
+pub record Follows (lanes : ℕ) (history : History) (c : Conference) : Type 0 where
+  pub stands : StandsFor c.hall history
+  pub lanes_are : lanes_of c.hall ≡ lanes
+  pub limit : c.hall.limit ≡ most_steps
+  pub legal : Legal lanes history
+  pub counts : Counts history c.tally
+
+-- behind a history so many steps may follow
+pub record IsOpen (more : ℕ) (history : History) : Type 0 where
+  pub going : has_ended history ≡ false
+  pub room : length history + more ≤ most_steps
+
+-- so many steps may follow
+abbrev pub MayStep : ℕ → Conference → Type 0
+MayStep more c = (lanes : ℕ) × (history : History) × Follows lanes history c × IsOpen more history
+
+-- nothing changed but the hall, the tally of steps and the hand
+pub record IsSameBeside (old new : Conference) : Type 0 where
+  pub depacks : new.depacks.items ≡ old.depacks.items
+  pub composed : new.composed ≡ old.composed
+  pub packer : new.packer ≡ old.packer
+  pub packets : new.tally.packets ≡ old.tally.packets
+  pub octets : new.tally.octets ≡ old.tally.octets
+
+-- this step was made
+abbrev pub Makes : (old new : Conference) → Step → Type 0
+Makes old new step =
+    (lanes : ℕ) (history : History) → Follows lanes history old → Follows lanes (step ∷ history) new
+
+-- what becomes of a history by a unit: it goes on as it should, by one step at most
+pub record GoesOn (lane : ℕ) (bits : Option (List Bool)) (lanes : ℕ) (history : History) (new : Conference) : Type 0 where
+  pub after : History
+  pub is : AfterUnit lane bits history after
+  pub follows : Follows lanes after new
+  pub going : has_ended after ≡ false
+  pub few : length after ≤ length history + 1
+  pub more : length history ≤ length after
+  pub silent : pictures_written lanes after ≡ pictures_written lanes history
+
+-- ---- entries
+
+-- where a replay stands: what is set, the lanes, the entries and their history
+pub record Place : Type 0 where
+  pub set : Packing
+  pub lanes : ℕ
+  pub entries : List Content
+  pub history : History
+
+-- a depacketiser of QCIF was fed these packets
+abbrev pub IsFedQcif : List (List ℕ) → Option Held → Type 0
+IsFedQcif packets None = ⊥
+IsFedQcif packets (Some d) = (d.format ≡ Qcif) × IsFed packets d
+
+-- each lane's depacketiser was fed the lane's packets
+pub record AreFed (lanes : ℕ) (entries : List Content) (depacks : List Held) : Type 0 where
+  pub count : length depacks ≡ lanes
+  pub each : (c : ℕ) → c < lanes → IsFedQcif (packets_in entries c) (slice_get depacks c)
+
+-- the octets that a conference sent are no more than this for each of its steps
+abbrev pub step_octets : ℕ
+step_octets = 2 ^ 22
+
+-- a conference behind its entries, whose sink was given `now` since it had `first`
+pub record UnderWay (p : Place) (c : Conference) (first now : Option (List ℕ)) : Type 0 where
+  pub steps : IsHistory p.lanes p.entries p.history
+  pub follows : Follows p.lanes p.history c
+  pub depacks : AreFed p.lanes p.entries c.depacks.items
+  pub hand : IsQcifHand c.hand
+  pub composed : c.composed.format ≡ Cif
+  pub sent : HasSent p.set (pictures_written p.lanes p.history) c.packer c.tally.packets c.tally.octets first now
+  pub few_packets : c.tally.packets ≤ step_octets * length p.history
+  pub few_octets : c.tally.octets ≤ step_octets * length p.history
+
+-- the place before all entries
+abbrev pub beginning : Packing → ℕ → Place
+beginning set lanes = record { set = set; lanes = lanes; entries = []; history = [] }
+
+-- so many steps may follow
+abbrev pub MayGoOn : ℕ → Conference → Type 0
+MayGoOn more c =
+    (p : Place) × (first : Option (List ℕ)) × (now : Option (List ℕ)) × UnderWay p c first now × IsOpen more p.history
+
+-- the entry may come: its lane is there, its step is one
+abbrev pub MayCome : ℕ → Content → Type 0
+MayCome lanes (Packet lane packet) = lane < lanes
+MayCome lanes (Chair command) = Unit {0}
+MayCome lanes (TickEntry step) = IsStep step
+MayCome lanes End = Unit {0}
+
+-- behind an entry the history may go on
+abbrev pub StaysOpen : Content → History → Type 0
+StaysOpen End history = Unit {0}
+StaysOpen _ history = has_ended history ≡ false
+
+-- a place with one entry more
+abbrev pub behind_entry : Place → Content → History → Place
+behind_entry p content after = record { set = p.set; lanes = p.lanes; entries = content ∷ p.entries; history = after }
+
+-- what becomes of a conference by an entry
+pub record Entered (p : Place) (content : Content) (new : Conference) (first now : Option (List ℕ)) : Type 0 where
+  pub after : History
+  pub under_way : UnderWay (behind_entry p content after) new first now
+  pub few : length after ≤ length p.history + 2
+  pub going : StaysOpen content after
+
+-- what became of it where the sink failed at the entry, a tick
+pub record Broke (p : Place) (content : Content) (new : Conference) (first now : Option (List ℕ)) : Type 0 where
+  pub note : TickNote
+  pub steps : IsHistory p.lanes (content ∷ p.entries) (Tick note ∷ p.history)
+  pub legal : Legal p.lanes (Tick note ∷ p.history)
+  pub counted : new.tally ≡ tally_of p.set p.lanes (Tick note ∷ p.history) p.history
+  pub n : ℕ
+  pub former : length (out p.set 0 (pictures_written p.lanes p.history)) ≤ n
+  pub part : n < length (out p.set 0 (pictures_written p.lanes (Tick note ∷ p.history)))
+  pub wrote : Appends first now (take n (out p.set 0 (pictures_written p.lanes (Tick note ∷ p.history))))
+
+-- an entry came, or the sink failed at it
+abbrev pub Enters : {T : Type 0} → Place → Content → Conference → (first now : Option (List ℕ)) → Result T Failed → Type 0
+Enters p content new first now (Ok _) = Entered p content new first now
+Enters p content new first now (Err _) = Broke p content new first now
+
+-- ---- ticks
+
+-- the packets of a picture were sent, or the sink failed at them
+abbrev pub Sends : (total : ℕ) → Picture → (now then : Option (List ℕ)) → (old new : Conference) → Result Unit Failed → Type 0
+Sends total picture now then old new (Ok _) =
+    (sent : Sent) × Puts {E = Failed} now then (Ok sent) (packets old.packer.settings total 0 picture)
+    × SendsOn {E = Failed} old.packer new.packer (Ok sent) (packets old.packer.settings total 0 picture)
+    × AreFew sent
+    × (new ≡ record old {
+      packer = new.packer;
+      tally = record old.tally { packets = old.tally.packets + sent.packets; octets = old.tally.octets + sent.octets };
+    })
+Sends total picture now then old new (Err failed) =
+    Puts {E = Failed} now then (Err failed) (packets old.packer.settings total 0 picture)
+    × (new ≡ record old { packer = new.packer })
+
+-- each place that took a picture may show it
+abbrev pub MayShow : TickNote → Hand → Type 0
+MayShow note hand = (q : Quad) → MayBeShown (is_some (taken_in q note)) (box_of hand q)
+
+-- each place shows the picture that it took
+abbrev pub ShowsEach : TickNote → Hand → (Quad → Option Picture) → Type 0
+ShowsEach note hand shown = (q : Quad) → Shows (is_some (taken_in q note)) (box_of hand q) (shown q)
