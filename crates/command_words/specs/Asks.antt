@@ -1,0 +1,94 @@
+-- Which words ask for which job. The words are those after the program's name: a command, and then its options.
+use Rattle.std.specs.Prelude.{◌≡◌, ◌≤◌, ℕ, Bool, true, Option, Some, None, List, [], ◌∷◌, codes}
+use Rattle.pel_model.specs.declared.Format.{Format}
+use Rattle.pel_model.specs.declared.Format.TheVariants.{Qcif, Cif}
+use Rattle.command_words.specs.declared.job.Job.{Job}
+use Rattle.command_words.specs.declared.job.Job.TheVariants.{Replay, Check, Decode, Make}
+use Rattle.command_words.specs.declared.job.ReplayOptions.{ReplayOptions}
+use Rattle.command_words.specs.declared.job.MakeOptions.{MakeOptions}
+use Rattle.command_words.specs.Options.{Text, Number, are_options, given, number}
+
+abbrev pub number_option : Text → ℕ → ℕ → ℕ → Number
+number_option name low high otherwise =
+    record { name = name; low = low; high = high; otherwise = otherwise }
+
+-- the greatest octets of a packet, and the SSRC, first sequence number and first timestamp of what is written
+abbrev pub mtu : Number
+mtu = number_option (codes "mtu") 1000 9000 1400
+
+abbrev pub ssrc : Number
+ssrc = number_option (codes "ssrc") 0 4294967295 1211250225
+
+abbrev pub seq : Number
+seq = number_option (codes "seq") 0 65535 0
+
+abbrev pub stamp : Number
+stamp = number_option (codes "stamp") 0 4294967295 0
+
+-- the seed, the ticks and the lanes of a conference that is made
+abbrev pub seed : Number
+seed = number_option (codes "seed") 0 4294967295 1
+
+abbrev pub ticks : Number
+ticks = number_option (codes "ticks") 0 1000000 100
+
+abbrev pub lanes : Number
+lanes = number_option (codes "lanes") 1 16 4
+
+abbrev pub replay_names : List Text
+replay_names = codes "mtu" ∷ codes "ssrc" ∷ codes "seq" ∷ codes "stamp" ∷ []
+
+abbrev pub format_names : List Text
+format_names = codes "format" ∷ []
+
+abbrev pub make_names : List Text
+make_names = codes "seed" ∷ codes "ticks" ∷ codes "lanes" ∷ []
+
+-- the words are the command and options of these names
+pub record IsCommand (words : List Text) (command : Text) (names : List Text) (options : List Text) : Type 0 where
+  pub whole : words ≡ command ∷ options
+  pub formed : are_options names options ≡ true
+
+pub record HasReplay (words : List Text) (o : ReplayOptions) : Type 0 where
+  pub mtu : number words mtu ≡ Some o.mtu
+  pub ssrc : number words ssrc ≡ Some o.ssrc
+  pub seq : number words seq ≡ Some o.seq
+  pub stamp : number words stamp ≡ Some o.stamp
+
+pub record HasMake (words : List Text) (o : MakeOptions) : Type 0 where
+  pub seed : number words seed ≡ Some o.seed
+  pub ticks : number words ticks ≡ Some o.ticks
+  pub lanes : number words lanes ≡ Some o.lanes
+
+abbrev pub format_name : Format → Text
+format_name Qcif = codes "qcif"
+format_name Cif = codes "cif"
+
+-- the format that is given, or that where none is
+abbrev pub IsFormat : Format → Option Text → Format → Type 0
+IsFormat otherwise None format = format ≡ otherwise
+IsFormat otherwise (Some text) format = text ≡ format_name format
+
+-- the words ask for the job
+abbrev pub Asks : List Text → Job → Type 0
+Asks words (Replay o) =
+    (options : List Text) × IsCommand words (codes "replay") replay_names options × HasReplay options o
+Asks words (Check o) =
+    (options : List Text) × IsCommand words (codes "check") format_names options
+    × IsFormat Qcif (given options (codes "format")) o.format
+Asks words (Decode o) =
+    (options : List Text) × IsCommand words (codes "decode") format_names options
+    × IsFormat Cif (given options (codes "format")) o.format
+Asks words (Make o) =
+    (options : List Text) × IsCommand words (codes "make") make_names options × HasMake options o
+
+-- what the numbers of a job are known to be
+abbrev pub IsInRange : Job → Type 0
+IsInRange (Replay o) = (1000 ≤ o.mtu) × (o.mtu ≤ 9000)
+IsInRange (Check o) = Unit {0}
+IsInRange (Decode o) = Unit {0}
+IsInRange (Make o) = (o.ticks ≤ 1000000) × (1 ≤ o.lanes) × (o.lanes ≤ 16)
+
+-- words ask for at most one job
+abbrev pub OneJob : Type 0
+OneJob = (words : List Text) (j k : Job) → Asks words j → Asks words k → j ≡ k

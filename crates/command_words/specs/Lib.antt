@@ -1,0 +1,6 @@
+pub mod Options
+pub mod Asks
+pub mod Given
+pub mod Commands
+pub mod Answers
+pub mod Rows

@@ -1,0 +1,93 @@
+//! What a person is told of a command. Its options come from the table that the words are read by.
+
+use crate::table::{
+    CHECK_FORMAT, DECODE_FORMAT, FORMAT_START, FormatOption, LANES, MTU, NumberOption, SEED, SEQ,
+    SSRC, STAMP, TICKS,
+};
+use std::fmt::{Display, Formatter, Result, Write};
+
+/// A command, as a person is told of it: it shows as some lines of text, each ended by LF, with what it reads and writes, its
+/// options with their ranges and defaults, and a line that runs it.
+#[derive(Clone, Copy, Debug, PartialEq, Eq)]
+pub enum Command {
+    Replay,
+    Check,
+    Decode,
+    Make,
+}
+
+impl Command {
+    /// Its name, the first word.
+    pub fn name(self) -> &'static str {
+        match self {
+            Command::Replay => "replay",
+            Command::Check => "check",
+            Command::Decode => "decode",
+            Command::Make => "make",
+        }
+    }
+
+    // What it does, with what it reads and writes.
+    fn about(self) -> &'static str {
+        match self {
+            Command::Replay =>
+                "composes a conference file into framed RTP packets of the composed pictures",
+            Command::Check =>
+                "reports the pictures of framed RTP packets, one line for each picture or gap",
+            Command::Decode => "decodes the pictures of framed RTP packets into planes of samples",
+            Command::Make =>
+                "makes a conference file, the same for the same options; it reads nothing",
+        }
+    }
+
+    // A line that runs it.
+    fn example(self) -> &'static str {
+        match self {
+            Command::Replay => "bridge_cli replay --mtu=1200 < call.conf > call.rtp",
+            Command::Check => "bridge_cli check --format=cif < call.rtp",
+            Command::Decode => "bridge_cli decode < call.rtp > call.yuv",
+            Command::Make => "bridge_cli make --ticks=25 --lanes=2 > call.conf",
+        }
+    }
+}
+
+impl Display for NumberOption {
+    fn fmt<W: Write>(&self, f: &mut Formatter<W>) -> Result {
+        let start = self.start;
+        let about = self.about;
+        let low = self.low;
+        let high = self.high;
+        let otherwise = self.otherwise;
+        writeln!(
+            f,
+            "  {start}N  {about}: {low} to {high}, {otherwise} if not given"
+        )
+    }
+}
+
+impl Display for FormatOption {
+    fn fmt<W: Write>(&self, f: &mut Formatter<W>) -> Result {
+        let about = self.about;
+        let otherwise = self.otherwise;
+        writeln!(
+            f,
+            "  {FORMAT_START}F  {about}: qcif or cif, {otherwise} if not given"
+        )
+    }
+}
+
+impl Display for Command {
+    fn fmt<W: Write>(&self, f: &mut Formatter<W>) -> Result {
+        let name = self.name();
+        let about = self.about();
+        let example = self.example();
+        writeln!(f, "{name} {about}.")?;
+        match self {
+            Command::Replay => write!(f, "{MTU}{SSRC}{SEQ}{STAMP}")?,
+            Command::Check => write!(f, "{CHECK_FORMAT}")?,
+            Command::Decode => write!(f, "{DECODE_FORMAT}")?,
+            Command::Make => write!(f, "{SEED}{TICKS}{LANES}")?,
+        }
+        writeln!(f, "  example: {example}")
+    }
+}

@@ -1,0 +1,20 @@
+//! The words after the program's name: which words ask for which job, and the help that tells a person.
+#![tactic(auto)]
+
+mod clap_edge;
+mod fault;
+mod given;
+mod help;
+mod job;
+mod laws;
+mod reader;
+mod table;
+#[cfg(test)]
+mod tests;
+
+pub use fault::WordsFault;
+pub use help::Command;
+pub use job::{FormatOptions, Job, MakeOptions, ReplayOptions};
+pub use laws::one_job;
+pub use pel_model::Format;
+pub use reader::read_words;
