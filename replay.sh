@@ -1,5 +1,5 @@
 #!/bin/sh
-# Composes the picture of a conference file: ./replay.sh --help says how. It runs the program's command `replay`, and
+# Composes the pictures of a conference file: ./replay.sh --help says how. It runs the program's command `replay`, and
 # proves and builds the program first where a source is newer than it.
 set -eu
 top=$(CDPATH='' cd -- "$(dirname -- "$0")" && pwd)
@@ -8,19 +8,22 @@ log=$top/crates/bridge_cli/out/replay.log
 
 help() {
     cat << END
-Composes the picture of a conference file and writes it as framed RTP packets.
+Composes the pictures of a conference file and writes them as framed RTP packets. The program's line of notes goes to
+standard error: how it ended, and its counts.
 
-Usage: replay.sh [CONFERENCE [OUTPUT]]
+Usage: replay.sh [--NAME=VALUE ..] [CONFERENCE [OUTPUT]]
 
-CONFERENCE  the conference file; else examples/striped_top_right.conf
-OUTPUT      where the packets go; else composed.rtp. A file is there whole or not at all; a device, a FIFO or a link is
-            written through.
+CONFERENCE      the conference file; else examples/four_faces.conf
+OUTPUT          where the packets go; else composed.rtp. A device, a FIFO or a link is written through. A file gets its
+                name at the end, and is left as it was where no packet came.
+--NAME=VALUE    an option of the program's command replay: mtu, ssrc, seq or stamp
 
 The program is proved and built first where that was not done yet or a source has changed. This needs the command rt of
 the Rattle toolchain, and its log is crates/bridge_cli/out/replay.log.
 
-Status: 0 done, 1 the program could not be built, 2 usage, 3 the input failed, 4 the output failed, 9 no memory,
-11 not a conference file of the first form
+Status: 0 done, 1 the program could not be built, 2 usage, 3 the input failed, 4 the output failed, 5 the input ends too
+early, 6 an entry of the input is at fault, 7 the input is too long, 9 no memory, 10 the line of notes could not be
+written. At 3, 5, 6 and 7 OUTPUT has the packets of each tick before that; at 10 it has all of them.
 END
 }
 
@@ -35,7 +38,7 @@ fail() {
 }
 
 usage() {
-    fail 2 "Usage: replay.sh [CONFERENCE [OUTPUT]]"
+    fail 2 "Usage: replay.sh [--NAME=VALUE ..] [CONFERENCE [OUTPUT]]"
 }
 
 is_built() {
@@ -64,25 +67,36 @@ meaning() {
         2) echo "the words ask for no job" ;;
         3) echo "the input failed" ;;
         4) echo "the output failed" ;;
+        5) echo "the input ends too early" ;;
+        6) echo "an entry of the input is at fault" ;;
+        7) echo "the input is too long" ;;
         9) echo "no memory" ;;
-        11) echo "not a conference file of the first form" ;;
+        10) echo "the line of notes could not be written" ;;
         *) echo "not a status of the program" ;;
     esac
 }
 
-# Runs the program into a file beside the output, which takes the output's name at the end.
+# Runs the program into a file beside the output, which takes the output's name at the end where packets are in it.
 write_whole() {
     part=$output.$$.part
     trap 'rm -f -- "$part"' EXIT
     (set -C && : > "$part") 2> /dev/null || fail 4 "cannot write $output"
-    "$program" replay < "$conference" > "$part" || ended "$?" "; $output was not written"
+    status=0
+    "$program" replay "$@" < "$conference" > "$part" || status=$?
+    case $status in
+        0 | 10) ;;
+        3 | 5 | 6 | 7) [ -s "$part" ] || ended "$status" "; $output was not written" ;;
+        *) ended "$status" "; $output was not written" ;;
+    esac
+    octets=$(wc -c < "$part")
     mv -f -- "$part" "$output" || fail 4 "cannot write $output"
-    say "wrote $(($(wc -c < "$output"))) octets of framed RTP packets to $output"
+    say "wrote $((octets)) octets of framed RTP packets to $output"
+    [ "$status" -eq 0 ] || ended "$status" ""
 }
 
 write_through() {
     { command exec 3> "$output"; } 2> /dev/null || fail 4 "cannot write $output"
-    "$program" replay < "$conference" >&3 3>&- || ended "$?" ""
+    "$program" replay "$@" < "$conference" >&3 3>&- || ended "$?" ""
     say "wrote framed RTP packets to $output"
 }
 
@@ -94,14 +108,27 @@ if [ $# -eq 1 ] && [ "$1" = --help ]; then
     help || exit 4
     exit 0
 fi
-[ $# -le 2 ] || usage
+conference=
+output=
+names=0
+# the options stay in "$@", and the names go
 for word; do
+    shift
     case $word in
+        --?*=*) set -- "$@" "$word" ;;
         -*) usage ;;
+        *)
+            names=$((names + 1))
+            case $names in
+                1) conference=$word ;;
+                2) output=$word ;;
+                *) usage ;;
+            esac
+            ;;
     esac
 done
-conference=${1-$top/examples/striped_top_right.conf}
-output=${2-composed.rtp}
+[ "$names" -ge 1 ] || conference=$top/examples/four_faces.conf
+[ "$names" -ge 2 ] || output=composed.rtp
 
 if [ ! -r "$conference" ] || [ -d "$conference" ]; then
     fail 3 "cannot read $conference"
@@ -120,7 +147,7 @@ trap 'exit 143' TERM
 is_built || build
 say "reading $conference"
 if [ -L "$output" ] || { [ -e "$output" ] && [ ! -f "$output" ]; }; then
-    write_through
+    write_through "$@"
 else
-    write_whole
+    write_whole "$@"
 fi

@@ -1,13 +1,20 @@
--- How a run ends, and what it read and wrote until then.
-use Rattle.std.specs.Prelude.{◌≡◌, ℕ, ◌+◌, ◌<◌, ◌≤◌, Bool, false, List, [], ◌∷◌, ◌++◌, length, take, Option, Some, String, string_bytes, bytes_eq, codes}
-use Rattle.std.specs.Io.KnownBytes.{Consumes, Appends, Keeps}
-use Rattle.std.specs.Global.{Global}
-use Rattle.io_edge.specs.Causes.{Rose}
+-- What a run did, and how it tells of it.
+use Rattle.std.specs.Prelude.{◌≡◌, ◌⊎◌, ◌^◌, ◌<◌, ◌≤◌, ◌++◌, ℕ, List, [], ⊤, length, take, Option, Some}
+use Rattle.std.specs.Io.KnownBytes.{Appends}
 use Rattle.bridge_cli.specs.declared.status.Status.{Status}
-use Rattle.bridge_cli.specs.declared.status.Status.TheVariants.{Done, Usage, ReadFault, WriteFault, NoMemory, Unsupported}
-use Rattle.bridge_cli.specs.Decoders.{DecodersShow}
-use Rattle.bridge_cli.specs.FirstForm.{FirstForm, IsFirstForm, longest_packet}
-use Rattle.bridge_cli.specs.OnePacket.{answer}
+use Rattle.bridge_cli.specs.declared.status.Status.TheVariants.{Done, Usage, ReadFault, WriteFault, Cut, BadRecord, Limit, NoMemory, NoteFault}
+use Rattle.bridge_cli.specs.Notes.{fault_line, line_of, status_of_replay, tally_line}
+use Rattle.bridge_replay.specs.declared.ends.ReplayEnd.{ReplayEnd}
+use Rattle.bridge_replay.specs.declared.ends.Settings.{Settings}
+use Rattle.bridge_replay.specs.Replays.{Outside, Ends as Replays, IsReadBack}
+use Rattle.command_words.specs.declared.job.Job.{Job}
+use Rattle.command_words.specs.declared.job.Job.TheVariants.{Replay, Check, Decode, Make}
+use Rattle.command_words.specs.declared.job.ReplayOptions.{ReplayOptions}
+use Rattle.command_words.specs.Asks.{Asks}
+use Rattle.command_words.specs.Options.{Text}
+use Rattle.conf_file.specs.Entries.{Content}
+use Rattle.conf_file.specs.File.{Whole, Conference, IsFile}
+use Rattle.io_edge.specs.Causes.{Rose}
 
 -- the number that the program ends with
 abbrev pub number_of_status : Status → ℕ
@@ -15,72 +22,84 @@ number_of_status Done = 0
 number_of_status Usage = 2
 number_of_status ReadFault = 3
 number_of_status WriteFault = 4
+number_of_status (Cut place) = 5
+number_of_status (BadRecord place why) = 6
+number_of_status Limit = 7
 number_of_status NoMemory = 9
-number_of_status Unsupported = 11
+number_of_status NoteFault = 10
 
--- the words are the one word `replay`
-abbrev pub asks_replay : List (String Global) → Bool
-asks_replay (word ∷ []) = bytes_eq (string_bytes word) (codes "replay")
-asks_replay _ = false
-
--- no front of these octets is a file of the first form
-abbrev pub HasNoFirstForm : List ℕ → Type 0
-HasNoFirstForm octets =
-    (front rest : List ℕ) (f : FirstForm) → octets ≡ front ++ rest → IsFirstForm front f → ⊥
-
--- what the source had left and the sink had been given, before and after, where they tell it, and their faults
-pub record Outside : Type 0 where
-  pub left : Option (List ℕ)
-  pub faults : ℕ
-  pub written : Option (List ℕ)
-  pub write_faults : ℕ
-
--- nothing was read or written
-abbrev pub IsUntouched : Outside → Outside → Type 0
-IsUntouched before after = after ≡ before
-
--- the first form was read, and nothing behind it
-abbrev pub ReadsForm : Outside → Outside → FirstForm → Type 0
-ReadsForm before after f =
-    (file : List ℕ) × Consumes before.left after.left file × IsFirstForm file f
-
--- the longest file of the first form: 25 octets, the longest packet, and 3
+-- the most octets that are read
 abbrev pub most_octets : ℕ
-most_octets = 25 + longest_packet + 3
+most_octets = 2 ^ 40
 
--- no more octets were taken
-abbrev pub TakesAtMostForm : (old new : Option (List ℕ)) → Type 0
-TakesAtMostForm old new = (taken : List ℕ) × (length taken ≤ most_octets) × Consumes old new taken
+-- what the options set
+abbrev pub settings : ReplayOptions → Settings
+settings o = record { mtu = o.mtu; seq = o.seq; stamp = o.stamp; ssrc = o.ssrc; budget = most_octets }
 
-abbrev pub ReadsAtMostForm : Outside → Outside → Type 0
-ReadsAtMostForm before after = TakesAtMostForm before.left after.left
+-- the jobs that the program does; the words of the others are refused
+abbrev pub IsServed : Job → Type 0
+IsServed (Replay o) = ⊤
+IsServed (Check o) = ⊥
+IsServed (Decode o) = ⊥
+IsServed (Make o) = ⊥
 
--- nothing was written
-abbrev pub WritesNothing : Outside → Outside → Type 0
-WritesNothing before after = Keeps before.written after.written
+-- what a job did between these two moments, with what status it ended, and the line that tells it
+abbrev pub Does : Job → (before after : Outside) → (told : Status) → (line : List ℕ) → Type 0
+Does (Replay o) before after told line =
+    (end : ReplayEnd) × Replays (settings o) before after end × IsReadBack (settings o)
+    × (told ≡ status_of_replay end.stop) × (line ≡ line_of (tally_line end.tally) told)
+Does (Check o) before after told line = ⊥
+Does (Decode o) before after told line = ⊥
+Does (Make o) before after told line = ⊥
 
--- no call of the source failed
-abbrev pub NoReadFails : Outside → Outside → Type 0
-NoReadFails before after = after.faults ≡ before.faults
+-- the words ask for no job that is done
+abbrev pub AskNone : List Text → Type 0
+AskNone words = (job : Job) → Asks words job → IsServed job → ⊥
 
--- no call of the sink failed
-abbrev pub NoWriteFails : Outside → Outside → Type 0
-NoWriteFails before after = after.write_faults ≡ before.write_faults
+-- what words made the program do: the job that they ask for; or nothing, since they ask for none; or nothing, since there
+-- was not the memory to read them
+abbrev pub Did : (words : List Text) → (before after : Outside) → (told : Status) → (line : List ℕ) → Type 0
+Did words before after told line =
+    ((job : Job) × Asks words job × Does job before after told line)
+    ⊎ (AskNone words × (told ≡ Usage) × (line ≡ fault_line Usage) × (after ≡ before))
+    ⊎ ((told ≡ NoMemory) × (line ≡ fault_line NoMemory) × (after ≡ before))
 
-abbrev pub Ends : Outside → Outside → Status → Type 0
-Ends before after Done =
-    (f : FirstForm) × ReadsForm before after f × Appends before.written after.written (answer f) × DecodersShow f
-    × NoReadFails before after × NoWriteFails before after
-Ends before after WriteFault =
-    (f : FirstForm) × ReadsForm before after f
-    × ((n : ℕ) × (n < length (answer f)) × Appends before.written after.written (take n (answer f)))
-    × NoReadFails before after × Rose before.write_faults after.write_faults
-Ends before after ReadFault =
-    Rose before.faults after.faults × ReadsAtMostForm before after
-    × WritesNothing before after × NoWriteFails before after
-Ends before after Unsupported =
-    ((octets : List ℕ) → before.left ≡ Some octets → HasNoFirstForm octets)
-    × NoReadFails before after × ReadsAtMostForm before after
-    × WritesNothing before after × NoWriteFails before after
-Ends before after Usage = IsUntouched before after
-Ends before after NoMemory = IsUntouched before after
+-- the status where the line could not be written: a run that was done has a fault of its own then, and one that was not
+-- keeps its own
+abbrev pub without_note : Status → Status
+without_note Done = NoteFault
+without_note told = told
+
+-- the line was written whole to the sink of notes; or that sink failed, with a front of it written
+abbrev pub Notes : (told : Status) → (line : List ℕ) → Status → (old new : Option (List ℕ)) → (before now : ℕ) → Type 0
+Notes told line status old new before now =
+    ((status ≡ told) × Appends old new line × (now ≡ before))
+    ⊎ ((status ≡ without_note told) × ((n : ℕ) × (n < length line) × Appends old new (take n line)) × Rose before now)
+
+pub record Runs (words : List Text) (before after : Outside) (status : Status) (old new : Option (List ℕ)) (faults now : ℕ) :
+    Type 0
+  where
+    pub told : Status
+    pub line : List ℕ
+    pub did : Did words before after told line
+    pub notes : Notes told line status old new faults now
+
+-- the source tells a conference file up to its end entry, of at most so many octets as are read
+abbrev pub HasConference : Outside → Type 0
+HasConference before =
+    (file : List ℕ) × (more : List ℕ) × (lanes : ℕ) × (list : List Content) × (before.left ≡ Some (file ++ more))
+    × IsFile file (Conference lanes list Whole) × (length file ≤ most_octets)
+
+-- the input holds all that the job asks for
+abbrev pub HasInput : Job → Outside → Type 0
+HasInput (Replay o) before = HasConference before
+HasInput (Check o) before = ⊥
+HasInput (Decode o) before = ⊥
+HasInput (Make o) before = ⊥
+
+-- a job whose input is whole, and none of whose objects fails, is done, or wants memory
+abbrev pub IsComplete : (words : List Text) → (before after : Outside) → (faults now : ℕ) → Status → Type 0
+IsComplete words before after faults now status =
+    (job : Job) → Asks words job → HasInput job before
+    → (Rose before.faults after.faults → ⊥) → (Rose before.write_faults after.write_faults → ⊥)
+    → (Rose faults now → ⊥) → (status ≡ Done) ⊎ (status ≡ NoMemory)

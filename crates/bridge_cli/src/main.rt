@@ -1,16 +1,16 @@
-//! The program: `replay` reads a conference file from standard input and writes framed RTP packets with the composed
-//! picture to standard output. Everything but the real input, output and arguments stands in `run`.
+//! The program: it does the job that its words ask for, from standard input to standard output, and tells on standard error
+//! how it ended. Everything but the real input, output and arguments stands in `run`.
 #![tactic(auto)]
 
-mod form;
+mod notes;
 mod run;
-mod send;
-mod show;
 mod status;
 #[cfg(test)]
 mod tests;
 
-use io_edge::{ReadEdge, WriteEdge};
+use command_words::Command;
+use io_edge::{Failed, MemSink, ReadEdge, WriteEdge, put_all};
+use notes::{failed, note};
 use run::run;
 use status::Status;
 use std::env;
@@ -20,36 +20,40 @@ use std::process::ExitCode;
 /// The octets that standard input and standard output are read and written by.
 const BUFFER: usize = 65_536;
 
+/// The most octets of the line of notes.
+const LONGEST_NOTE: usize = 256;
+
 const ABOUT: &str = "\
 A continuous-presence bridge for H.261 in the coded domain: it shows up to four conferees in one picture, made from
 their own coded bits.";
 
 const USAGE: &str = "\
-Usage: bridge_cli replay < CONFERENCE > PACKETS
+Usage: bridge_cli replay [--NAME=VALUE ..] < CONFERENCE > PACKETS
        bridge_cli --help | --version";
 
-const DETAILS: &str = "\
-replay reads a conference file of the first form, one picture of one conferee (docs/FORMATS.md), and writes framed RTP
-packets (RFC 4571).
-
+const EXAMPLE: &str = "\
 Example, at the top of the repository:
-       bridge_cli replay < examples/striped_top_right.conf > composed.rtp
-       tail -c +19 composed.rtp > composed.h261
+       bridge_cli replay < examples/four_faces.conf > composed.rtp
+       examples/h261_of_frames.py < composed.rtp > composed.h261";
 
-Status:
-   0   done
-   2   usage: the words ask for no job
-   3   the input failed
-   4   the output failed
-   9   no memory
-  11   the input is not a conference file of the first form";
+const STATUS: &str = "\
+Status, with the line on standard error:
+   0   done, and what was counted
+   2   fault usage: the words ask for no job
+   3   fault read: the input failed
+   4   fault write: the output failed
+   5   fault cut at PLACE: the input ends too early
+   6   fault record at PLACE: an entry of a conference file is at fault
+   7   fault limit: the input has more than 2^40 octets
+   9   fault memory: there is not the memory to begin
+  10   done, but the line could not be written";
 
 const VERSION: &str = "bridge_cli 0.1.0";
 
 fn main(rt: HostRuntime) -> ExitCode {
     let status = match arguments(&rt) {
         Ok(words) => serve(&rt, &words),
-        Err(status) => status,
+        Err(status) => tell(&rt, status),
     };
     if status == Status::Usage {
         // where that fails too, the status alone tells it
@@ -70,39 +74,64 @@ fn arguments(rt: &HostRuntime) -> Result<Vec<String>, Status> {
     }
 }
 
-// Answers `--help` and `--version`, and runs any other words.
+// Answers `--help`, alone or behind a command, and `--version`, and runs any other words.
 fn serve(rt: &HostRuntime, words: &[String]) -> Status {
     match words {
-        [word] if word.as_str() == "--help" => ended(println!(rt;
-            "{ABOUT}\n\n{USAGE}\n\n{DETAILS}"
-        )),
-        [word] if word.as_str() == "--version" => ended(rt.println(VERSION)),
+        [word] if word.as_str() == "--help" => printed(help(rt)),
+        [word] if word.as_str() == "--version" => printed(rt.println(VERSION)),
+        [command, word] if command.as_str() == "replay" && word.as_str() == "--help" => {
+            let replay = Command::Replay;
+            printed(print!(rt; "{replay}"))
+        }
         _ => run_on_standard_streams(rt, words),
     }
 }
 
+// Prints what a person is told of the program.
+fn help(rt: &HostRuntime) -> io::Result<()> {
+    let replay = Command::Replay;
+    println!(rt; "{ABOUT}\n\n{USAGE}\n\n{replay}\n{EXAMPLE}\n\n{STATUS}")
+}
+
 // How a run that only prints ended.
-fn ended(printed: io::Result<()>) -> Status {
-    match printed {
+fn printed(printing: io::Result<()>) -> Status {
+    match printing {
         Ok(()) => Status::Done,
         Err(_error) => Status::WriteFault,
     }
 }
 
-// Runs the words over the standard streams. What the output holds back is handed on at the end.
+// Tells a fault on standard error.
+fn tell(rt: &HostRuntime, status: Status) -> Status {
+    note(&failed(status), &mut WriteEdge::new(rt.stderr()))
+}
+
+// Runs the words over the standard streams. What the output holds back is handed on before the line of notes is, so that
+// the line tells of that too.
 fn run_on_standard_streams(rt: &HostRuntime, words: &[String]) -> Status {
-    let Ok(reader) = BufReader::with_capacity(rt.alloc(), BUFFER, rt.reader()) else {
-        return Status::NoMemory;
+    let alloc = rt.alloc();
+    let Ok(reader) = BufReader::with_capacity(alloc, BUFFER, rt.reader()) else {
+        return tell(rt, Status::NoMemory);
     };
-    let Ok(writer) = BufWriter::with_capacity(rt.alloc(), BUFFER, io::writer(rt)) else {
-        return Status::NoMemory;
+    let Ok(writer) = BufWriter::with_capacity(alloc, BUFFER, io::writer(rt)) else {
+        return tell(rt, Status::NoMemory);
+    };
+    let Ok(mut notes) = MemSink::reserve(alloc, LONGEST_NOTE, Vec::new(alloc), LONGEST_NOTE) else {
+        return tell(rt, Status::NoMemory);
     };
     let mut input = ReadEdge::new(reader);
     let mut output = WriteEdge::new(writer);
-    let mut notes = WriteEdge::new(rt.stderr());
-    let status = run(rt.alloc(), words, &mut input, &mut output, &mut notes);
+    let status = run(alloc, words, &mut input, &mut output, &mut notes);
     match output.flush() {
-        Err(_failed) if status == Status::Done => Status::WriteFault,
+        Err(Failed) if status == Status::Done => tell(rt, Status::WriteFault),
+        _ => hand_on(rt, status, notes.bytes()),
+    }
+}
+
+// Hands the line of notes on to standard error.
+fn hand_on(rt: &HostRuntime, status: Status, line: &[u8]) -> Status {
+    match put_all(&mut WriteEdge::new(rt.stderr()), line) {
+        Err(Failed) if status == Status::Done => Status::NoteFault,
         _ => status,
     }
 }

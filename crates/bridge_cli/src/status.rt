@@ -1,24 +1,33 @@
 //! How a run ends.
-#![tactic(auto)]
 
 ghost use Rattle.std.specs.Prelude.{◌≡◌};
 ghost use Rattle.bridge_cli.specs.Ends.{number_of_status};
+ghost use Rattle.bridge_cli.specs.Notes.{status_of_replay};
+
+use bridge_replay::ReplayStop;
+use conf_file::EntryWhy;
 
 /// How a run ends.
 #[derive(Clone, Copy, Debug, PartialEq, Eq)]
 pub enum Status {
-    /// The file was read up to its entry E and no further, and its answer was written.
+    /// The input was read to the end of what the job reads, and its answer was written.
     Done,
-    /// The words ask for nothing that the program does.
+    /// The words ask for no job.
     Usage,
     /// The input failed.
     ReadFault,
     /// The output failed.
     WriteFault,
+    /// The input ends too early, after so many octets.
+    Cut { place: u64 },
+    /// What begins at this octet of a conference file is no header or no entry.
+    BadRecord { place: u64, why: EntryWhy },
+    /// As many octets were taken as may be, 2^40, and the job would need more.
+    Limit,
     /// The memory that is needed is not there.
     NoMemory,
-    /// The input is of a form that the program does not read.
-    Unsupported,
+    /// The job is done, and the line of notes could not be written.
+    NoteFault,
 }
 
 impl Status {
@@ -31,8 +40,26 @@ impl Status {
             Status::Usage => 2,
             Status::ReadFault => 3,
             Status::WriteFault => 4,
+            Status::Cut { .. } => 5,
+            Status::BadRecord { .. } => 6,
+            Status::Limit => 7,
             Status::NoMemory => 9,
-            Status::Unsupported => 11,
+            Status::NoteFault => 10,
+        }
+    }
+
+    /// The status that tells of a stop of `replay`.
+    pub fn of_replay(stop: ReplayStop) -> Status
+        ensures { result ≡ status_of_replay stop }
+    {
+        match stop {
+            ReplayStop::Done => Status::Done,
+            ReplayStop::ReadFault => Status::ReadFault,
+            ReplayStop::WriteFault => Status::WriteFault,
+            ReplayStop::Cut { place } => Status::Cut { place },
+            ReplayStop::BadRecord { place, why } => Status::BadRecord { place, why },
+            ReplayStop::Limit => Status::Limit,
+            ReplayStop::NoMemory => Status::NoMemory,
         }
     }
 }

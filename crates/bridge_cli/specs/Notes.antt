@@ -1,0 +1,59 @@
+-- The line of notes: how a run ended, and what it counted, ended by LF. Numbers stand in decimal.
+use Rattle.std.specs.Prelude.{ℕ, ◌++◌, List, [], decimal, codes}
+use Rattle.bridge_cli.specs.declared.status.Status.{Status}
+use Rattle.bridge_cli.specs.declared.status.Status.TheVariants.{Done, Usage, ReadFault, WriteFault, Cut, BadRecord, Limit, NoMemory, NoteFault}
+use Rattle.bridge_replay.specs.declared.ends.ReplayEnd.{ReplayEnd}
+use Rattle.bridge_replay.specs.declared.ends.ReplayStop.{ReplayStop}
+use Rattle.bridge_replay.specs.declared.ends.ReplayStop.TheVariants as Stops
+use Rattle.bridge_replay.specs.declared.tally.Tally.{Tally}
+use Rattle.conf_file.specs.declared.answers.EntryWhy.{EntryWhy}
+use Rattle.conf_file.specs.declared.answers.EntryWhy.TheVariants.{Header, Kind, Lane, Step, Order}
+
+-- what is at fault in a conference file
+abbrev pub word_of : EntryWhy → List ℕ
+word_of Header = codes "header"
+word_of Kind = codes "kind"
+word_of Lane = codes "lane"
+word_of Step = codes "step"
+word_of (Order fault) = codes "command"
+
+-- the line of a run that did not end as it should
+abbrev pub fault_line : Status → List ℕ
+fault_line Done = []
+fault_line Usage = codes "fault usage\n"
+fault_line ReadFault = codes "fault read\n"
+fault_line WriteFault = codes "fault write\n"
+fault_line (Cut place) = codes "fault cut at " ++ decimal place ++ codes "\n"
+fault_line (BadRecord place why) =
+    codes "fault record at " ++ decimal place ++ codes ": " ++ word_of why ++ codes "\n"
+fault_line Limit = codes "fault limit\n"
+fault_line NoMemory = codes "fault memory\n"
+fault_line NoteFault = []
+
+-- the line of a conference that was composed
+unfoldable pub tally_line : Tally → List ℕ
+tally_line t =
+    codes "done ticks " ++ decimal t.ticks
+    ++ codes " pictures " ++ decimal t.pictures
+    ++ codes " gaps " ++ decimal t.gaps
+    ++ codes " commands " ++ decimal t.commands
+    ++ codes " refused " ++ decimal t.refused
+    ++ codes " taken " ++ decimal t.taken
+    ++ codes " packets " ++ decimal t.packets
+    ++ codes " octets " ++ decimal t.octets
+    ++ codes "\n"
+
+-- the status that tells of a stop
+abbrev pub status_of_replay : ReplayStop → Status
+status_of_replay Stops.Done = Done
+status_of_replay Stops.ReadFault = ReadFault
+status_of_replay Stops.WriteFault = WriteFault
+status_of_replay (Stops.Cut place) = Cut place
+status_of_replay (Stops.BadRecord place why) = BadRecord place why
+status_of_replay Stops.Limit = Limit
+status_of_replay Stops.NoMemory = NoMemory
+
+-- the line of a status, where a job that is done has this one
+abbrev pub line_of : (done : List ℕ) → Status → List ℕ
+line_of done Done = done
+line_of done status = fault_line status
