@@ -17,7 +17,7 @@ struct frame {
 };
 
 /* all of standard input; its octets are null where there is no memory */
-static struct input read_input(void) {
+static inline struct input read_input(void) {
     size_t size = 0, room = 1 << 16, got;
     uint8_t *octets = malloc(room + 8);
     while (octets && (got = fread(octets + size, 1, room - size, stdin)) > 0) {
@@ -31,7 +31,7 @@ static struct input read_input(void) {
 }
 
 /* the frame at a place, which moves behind it; 0 where no whole one is left */
-static int next_frame(const struct input *input, size_t *at, struct frame *frame) {
+static inline int next_frame(const struct input *input, size_t *at, struct frame *frame) {
     const uint8_t *head = input->octets + *at;
     size_t left = input->size - *at;
     if (left < 4)

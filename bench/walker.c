@@ -1,8 +1,14 @@
 /* A plain walker of H.261 pictures, the yardstick of parse.sh: walker ROUNDS < framed pictures
 
    It reads what parse.rattle reads, makes the same checks as h261_pic::parse, writes the same strict text and
-   marks, and prints the same line. One look at a table tells a symbol. Eight octets can be read behind any bit. */
+   marks, and prints the same line. One look at a table tells a symbol. Eight octets can be read behind any bit.
+
+   scanner.c takes it with WRITES 0: the same checks, with no text and no marks. */
 #include "input.h"
+
+#ifndef WRITES
+#define WRITES 1
+#endif
 
 enum { PAIR, ESCAPE, END };
 struct mba_cell { uint8_t len, step; };
@@ -65,6 +71,8 @@ static inline int pass(struct reader *r, unsigned len) {
 
 /* writes the last `width` bits of a value, 1 to 56, and zeros behind them */
 static inline void put(struct picture *into, uint64_t value, unsigned width) {
+    if (!WRITES)
+        return;
     uint8_t *to = into->octets + (into->len >> 3);
     unsigned used = into->len & 7;
     uint64_t kept = used ? (uint64_t)(*to >> (8 - used)) << (64 - used) : 0;
@@ -74,6 +82,8 @@ static inline void put(struct picture *into, uint64_t value, unsigned width) {
 
 /* copies a run of bits, and writes zeros behind it */
 static void copy(struct picture *into, const uint8_t *from, uint32_t at, uint32_t count) {
+    if (!WRITES)
+        return;
     while (count > 0) {
         unsigned width = count < 56 ? count : 56;
         put(into, bits_at(from, at, width), width);
@@ -181,7 +191,8 @@ static int macroblock(struct reader *r, int is_cif, int group, int step, uint32_
     s->address = address;
     s->h = h;
     s->v = v;
-    *mark = (struct mark){at, r->place - at, group, address, s->quant, h, v, kind.intra};
+    if (WRITES)
+        *mark = (struct mark){at, r->place - at, group, address, s->quant, h, v, kind.intra};
     return 1;
 }
 
@@ -240,13 +251,15 @@ static int read_group(struct reader *r, int is_cif, int *place, int begun, struc
         struct mark *mark = &into->mark[into->marks];
         if (!macroblock(r, is_cif, number, cell.step, at, &state, mark) || r->place > end)
             return -1;
-        if (mark->at != from + count) {
+        if (WRITES && mark->at != from + count) {
             copy(into, r->octets, from, count);
             from = mark->at;
             count = 0;
         }
-        mark->at = into->len + count;
-        count += mark->len;
+        if (WRITES) {
+            mark->at = into->len + count;
+            count += mark->len;
+        }
         into->marks += 1;
     }
     copy(into, r->octets, from, count);
@@ -290,6 +303,7 @@ static int parse(const uint8_t *octets, uint32_t bits, int is_cif, struct pictur
     return 0;
 }
 
+#if WRITES
 static uint32_t mixed(uint32_t digest, uint32_t word) {
     return (digest ^ word) * 0x01000193;
 }
@@ -333,3 +347,4 @@ int main(int count, char **words) {
            (unsigned long long)macroblocks, (unsigned long long)bits, digest);
     return 0;
 }
+#endif
