@@ -1,6 +1,7 @@
 #!/usr/bin/env python3
 """Writes what `replay` must write for an example: composed.py grey_top_left|grey_bottom_right|striped_top_right, or
-composed.py PLACE for the conference file on standard input, whose picture has no stuffing and no spare byte.
+composed.py PLACE for the first packet of the lane on standard input, which holds a whole picture without stuffing and
+spare bytes, at a tick of one step.
 
 It is made from the description of the example, or by cutting the picture's bits at its groups, apart from the program."""
 import pathlib
@@ -39,9 +40,9 @@ def one_frame(step, bits):
     return len(packet).to_bytes(2, "big") + packet
 
 
-def groups_of(file):
-    """The groups of the picture in a conference file of the first form."""
-    octets = file[41:-3]
+def groups_of(lane):
+    """The groups of the picture in the first packet of a lane."""
+    octets = lane[2 + 16 : 2 + int.from_bytes(lane[:2], "big")]
     # the last block ends with 10, and zeros may follow
     bits = field(int.from_bytes(octets, "big"), 8 * len(octets)).rstrip("0") + "0"
     starts = [at for at in range(32, len(bits)) if bits.startswith(field(1, 16), at)]

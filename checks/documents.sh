@@ -18,17 +18,19 @@ commands docs/GUIDE.md > "$room/guide"
 is "README has two of them" test "$(wc -l < "$room/readme")" -eq 2
 is "the guide has three of them" test "$(wc -l < "$room/guide")" -eq 3
 
-python3 "$top/checks/composed.py" striped_top_right > "$room/striped.rtp"
+# is_written DIGEST: the packets, by a digest that another implementation gave
+is_written() {
+    is "its packets" test "$(sha256sum < "$clone/composed.rtp" | cut -c1-64)" = "$1"
+}
 try_line 'cd "$1" && set -e && . "$2"' "$clone" "$room/readme"
 ended "the commands of README.md" 0
-is "its packets" cmp "$clone/composed.rtp" "$room/striped.rtp"
+is_written 2dc8ea51b4843b7d0b3be2d1cb1f5238fe36f30d8766862903fe8f3874cda3bb
 is "its video begins with a picture" test "$(od -An -tx1 -N2 "$clone/composed.h261")" = " 00 01"
 rm "$clone/composed.rtp" "$clone/composed.h261"
 
 try_line 'cd "$1" && set -e && . "$2"' "$clone" "$room/guide"
 ended "the commands of docs/GUIDE.md" 0
-python3 "$top/checks/composed.py" 3 < "$clone/bars.conf" > "$room/bars.rtp"
-is "its packets" cmp "$clone/composed.rtp" "$room/bars.rtp"
+is_written 49d3fb47c2a89b99239181f24079dd3063df4746a97b9ed5d4b39956ca636111
 is "its video begins with a picture" test "$(od -An -tx1 -N2 "$clone/composed.h261")" = " 00 01"
 
 statuses() {

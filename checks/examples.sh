@@ -7,14 +7,14 @@ cd "$room" || exit
 
 # the conference files are those of their description
 cp -r "$examples" again
-rm again/grey_*.conf again/striped_*.conf
+rm again/*.conf
 is "make_examples.py" python3 again/make_examples.py
 for file in "$examples"/*.conf; do
     is "$(basename "$file") is written again" cmp "$file" "again/$(basename "$file")"
 done
 
 # from packets to bare video
-"$program" replay < "$examples/striped_top_right.conf" > composed.rtp
+"$program" replay < "$examples/striped_top_right.conf" > composed.rtp 2> composed.notes
 tail -c +19 composed.rtp > by_tail.h261
 try_line '"$1" < "$2"' "$examples/h261_of_frames.py" composed.rtp
 ended "h261_of_frames.py" 0
@@ -41,38 +41,66 @@ try "$examples/h261_of_frames.py" composed.rtp
 ended "h261_of_frames.py with a word" 1
 said "h261_of_frames.py < PACKETS > VIDEO.h261"
 
-# from a lane to a conference file, and through the program
+# from lanes to a conference file, and through the program
+lanes() {
+    try "$examples/conference_of_lanes.py" "$@"
+}
+bars=$examples/bars_lane.rtp
 for place in 1 2 3 4; do
-    try_line '"$1" "$3" < "$2"' "$examples/conference_of_lane.py" "$examples/bars_lane.rtp" $place
-    ended "conference_of_lane.py $place" 0
+    echo "0 place $place 0" > chair
+    lanes --chair=chair "$bars"
+    ended "conference_of_lanes.py, place $place" 0
     cp out bars.conf
-    python3 "$top/checks/composed.py" $place < bars.conf > bars.rtp
     try_line '"$1" replay < bars.conf' "$program"
-    ended "its file in place $place" 0
-    wrote bars.rtp
+    ended "its file" 0
+    said "done ticks 15 pictures 15 gaps 0 commands 1 refused 0 taken 15 packets 15 octets "
+    python3 "$top/checks/composed.py" "$place" < "$bars" > first.rtp
+    is "its first packet" cmp -n "$(wc -c < first.rtp)" out first.rtp
 done
-try_line '"$1" 2 3 < many.rtp' "$examples/conference_of_lane.py"
-ended "conference_of_lane.py of a picture in many packets" 0
+lanes "$bars" "$bars" "$bars" "$bars" "$bars"
+ended "conference_of_lanes.py of five lanes" 0
+said "conference_of_lanes.py: 5 lanes, 79 packets and commands"
+cp out five.conf
+try_line '"$1" replay < five.conf' "$program"
+ended "its file" 0
+said "done ticks 15 pictures 75 gaps 0 commands 4 refused 0 taken 60 "
+lanes --step=3 many.rtp
+ended "conference_of_lanes.py of pictures in many packets" 0
 cp out many.conf
 try_line '"$1" replay < many.conf' "$program"
 ended "its file" 0
-try_line '"$1" 1 2 < "$2"' "$examples/conference_of_lane.py" "$examples/bars_lane.rtp"
-ended "conference_of_lane.py of a picture that needs an earlier one" 0
-cp out later.conf
-try_line '"$1" replay < later.conf' "$program"
-ended "its file is refused" 11
-try_line '"$1" 1 16 < "$2"' "$examples/conference_of_lane.py" "$examples/bars_lane.rtp"
-ended "conference_of_lane.py of a picture that is not there" 1
-said "the lane has no picture 16"
-try "$examples/conference_of_lane.py" 5
-ended "conference_of_lane.py of a place that is not there" 1
-said "conference_of_lane.py PLACE [PICTURE] < LANE > FILE"
+said "done ticks 2 pictures 3 gaps 0 commands 1 refused 0 taken 2 packets 2 octets 1880"
+seq -f '%.1f' 100 0.5 107 > timed.rtp.times
+cp "$bars" timed.rtp
+lanes --step=15 timed.rtp
+ended "conference_of_lanes.py by recorded times" 0
+cp out timed.conf
+try_line '"$1" replay < timed.conf' "$program"
+said "done ticks 14 pictures 15 "
+echo 1 > timed.rtp.times
+lanes timed.rtp
+ended "conference_of_lanes.py of too few times" 1
+said "timed.rtp.times has 1 times, and the lane has 15 packets"
+lanes nothing.rtp
+ended "conference_of_lanes.py of a lane that is not there" 1
+said "No such file"
+lanes --step=0 "$bars"
+ended "conference_of_lanes.py with a step that is none" 1
+said "conference_of_lanes.py [--step=N] [--chair=FILE] LANE.. > CONFERENCE"
+
+# from planes to a picture: a grey one, and one that is not there
+head -c 152064 /dev/zero | tr '\000' '\200' > grey.yuv
+try_line '"$1" 1 < grey.yuv' "$examples/png_of_planes.py"
+ended "png_of_planes.py" 0
+is "it is a PNG" test "$(od -An -c -N8 out | tr -d ' ')" = '211PNG\r\n032\n'
+try_line '"$1" 2 < grey.yuv' "$examples/png_of_planes.py"
+ended "png_of_planes.py of a picture that is not there" 1
 
 # recorded datagrams
 try python3 "$top/checks/lanes.py" recorded
 ended "record_lane.py's frames" 0
 python3 "$top/checks/lanes.py" frames > frames.rtp
 wrote frames.rtp
-said "recorded: 2; left out: 2"
+said "recorded: 2; left out: 2; times: 1.000000 3.000000"
 
 tell "checks/examples.sh"

@@ -1,5 +1,6 @@
 #!/usr/bin/env python3
 """Writes streams for checks/examples.sh: lanes.py many|bare|cut|short|recorded|frames."""
+import io
 import pathlib
 import sys
 
@@ -52,8 +53,9 @@ def main(name, sink):
     elif name == "short":
         sink.write(framed([bytes(11)]))
     elif name == "recorded":
-        counts = record_lane.record([RTP[0], RTCP[0], RTP[1], RTCP[1]], sink)
-        print("recorded: %d; left out: %d" % counts, file=sys.stderr)
+        times = io.StringIO()
+        counts = record_lane.record(enumerate([RTP[0], RTCP[0], RTP[1], RTCP[1]], 1), sink, times)
+        print("recorded: %d; left out: %d; times:" % counts, *times.getvalue().split(), file=sys.stderr)
     elif name == "frames":
         sink.write(framed(RTP))
 

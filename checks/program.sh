@@ -6,33 +6,52 @@ cp "$1" "$room/bridge_cli"
 program=$room/bridge_cli
 striped=$top/examples/striped_top_right.conf
 
-cat > "$room/usage" << 'END'
-Usage: bridge_cli replay < CONFERENCE > PACKETS
-       bridge_cli --help | --version
-END
+# said_line TEXT: what was said is this one line.
+said_line() {
+    echo "$1" | cmp -s - "$room/err"
+    judge $? "it said: $(cat "$room/err")"
+}
 
-for example in grey_top_left grey_bottom_right striped_top_right; do
-    python3 "$top/checks/composed.py" "$example" > "$room/$example.rtp"
-    try_line '"$1" replay < "$2"' "$program" "$top/examples/$example.conf"
-    ended "$example" 0
-    wrote "$room/$example.rtp"
-    said_nothing
+for example in grey_top_left:866 grey_bottom_right:866 striped_top_right:1014; do
+    name=${example%:*}
+    python3 "$top/checks/composed.py" "$name" > "$room/$name.rtp"
+    try_line '"$1" replay < "$2"' "$program" "$top/examples/$name.conf"
+    ended "$name" 0
+    wrote "$room/$name.rtp"
+    said_line "done ticks 1 pictures 1 gaps 0 commands 1 refused 0 taken 1 packets 1 octets ${example#*:}"
 done
 
-# is_usage NAME LINE WORDS..: the line asks for no job. The text is on standard error, and nothing on standard output.
+# Whole conferences: the octets by a digest that another implementation gave.
+is_conference() {
+    try_line '"$1" replay < "$2"' "$program" "$top/examples/$1.conf"
+    ended "$1" 0
+    said_line "$2"
+    is "the octets of $1" test "$(sha256sum < "$room/out" | cut -c1-64)" = "$3"
+}
+is_conference ordinary_call \
+    "done ticks 60 pictures 179 gaps 1 commands 3 refused 0 taken 124 packets 63 octets 9523" \
+    7dee157fa26f869542ea8e7edff1636554ee5067336874364dc0817d4cd0dae3
+is_conference four_faces \
+    "done ticks 40 pictures 160 gaps 0 commands 6 refused 0 taken 110 packets 45 octets 12285" \
+    2dc8ea51b4843b7d0b3be2d1cb1f5238fe36f30d8766862903fe8f3874cda3bb
+
+# is_usage NAME LINE WORDS..: the line asks for no job. The line of notes and a usage text are on standard error, and nothing
+# on standard output.
 is_usage() {
     case_name=$1
     shift
     try_line "$@"
     ended "$case_name" 2
     wrote_nothing
-    cmp -s "$room/usage" "$room/err"
-    judge $? "it said: $(cat "$room/err")"
+    is "its first line" test "$(head -n 1 "$room/err")" = "fault usage"
+    is "its second line" test "$(sed -n 2p "$room/err" | cut -c1-18)" = "Usage: bridge_cli "
 }
 is_usage "no words" '"$1" < "$2"' "$program" "$striped"
 is_usage "an unknown word" '"$1" Replay < "$2"' "$program" "$striped"
 is_usage "a word too many" '"$1" replay replay < "$2"' "$program" "$striped"
-is_usage "an option" '"$1" replay --mtu=1000 < "$2"' "$program" "$striped"
+is_usage "a number out of range" '"$1" replay --mtu=999 < "$2"' "$program" "$striped"
+is_usage "an option in two words" '"$1" replay --mtu 1000 < "$2"' "$program" "$striped"
+is_usage "an option twice" '"$1" replay --seq=1 --seq=1 < "$2"' "$program" "$striped"
 is_usage "two options" '"$1" --help --version' "$program"
 is_usage "an empty word" '"$1" ""' "$program"
 is_usage "a word that is not UTF-8" '"$1" "$2"' "$program" "$(printf 'replay\377')"
@@ -44,14 +63,28 @@ try_line '("$1" none; cat) < "$2"' "$program" "$striped"
 ended "bad words leave the input" 0
 wrote "$striped"
 
+# The options, by the octets that they change.
+try_line '"$1" replay --seq=258 --stamp=1 --ssrc=16909060 < "$2"' "$program" "$striped"
+ended "the options of replay" 0
+is "they are in the packet" test "$(od -An -tx1 -j4 -N10 "$room/out")" = " 01 02 00 00 23 32 01 02 03 04"
+try_line '"$1" replay --mtu=1000 < "$2"' "$program" "$striped"
+ended "shorter packets" 0
+is "there are two of them" grep -q "packets 2 octets " "$room/err"
+
 # --help and --version, each as the only word.
 try "$program" --help
 ended "--help" 0
 said_nothing
 cp "$room/out" "$room/help"
-for number in 0 2 3 4 9 11; do
+for number in 0 2 3 4 5 6 7 9 10; do
     is "--help names status $number" grep -Eq "^ +$number  +[a-z]" "$room/help"
 done
+for option in mtu ssrc seq stamp; do
+    is "--help names the option $option" grep -q -e "--$option=" "$room/help"
+done
+try "$program" replay --help
+ended "replay --help" 0
+is "it names its options" grep -q -e "--mtu=" "$room/out"
 try "$program" --version
 ended "--version" 0
 said_nothing
@@ -71,38 +104,50 @@ sed -n '/^Example/,/^$/s/^ \{1,\}//p' "$room/help" > "$room/example"
 try_line 'cd "$1/top" && PATH=$1:$PATH && set -e && . "$1/example"' "$room"
 ended "the example of --help" 0
 is "it has two commands" test "$(wc -l < "$room/example")" -eq 2
-is "its packets" cmp "$room/top/composed.rtp" "$room/striped_top_right.rtp"
 is "its video begins with a picture" test "$(od -An -tx1 -N3 "$room/top/composed.h261")" = " 00 01 01"
 
-# fails NAME STATUS LINE WORDS..: the line ends so, and writes and says nothing.
+# fails NAME STATUS LINE_OF_NOTES LINE WORDS..: the line ends so, writes nothing, and says this.
 fails() {
     case_name=$1
     wanted=$2
-    shift 2
+    notes=$3
+    shift 3
     try_line "$@"
     ended "$case_name" "$wanted"
     wrote_nothing
-    said_nothing
+    said_line "$notes"
 }
-fails "input is a directory" 3 '"$1" replay < /' "$program"
-fails "input is closed" 3 '"$1" replay <&-' "$program"
-fails "input is empty" 11 '"$1" replay < /dev/null' "$program"
-fails "input is a program" 11 '"$1" replay < "$1"' "$program"
+fails "input is a directory" 3 "fault read" '"$1" replay < /' "$program"
+fails "input is closed" 3 "fault read" '"$1" replay <&-' "$program"
+fails "input is empty" 5 "fault cut at 0" '"$1" replay < /dev/null' "$program"
+fails "input is a program" 6 "fault record at 0: header" '"$1" replay < "$1"' "$program"
 head -c 900 "$striped" > "$room/cut"
-fails "input is cut" 11 '"$1" replay < "$2"' "$program" "$room/cut"
-sed 's/^H261CONF../H261CONF\x01\x02/' "$striped" > "$room/lanes"
-fails "input has two lanes" 11 '"$1" replay < "$2"' "$program" "$room/lanes"
+fails "input is cut" 5 "fault cut at 900" '"$1" replay < "$2"' "$program" "$room/cut"
+printf 'H261CONF\001\001T\001T\001Z' > "$room/kind"
+try_line '"$1" replay < "$2"' "$program" "$room/kind"
+ended "a faulty entry behind two ticks" 6
+said_line "fault record at 14: kind"
+is "what the ticks wrote is there" test "$(wc -c < "$room/out")" -eq 122
 
-# What is written is in the buffer until the flush at the end, which the device refuses.
-fails "output is full" 4 '"$1" replay < "$2" > /dev/full' "$program" "$striped"
-fails "output is closed" 4 '"$1" replay < "$2" >&-' "$program" "$striped"
+# What is written is in the buffer until the flush at the end, which the device refuses; the line tells of that.
+fails "output is full" 4 "fault write" '"$1" replay < "$2" > /dev/full' "$program" "$striped"
+fails "output is closed" 4 "fault write" '"$1" replay < "$2" >&-' "$program" "$striped"
 mkfifo "$room/pipe"
-fails "output is a pipe that nobody reads" 4 'exec 3<> "$3" > "$3" 3<&-; exec "$1" replay < "$2"' \
+fails "output is a pipe that nobody reads" 4 "fault write" 'exec 3<> "$3" > "$3" 3<&-; exec "$1" replay < "$2"' \
     "$program" "$striped" "$room/pipe"
+
+# A line that cannot be written.
+for error in "2> /dev/full" "2>&-"; do
+    try_line "\"\$1\" replay < \"\$2\" $error" "$program" "$striped"
+    ended "done, with standard error $error" 10
+    wrote "$room/striped_top_right.rtp"
+    try_line "\"\$1\" replay < \"\$2\" $error" "$program" "$room/cut"
+    ended "cut, with standard error $error" 5
+done
 
 # Under a limit of memory the program does its work, ends with 9, or cannot be loaded; under some limit it ends with 9.
 met=0
-for limit in 120 160 200 240 280 320 360 400 440 480 520 560 600 640; do
+for limit in 160 240 320 400 480 560 640 800 1000 1200 1400 1600; do
     try_line 'ulimit -d "$3" && exec "$1" replay < "$2"' "$program" "$striped" "$limit"
     name="$limit KB of memory"
     case $status in
@@ -110,7 +155,7 @@ for limit in 120 160 200 240 280 320 360 400 440 480 520 560 600 640; do
         9)
             met=$((met + 1))
             wrote_nothing
-            said_nothing
+            said_line "fault memory"
             ;;
     esac
 done

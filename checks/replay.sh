@@ -16,6 +16,11 @@ grey=$clone/examples/grey_top_left.conf
 for example in grey_top_left striped_top_right; do
     python3 "$top/checks/composed.py" "$example" > "$room/$example.rtp"
 done
+# the digest of the default example's packets, from another implementation
+faces=2dc8ea51b4843b7d0b3be2d1cb1f5238fe36f30d8766862903fe8f3874cda3bb
+is_faces() {
+    is "$1" test "$(sha256sum < "$here/composed.rtp" | cut -c1-64)" = "$faces"
+}
 
 # a path without rt, whatever stands beside the tools on this machine
 for tool in "$shell" cat cp date dirname find mkdir mv rm sh sleep touch wc; do
@@ -76,16 +81,17 @@ ended "a build, and the default example" 0
 wrote_nothing
 said "proving and building the program, which takes 10 to 20 minutes the first time"
 said "built after "
-said "reading $striped"
-said "wrote 1014 octets of framed RTP packets to composed.rtp"
-is "four lines are shown" test "$(wc -l < "$room/err")" -eq 4
+said "reading $clone/examples/four_faces.conf"
+said "done ticks 40 pictures 160 gaps 0 commands 6 refused 0 taken 110 packets 45 octets 12285"
+said "wrote 12285 octets of framed RTP packets to composed.rtp"
+is "five lines are shown" test "$(wc -l < "$room/err")" -eq 5
 is "the log has the others" test "$(wc -l < "$out/replay.log")" -eq 200
-is "the packets" cmp "$here/composed.rtp" "$room/striped_top_right.rtp"
+is_faces "the packets"
 is_all_told "the default output" "composed.rtp"
 
 replay_without_rt "$grey" out.rtp
 ended "a program that is there needs no rt" 0
-is "two lines are shown" test "$(wc -l < "$room/err")" -eq 2
+is "three lines are shown" test "$(wc -l < "$room/err")" -eq 3
 is "the packets of the other example" cmp "$here/out.rtp" "$room/grey_top_left.rtp"
 is_all_told "the output that was named" "out.rtp"
 
@@ -106,21 +112,30 @@ rm -f "$here"/*
 
 # ---- words
 
-for words in "a b c" "--help more" "-x" "--mtu=1000" "a -x"; do
+for words in "a b c" "--help more" "-x" "--mtu" "--=1" "a -x"; do
     # shellcheck disable=SC2086
     replay $words
     ended "the words $words" 2
     wrote_nothing
-    is "one line of usage" grep -qx "replay.sh: Usage: replay.sh \[CONFERENCE \[OUTPUT\]\]" "$room/err"
+    is "one line of usage" grep -qx "replay.sh: Usage: replay.sh \[--NAME=VALUE ..\] \[CONFERENCE \[OUTPUT\]\]" "$room/err"
     is "and no more" test "$(wc -l < "$room/err")" -eq 1
 done
 replay --help
 ended "--help" 0
 said_nothing
-for number in 0 1 2 3 4 9 11; do
+for number in 0 1 2 3 4 5 6 7 9 10; do
     is "--help names status $number" grep -Eq "(^|[ :])$number [a-z]" "$room/out"
 done
 is_all_told "bad words leave nothing" ""
+replay --mtu=1000 --seq=9 "$striped" out.rtp
+ended "options of the program" 0
+said "packets 2 octets "
+is "they are in the packets" test "$(od -An -tx1 -j4 -N2 "$here/out.rtp")" = " 00 09"
+replay "$striped" --mtu=999 out.rtp
+ended "an option that the program refuses" 2
+said "fault usage"
+said "status 2, the words ask for no job; out.rtp was not written"
+rm "$here/out.rtp"
 
 # ---- input
 
@@ -134,10 +149,18 @@ ended "a conference file without a name" 3
 echo before > "$here/kept.rtp"
 echo before > "$room/before"
 replay "$clone/replay.sh" kept.rtp
-ended "what is no conference file" 11
-said "status 11, not a conference file of the first form; kept.rtp was not written"
+ended "what is no conference file" 6
+said "fault record at 0: header"
+said "status 6, an entry of the input is at fault; kept.rtp was not written"
 is "the output stays as it was" cmp "$here/kept.rtp" "$room/before"
 is_all_told "no part of an output is left" "kept.rtp"
+printf 'H261CONF\001\001T\001T\001T' > "$room/cut"
+replay "$room/cut" kept.rtp
+ended "a file that is cut behind two ticks" 5
+said "fault cut at 15"
+said "wrote 122 octets of framed RTP packets to kept.rtp"
+said "status 5, the input ends too early"
+is_all_told "what the ticks gave is kept" "kept.rtp"
 
 # ---- output
 
@@ -212,13 +235,14 @@ rm -f "$here"/*
 
 # ---- standard error
 
-replay_in '"$@" 2>&-' "$striped" out.rtp
-ended "standard error is closed" 0
-is "the output is there" cmp "$here/out.rtp" "$room/striped_top_right.rtp"
-replay_in '"$@" 2> /dev/full' "$striped" out.rtp
-ended "standard error is full" 0
+for error in '2>&-' '2> /dev/full'; do
+    replay_in "\"\$@\" $error" "$striped" out.rtp
+    ended "standard error as by $error: the line cannot be told" 10
+    is "the output is there" cmp "$here/out.rtp" "$room/striped_top_right.rtp"
+    rm -f "$here/out.rtp"
+done
 replay_in '"$@" 2>&-' "$clone/replay.sh" out.rtp
-ended "standard error is closed, no conference file" 11
+ended "standard error is closed, no conference file" 6
 replay_in '"$@" 2>&-' a b c
 ended "standard error is closed, words too many" 2
 
