@@ -7,7 +7,8 @@ use Rattle.bridge_replay.specs.declared.ends.ReplayEnd.{ReplayEnd}
 use Rattle.bridge_replay.specs.declared.ends.ReplayStop.{ReplayStop}
 use Rattle.bridge_replay.specs.declared.ends.ReplayStop.TheVariants.{Done, ReadFault, WriteFault, Cut, BadRecord, Limit, NoMemory}
 use Rattle.bridge_replay.specs.declared.ends.Settings.{Settings}
-use Rattle.bridge_replay.specs.Replays.{Outside, packing, Stopped, Wrote, Replays, StoppedEarly, NoneRead, Ends, IsComplete}
+use Rattle.bridge_replay.specs.Replays.{packing, Stopped, Wrote, Replays, StoppedEarly, NoneRead, Ends, IsComplete}
+use Rattle.io_edge.specs.Outside.{Outside}
 use Rattle.bridge_replay.specs.Steps.{oldest_first}
 use Rattle.cif_pack.specs.declared.packer.Settings.{Settings as Packing}
 use Rattle.conf_file.specs.declared.answers.EntryWhy.{EntryWhy}

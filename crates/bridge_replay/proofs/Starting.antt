@@ -6,7 +6,8 @@ use Rattle.bridge_replay.specs.declared.ends.ReplayStop.{ReplayStop}
 use Rattle.bridge_replay.specs.declared.ends.ReplayStop.TheVariants as stop
 use Rattle.bridge_replay.specs.declared.ends.Settings.{Settings}
 use Rattle.bridge_replay.specs.Reading.{stop_for, HasTaken, StandsAt}
-use Rattle.bridge_replay.specs.Replays.{Outside, packing, StoppedEarly, NoneRead}
+use Rattle.bridge_replay.specs.Replays.{packing, StoppedEarly, NoneRead}
+use Rattle.io_edge.specs.Outside.{Outside}
 use Rattle.bridge_replay.specs.Tallies.{nothing_counted}
 use Rattle.bridge_replay.specs.UnderWay.{beginning, UnderWay}
 use Rattle.conf_file.specs.declared.answers.EntryEnd.{EntryEnd}

@@ -10,7 +10,8 @@ use Rattle.bridge_replay.specs.declared.ends.Settings.{Settings}
 use Rattle.bridge_replay.specs.declared.tally.Tally.{Tally}
 use Rattle.bridge_replay.specs.Output.{pictures_written}
 use Rattle.bridge_replay.specs.Reading.{stop_for, HasTaken, StandsAt}
-use Rattle.bridge_replay.specs.Replays.{Outside, packing, Stopped, Wrote, Replays}
+use Rattle.bridge_replay.specs.Replays.{packing, Stopped, Wrote, Replays}
+use Rattle.io_edge.specs.Outside.{Outside}
 use Rattle.bridge_replay.specs.Steps.{oldest_first, IsHistory}
 use Rattle.bridge_replay.specs.Tallies.{steps_counted, tally_of}
 use Rattle.bridge_replay.specs.UnderWay.{Place, UnderWay, IsOpen, StaysOpen, behind_entry, Entered, Broke, Follows, MayCome}

@@ -6,7 +6,8 @@ use Rattle.bridge_replay.specs.declared.conference.Conference.{Conference}
 use Rattle.bridge_replay.specs.declared.ends.ReplayStop.{ReplayStop}
 use Rattle.bridge_replay.specs.declared.ends.ReplayStop.TheVariants as stop
 use Rattle.bridge_replay.specs.declared.ends.Settings.{Settings}
-use Rattle.bridge_replay.specs.Replays.{Outside, packing, EndsThere, Replays}
+use Rattle.bridge_replay.specs.Replays.{packing, EndsThere, Replays}
+use Rattle.io_edge.specs.Outside.{Outside}
 use Rattle.bridge_replay.specs.Steps.{oldest_first}
 use Rattle.bridge_replay.specs.UnderWay.{Place, UnderWay, IsOpen}
 use Rattle.conf_file.specs.declared.answers.EntryEnd.{EntryEnd}

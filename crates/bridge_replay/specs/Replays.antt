@@ -16,6 +16,7 @@ use Rattle.conf_file.specs.Entries.{Content, End, E}
 use Rattle.conf_file.specs.File.{Whole, WrongAt, CutAt, Conference, WrongHeader, CutHeader, IsFile, HasRead}
 use Rattle.conf_file.specs.Header.{header_of, HasLanes}
 use Rattle.io_edge.specs.Causes.{Rose}
+use Rattle.io_edge.specs.Outside.{Outside, NoReadFails}
 use Rattle.pel_model.specs.declared.note.TickNote.{TickNote}
 use Rattle.pel_model.specs.Headline.{Headline}
 use Rattle.pel_model.specs.History.{History, Tick}
@@ -24,20 +25,9 @@ use Rattle.pel_model.specs.Records.{Picture}
 use Rattle.reading_back.specs.Laws.{AreSettings, GiveThePictures}
 use Rattle.rtp_wire.specs.Frames.{IsStream}
 
--- what the source has left and the sink was given, where they tell it, and their counts of faults
-pub record Outside : Type 0 where
-  pub left : Option (List ℕ)
-  pub faults : ℕ
-  pub written : Option (List ℕ)
-  pub write_faults : ℕ
-
 -- what is set for the packets
 abbrev pub packing : Settings → Packing
 packing set = record { mtu = set.mtu; seq = set.seq; stamp = set.stamp; ssrc = set.ssrc }
-
--- no call of the source failed
-abbrev pub NoReadFails : (before after : Outside) → Type 0
-NoReadFails before after = after.faults ≡ before.faults
 
 -- ---- a file whose entries were read
 

@@ -1,7 +1,8 @@
 //! The job `replay`: from a conference file to the packets of its ticks.
 ghost use Rattle.std.specs.Prelude.{◌≡◌, ℕ, ◌≤◌, ◌^◌, ◌<◌, IfOk, is_some, true, List};
 ghost use Rattle.bridge_replay.specs.Reading.{stop_for, StandsAt, IsReplaying, ReplaysOn, StepsTo};
-ghost use Rattle.bridge_replay.specs.Replays.{Ends, IsComplete, IsReadBack, Outside, Replays, packing};
+ghost use Rattle.bridge_replay.specs.Replays.{Ends, IsComplete, IsReadBack, Replays, packing};
+ghost use Rattle.io_edge.specs.Outside.{Outside};
 ghost use Rattle.bridge_replay.specs.Tallies.{nothing_counted};
 ghost use Rattle.h261_pic.specs.Coded.{nothing};
 ghost use Rattle.io_edge.specs.Causes.{StaysCounted};

@@ -2,7 +2,7 @@ use Rattle.std.proofs.Common.{◌≡◌, ◌-◌}
 use Rattle.pel_model.specs.declared.Format.TheVariants.{Qcif}
 use Rattle.bridge_replay.specs.declared.ends.Settings.{Settings}
 use Rattle.bridge_replay.specs.Reading.{ReplaysOn, IsReplaying}
-use Rattle.bridge_replay.specs.Replays.{Outside}
+use Rattle.io_edge.specs.Outside.{Outside}
 use Rattle.bridge_replay.proofs.job.read_on.Given as goal
 
 abbrev pub invariant-loop-conference : goal.invariant-loop-conference
