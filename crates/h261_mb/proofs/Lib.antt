@@ -1,4 +1,5 @@
 pub mod InsideLaws
+pub mod Windows
 pub mod Words
 pub mod Slots
 pub mod Vectors
@@ -9,3 +10,5 @@ pub mod Fronts
 pub mod Steps
 pub mod SentBlocks
 pub mod HeaderLaws
+pub mod Taken
+pub mod Whole

@@ -71,6 +71,11 @@ is_none last given v same is =
 
 -- ---- what stands where MVD is due
 
+-- where a macroblock of these elements begins on an axis
+pub corner_at : (axis : Axis) (before : List Element) (g a x : ℕ) → group before ≡ g → address before ≡ a → x ≡ corner axis g a → corner axis (group before) (address before) ≡ x
+corner_at axis before g a x number_is address_is is =
+    ap (λ (n : ℕ). corner axis n (address before)) number_is ∙ (ap (corner axis g) address_is ∙ sym is)
+
 abbrev why_of : ℕ → ℕ → ℤ → Option Why
 why_of side first m = cond (not (in_range m)) (Some BadVector) (cond (not (stays_within side first m)) (Some VectorOutside) None)
 

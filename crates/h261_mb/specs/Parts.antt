@@ -1,11 +1,12 @@
 -- Inner contracts alone use this; nothing here has to be believed.
 -- The parts of a macroblock, as they are read one after another.
-use Rattle.std.specs.Prelude.{◌≡◌, ℕ, ◌-◌, Bool, cond, ℤ, List, [], ◌∷◌, length, flat_map, Option, unwrap_or}
+use Rattle.std.specs.Prelude.{◌≡◌, ℕ, ◌-◌, Bool, cond, ℤ, pos, List, [], ◌∷◌, length, flat_map, Option, unwrap_or}
 use Rattle.pel_model.specs.declared.MbKind.{MbKind}
-use Rattle.pel_model.specs.Codes.{is_intra}
+use Rattle.pel_model.specs.Codes.{is_intra, has_vector}
 use Rattle.pel_model.specs.Records.{Axis, Across, Down, Block}
-use Rattle.pel_model.specs.Walk.{after}
-use Rattle.pel_model.specs.Grammar.{Element, Mba, Mtype, Mvd, slot, AtMacroblock, vector_slot, cbp_slot, block_slot, kind, ones, blocks, component_from}
+use Rattle.pel_model.specs.Walk.{Good, read, after}
+use Rattle.pel_model.specs.Text.{resets_predictor}
+use Rattle.pel_model.specs.Grammar.{Element, mba_rows, Mba, Mtype, Mvd, slot, AtMacroblock, vector_slot, cbp_slot, block_slot, kind, ones, blocks, component_from}
 use Rattle.pel_model.specs.Elements.{mquant_elements, vector_elements, cbp_elements, block_elements}
 use Rattle.h261_mb.specs.declared.state.Front.{Front}
 use Rattle.h261_mb.specs.State.{Say, PatternFits}
@@ -25,6 +26,14 @@ pub record IsMquant (k : MbKind) (last : ℕ) (before : List Element) (quant : �
   pub elements : es ≡ mquant_elements mquant
   pub quant_is : quant ≡ unwrap_or mquant last
   pub due : slot (after (Mtype k ∷ before) es) ≡ vector_slot k
+
+-- the predictor, by the component of the macroblock before
+abbrev pub predicted : MbKind → ℕ → ℕ → ℤ → ℤ
+predicted k d at last = cond (has_vector k) (cond (resets_predictor d at) (pos 0) last) (pos 0)
+
+-- MBA stands first
+abbrev pub BeginsWithMba : List Bool → Type 0
+BeginsWithMba bits = (d n : ℕ) × (read mba_rows bits ≡ Good (Mba d) n)
 
 -- MBA, MTYPE and MQUANT; the address of the macroblock before was `last`
 pub record IsFront (number last : ℕ) (before : List Element) (front : Front) (es : List Element) (new : List Bool × ℕ) : Type 0 where

@@ -8,7 +8,7 @@ ghost use Rattle.pel_model.specs.Grammar.{Element, Mba, Mtype, Mquant, Stuffing,
 ghost use Rattle.pel_model.specs.Text.{resets_predictor};
 ghost use Rattle.pel_model.specs.Walk.{Good, Bad, read, Takes, Walked};
 ghost use Rattle.h261_mb.specs.Inside.{StaysInside, IsMacroblockSoFar};
-ghost use Rattle.h261_mb.specs.Parts.{IsFront, IsMquant};
+ghost use Rattle.h261_mb.specs.Parts.{IsFront, IsMquant, predicted};
 ghost use Rattle.h261_mb.specs.State.{IsReady, IsNear, Stands};
 
 use crate::kinds::{has_mquant, has_vector};
@@ -18,7 +18,7 @@ use pel_model::{Fault, MbKind, Why};
 use vlc_codes::{MbaRow, mba, mtype};
 
 /// The greatest address of a macroblock in its group (H.261, 4.2.2).
-const LAST_ADDRESS: u8 = 33;
+pub const LAST_ADDRESS: u8 = 33;
 
 /// Takes MBA, MTYPE and, where the kind has it, MQUANT, and gives with them the predictor of the vector.
 pub fn read_front(r: &mut Reader<'_>, state: &MbState) -> Result<Front, Fault>
@@ -38,11 +38,7 @@ pub fn read_front(r: &mut Reader<'_>, state: &MbState) -> Result<Front, Fault>
     let address = take_mba(r, state.address)?;
     let kind = take_mtype(r)?;
     let quant = read_mquant(r, kind, state.quant)?;
-    let (h, v) = if has_vector(kind) && !starts_anew(address - state.address, address) {
-        (state.h, state.v)
-    } else {
-        (0, 0)
-    };
+    let (h, v) = predictor(state, kind, address);
     Ok(Front {
         address,
         kind,
@@ -50,6 +46,22 @@ pub fn read_front(r: &mut Reader<'_>, state: &MbState) -> Result<Front, Fault>
         h,
         v,
     })
+}
+
+/// The predictor of the vector of the macroblock at an address behind the last one.
+#[inline]
+pub fn predictor(state: &MbState, kind: MbKind, address: u8) -> (i8, i8)
+    requires near { IsNear state.now.h × IsNear state.now.v }
+    requires behind { state.now.address ≤ address }
+    ensures across { result.0 ≡ predicted kind (address - state.now.address) address state.now.h }
+    ensures down { result.1 ≡ predicted kind (address - state.now.address) address state.now.v }
+    ensures near { IsNear result.0 × IsNear result.1 }
+{
+    if has_vector(kind) && !starts_anew(address - state.address, address) {
+        (state.h, state.v)
+    } else {
+        (0, 0)
+    }
 }
 
 // Takes MBA and gives the address, at most 33 (H.261, 4.2.3.1).

@@ -10,11 +10,13 @@ ghost use Rattle.pel_model.specs.Walk.{Good, Bad, read, Walked};
 ghost use Rattle.h261_mb.specs.Inside.{IsMacroblockSoFar};
 ghost use Rattle.h261_mb.specs.State.{IsReady, Stands, IsHeader, state_behind};
 
+use crate::ahead::take_header;
 use crate::front::read_front;
 use crate::kinds::is_intra;
 use crate::pattern::read_pattern;
 use crate::state::MbState;
 use crate::vector::read_vector;
+use crate::window::Window;
 use pel_bits::Reader;
 use pel_model::{Fault, Format, MbKind};
 
@@ -75,6 +77,38 @@ impl Header {
 /// At a fault, NoCode, Cut, BadAddress, BadQuant, BadVector or VectorOutside, the reader stands at the element at fault.
 /// Behind the header stand the blocks of the pattern, and then `state_behind` of it is the state.
 pub fn read_header(
+    r: &mut Reader<'_>,
+    format: Format,
+    group: u8,
+    state: &MbState,
+) -> Result<Header, Fault>
+    requires group { is_group format group ≡ true }
+    requires ready { IsReady state.now }
+    ensures walk { (before : List Element) (d n : ℕ) →
+        Stands group state.now before → read mba_rows r.old.0 ≡ Good (Mba d) n →
+        Walked (next format) before (IsHeader group before)
+        (IsMacroblockSoFar before) result r.old r.new }
+    ensures no_word { (why : Why) → read mba_rows r.old.0 ≡ Bad why →
+        (result ≡ Err (record { place = r.old.1; why = why })) × (r.new ≡ r.old) }
+    ensures stuffing { (n : ℕ) → read mba_rows r.old.0 ≡ Good Stuffing n →
+        (result ≡ Err (record { place = r.old.1; why = NoCode })) × (r.new ≡ r.old) }
+    ensures ready { IfOk result (λ header. IsReady (state_behind header)) }
+    ensures onward { IfOk result (λ _. r.old.1 ≤ r.new.1) }
+{
+    if r.left() >= 56 {
+        let mut window = Window::of(r);
+        if let Some(header) = take_header(&mut window, format, group, state) {
+            r.skip(window.taken());
+            return Ok(header);
+        }
+    }
+    read_by_elements(r, format, group, state)
+}
+
+// The same, element by element from the reader.
+#[cold]
+#[inline(never)]
+fn read_by_elements(
     r: &mut Reader<'_>,
     format: Format,
     group: u8,

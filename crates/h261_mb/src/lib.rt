@@ -2,6 +2,7 @@
 //! is found.
 #![tactic(auto)]
 
+mod ahead;
 mod blocks;
 mod front;
 mod header;
@@ -9,6 +10,7 @@ mod kinds;
 mod pattern;
 mod state;
 mod vector;
+mod window;
 
 ghost use Rattle.std.specs.Prelude.{◌≡◌, ℕ, true, List, IfOk, IfErr};
 ghost use Rattle.pel_model.specs.declared.Why.{Why};
@@ -226,6 +228,11 @@ mod tests {
             let header = read_header(&mut r, Format::Qcif, 3, &beginning());
             assert_eq!(rt; header, Ok(expected));
             assert_eq!(rt; r.place(), len);
+            // and where so many bits follow that it stands in a window
+            let mut r = Reader::new(Bits::new(&octets, 0, 64));
+            let header = read_header(&mut r, Format::Qcif, 3, &beginning());
+            assert_eq!(rt; header, Ok(expected));
+            assert_eq!(rt; r.place(), len);
         }
         let sent = header(MbKind::McFilCoded, 8, 0, 0, 39);
         let luminance = [sent.sends(0), sent.sends(1), sent.sends(2), sent.sends(3)];
@@ -270,6 +277,12 @@ mod tests {
             );
             assert_eq!(rt; state, before);
             assert_eq!(rt; r.place(), place);
+            if why != Why::Cut {
+                let mut r = Reader::new(Bits::new(&octets, 0, 64));
+                let found = scan_mb(&mut r, Format::Qcif, 1, &mut state);
+                assert_eq!(rt; found, Err(Fault { place, why }));
+                assert_eq!(rt; r.place(), place);
+            }
         }
     }
 }

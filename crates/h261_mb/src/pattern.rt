@@ -15,7 +15,7 @@ use pel_model::{Fault, MbKind};
 use vlc_codes::cbp;
 
 /// The pattern of all six blocks.
-const ALL_BLOCKS: u8 = 63;
+pub const ALL_BLOCKS: u8 = 63;
 
 /// Takes CBP where the kind has it, and gives the pattern: all blocks where the kind is Intra, else none without CBP.
 pub fn read_pattern(r: &mut Reader<'_>, kind: MbKind) -> Result<u8, Fault>

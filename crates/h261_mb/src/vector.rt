@@ -99,7 +99,7 @@ fn take_mvd(r: &mut Reader<'_>, last: i8, first: u32, side: u32) -> Result<i8, F
 }
 
 // The predictor plus that value which gives -15 to 15.
-fn component(last: i8, values: (i8, i8)) -> Option<i8>
+pub fn component(last: i8, values: (i8, i8)) -> Option<i8>
     requires near { IsNear last }
     requires first { (negsuc 29 ≤ℤ values.0) × (values.0 ≤ℤ pos 30) }
     requires second { (negsuc 29 ≤ℤ values.1) × (values.1 ≤ℤ pos 30) }
@@ -125,7 +125,7 @@ fn in_range(component: i8) -> bool
 }
 
 // 16 samples from `first` on, moved by the component, lie within the side.
-fn stays_within(first: u32, side: u32, component: i8) -> bool
+pub fn stays_within(first: u32, side: u32, component: i8) -> bool
     requires { first ≤ side_of Cif Across }
     ensures { result ≡ stays side first component }
 {
@@ -137,7 +137,7 @@ fn stays_within(first: u32, side: u32, component: i8) -> bool
     }
 }
 
-fn width(format: Format) -> u32
+pub fn width(format: Format) -> u32
     ensures { result ≡ side_of format Across }
 {
     match format {
@@ -146,7 +146,7 @@ fn width(format: Format) -> u32
     }
 }
 
-fn height(format: Format) -> u32
+pub fn height(format: Format) -> u32
     ensures { result ≡ side_of format Down }
 {
     match format {
@@ -156,7 +156,7 @@ fn height(format: Format) -> u32
 }
 
 // The first luminance sample of a macroblock on each axis: a group is 176 by 48, a macroblock 16 by 16 (H.261, 4.2.2).
-fn left_edge(group: u8, address: u8) -> u32
+pub fn left_edge(group: u8, address: u8) -> u32
     requires { (0 < group) × (0 < address) }
     ensures value { result ≡ corner Across group address }
     ensures within { result ≤ side_of Cif Across }
@@ -164,7 +164,7 @@ fn left_edge(group: u8, address: u8) -> u32
     176 * (u32::from(group - 1) % 2) + 16 * (u32::from(address - 1) % 11)
 }
 
-fn top_edge(group: u8, address: u8) -> u32
+pub fn top_edge(group: u8, address: u8) -> u32
     requires { (0 < group) × (group ≤ 12) × (0 < address) × (address ≤ 33) }
     ensures value { result ≡ corner Down group address }
     ensures within { result ≤ side_of Cif Across }

@@ -16,6 +16,7 @@ pub mod MacroblockReading
 pub mod PictureReading
 pub mod PlacedMarks
 pub mod Refreshes
+pub mod ShortWords
 pub mod Spares
 pub mod Texts
 pub mod ValidPictures

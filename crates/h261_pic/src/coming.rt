@@ -1,12 +1,12 @@
 //! What may come behind a picture's header, a group's header, a macroblock or stuffing: the end, a group, stuffing or a
 //! macroblock (H.261, 4.2.1 to 4.2.3).
 
-ghost use Rattle.std.specs.Prelude.{◌≡◌, ◌≤◌, false, List, IfOk};
+ghost use Rattle.std.specs.Prelude.{◌≡◌, ◌≤◌, true, false, List, IfOk};
 ghost use Rattle.pel_model.specs.declared.Format.{Format};
 ghost use Rattle.pel_model.specs.declared.Why.TheVariants.{NoCode};
 ghost use Rattle.pel_model.specs.Grammar.{Element, slot, AtGroup, AtMacroblock, is_end, mba_rows, next};
 ghost use Rattle.pel_model.specs.Walk.{Bad, read};
-ghost use Rattle.h261_pic.specs.Comes.{Comes, IsGroupOrEnd};
+ghost use Rattle.h261_pic.specs.Comes.{Comes, IsGroupOrEnd, IsMba};
 
 use pel_bits::Reader;
 use pel_model::{Fault, Why};
@@ -43,6 +43,15 @@ pub fn take_coming(r: &mut Reader<'_>) -> Result<Coming, Fault>
         }
         Err(why) => take_gbsc(r, why),
     }
+}
+
+/// Whether at least 8 bits are left, of which at most three come before the first 1: so MBA begins at all but the macroblocks
+/// behind a gap of seven, and such a macroblock is told without its MBA, which is read once.
+#[inline]
+pub fn begins_short_mba(r: &Reader<'_>) -> bool
+    ensures { result ≡ true → IsMba r.now r.now }
+{
+    r.left() >= 8 && r.peek(4) != 0
 }
 
 /// Says what comes behind a picture header, the end or a group, and takes a start code. At a fault, NoCode or Cut, the

@@ -11,7 +11,7 @@ ghost use Rattle.h261_pic.specs.HeaderElements.{IsPictureHeader, IsGroupHeader};
 ghost use Rattle.h261_pic.specs.Comes.{Comes};
 ghost use Rattle.h261_pic.specs.Reached.{EndsAt, Reached, FollowsOrFails};
 
-use crate::coming::{Coming, take_coming, take_group_or_end};
+use crate::coming::{Coming, begins_short_mba, take_coming, take_group_or_end};
 use crate::formats::last_end;
 use crate::input_headers::{GroupHeader, read_group_header, read_picture_header};
 use h261_mb::{MbState, scan_mb};
@@ -92,6 +92,9 @@ pub fn coming_within(r: &mut Reader<'_>, format: Format, begun: u32) -> Result<C
         counted format before r.old.1 ≤ limit format →
         Comes (next_within_limit format before r.old) result r.old r.new }
 {
+    if begins_short_mba(r) {
+        return Ok(Coming::Macroblock);
+    }
     let mut ahead = r.copy();
     let coming = take_coming(&mut ahead)?;
     let begun = match coming {

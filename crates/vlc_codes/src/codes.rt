@@ -296,7 +296,7 @@ pub static COEFFICIENT: [(u16, u8); 65] = [
     (0b10, 2),
 ];
 
-// The differences of the pairs of MVD.
+/// The two differences that each word of MVD stands for, in the order of `Table::Mvd` (H.261, 4.2.3.4).
 pub static DIFFERENCES: [(i8, i8); 32] = [
     (0, 0),
     (-1, -1),
@@ -332,7 +332,7 @@ pub static DIFFERENCES: [(i8, i8); 32] = [
     (-16, 16),
 ];
 
-// The kinds of MTYPE.
+/// The kinds of macroblocks in the order of `Table::Mtype` (H.261, 4.2.3.2).
 pub static KINDS: [MbKind; 10] = [
     MbKind::Intra,
     MbKind::IntraQuant,
@@ -346,7 +346,7 @@ pub static KINDS: [MbKind; 10] = [
     MbKind::McFilQuant,
 ];
 
-// The values of CBP.
+/// The patterns of coded blocks in the order of `Table::Cbp` (H.261, 4.2.3.5).
 pub static PATTERNS: [u8; 63] = [
     60, 4, 8, 16, 32, 12, 48, 20, 40, 28, 44, 52, 56, 1, 61, 2, 62, 24, 36, 3, 63, 5, 9, 17, 33, 6,
     10, 18, 34, 7, 11, 19, 35, 13, 49, 21, 41, 14, 50, 22, 42, 15, 51, 23, 43, 25, 37, 26, 38, 29,

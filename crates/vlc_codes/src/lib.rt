@@ -19,6 +19,7 @@ ghost use Rattle.vlc_codes.specs.Lookup.{words, codes_of_rows};
 ghost use Rattle.vlc_codes.specs.WholeWords.{ArePrefixFree};
 ghost use Rattle.vlc_codes.specs.declared.lookup.Table.{Table};
 
+pub use codes::{DIFFERENCES, KINDS, PATTERNS};
 pub use lookup::{Cell, Table, look_up};
 pub use readers::{CoefRow, MbaRow, cbp, mba, mtype, mvd, tcoeff};
 

@@ -2,7 +2,7 @@ use Rattle.std.proofs.Common.{◌≡◌, ℕ, ◌-◌, ◌++◌, List, Bool, ref
 use Rattle.std.proofs.lemmas.Int.{to_z-of_z}
 use Rattle.std.proofs.lemmas.Result.{err_from_is_err_and}
 use Rattle.pel_model.specs.declared.Mark.{Mark}
-use Rattle.pel_model.specs.Bits.{number, field}
+use Rattle.pel_model.specs.Bits.{field}
 use Rattle.pel_model.specs.Codes.{is_intra}
 use Rattle.pel_model.specs.Records.{Macroblock}
 use Rattle.pel_model.specs.Walk.{after}

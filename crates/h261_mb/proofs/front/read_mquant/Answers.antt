@@ -1,4 +1,4 @@
-use Rattle.std.proofs.Common.{◌≡◌, ℕ, Bool, true, cond, List, [], ◌∷◌, Some, Result, Ok, Err, refl, ap, sym, ◌∙◌}
+use Rattle.std.proofs.Common.{◌≡◌, ℕ, Bool, true, cond, List, [], ◌∷◌, Result, Ok, Err, refl, ap, sym, ◌∙◌}
 use Rattle.pel_model.specs.declared.Fault.{Fault}
 use Rattle.pel_model.specs.declared.Format.{Format}
 use Rattle.pel_model.specs.declared.MbKind.{MbKind}
@@ -8,10 +8,11 @@ use Rattle.pel_model.specs.Grammar.{Element, Mtype, Mquant, slot, AtMquant, vect
 use Rattle.h261_mb.specs.Inside.{StaysInside}
 use Rattle.h261_mb.specs.Parts.{IsMquant}
 use Rattle.h261_mb.proofs.Steps.{fails_here}
+use Rattle.h261_mb.proofs.Taken.{some_mquant-taken}
 use Rattle.h261_mb.proofs.front.read_mquant.Goals as goal
 
 taken : (format : Format) (before : List Element) (kind : MbKind) (last : ℕ) (old new : List Bool × ℕ) (result : Result ℕ Fault) → Takes Mquant (next format (Mtype kind ∷ before) old) result old new → slot (Mtype kind ∷ before) ≡ AtMquant → Walked (next format) (Mtype kind ∷ before) (IsMquant kind last before) (StaysInside (Mtype kind ∷ before)) result old new
-taken format before kind last old new (Ok q) took due = record { elements = Mquant q ∷ []; walk = (took.len, took.good, took.behind); wanted = record { mquant = Some q; elements = refl; quant_is = refl; due = refl } }
+taken format before kind last old new (Ok q) took due = some_mquant-taken format before kind last q old new took
 taken format before kind last old new (Err f) took due =
     fails_here (next format) (Mtype kind ∷ before) (StaysInside (Mtype kind ∷ before)) old old new [] f refl (tt, ap may_end due) took.bad took.place took.kept
 

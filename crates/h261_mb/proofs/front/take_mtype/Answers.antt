@@ -1,14 +1,13 @@
-use Rattle.std.proofs.Common.{refl}
 use Rattle.pel_model.specs.Codes.{mtype_table}
 use Rattle.pel_model.specs.Walk.{read}
 use Rattle.pel_model.specs.Grammar.{Mtype, AtMtype, table_rows}
-use Rattle.h261_mb.proofs.Slots.{good, no_word, at-mtype}
+use Rattle.h261_mb.proofs.Slots.{no_word, at-mtype}
+use Rattle.h261_mb.proofs.Taken.{mtype-taken}
 use Rattle.h261_mb.proofs.front.take_mtype.Goals as goal
 
 pub returns-in-Ok-clause-taken : goal.returns-in-Ok-clause-taken
 returns-in-Ok-clause-taken c = λ format before due.
-    let word = c.in-Ok.ensures in
-    record { len = word.len; good = good format before c.args.r.now AtMtype (read (table_rows mtype_table Mtype) c.args.r.now.0) due (at-mtype c.args.r.now.0) (Mtype c.in-Ok.kind) word.len word.good refl; behind = word.behind }
+    mtype-taken format before c.in-Ok.kind c.args.r.now c.mtype.new.r due c.in-Ok.ensures
 
 pub returns-in-Err-clause-taken : goal.returns-in-Err-clause-taken
 returns-in-Err-clause-taken c = λ format before due.

@@ -1,28 +1,19 @@
-use Rattle.std.proofs.Common.{◌≡◌, ℕ, ◌<◌, Bool, true, false, cond, List, [], ◌∷◌, MatchBool, Result, Ok, Err, IfOk, refl, sym, ◌∙◌, ap, subst}
+use Rattle.std.proofs.Common.{◌≡◌, ℕ, ◌<◌, Bool, true, false, cond, List, [], ◌∷◌, MatchBool, Result, Ok, Err, IfOk, refl, sym, ◌∙◌, ap}
 use Rattle.pel_model.specs.declared.Fault.{Fault}
 use Rattle.pel_model.specs.declared.Format.{Format}
 use Rattle.pel_model.specs.declared.MbKind.{MbKind}
 use Rattle.pel_model.specs.Codes.{is_intra, has_cbp}
 use Rattle.pel_model.specs.Walk.{Takes, Walked}
-use Rattle.pel_model.specs.Grammar.{Element, Cbp, AtCbp, slot, block_slot, cbp_slot, kind, ones, may_end, next}
+use Rattle.pel_model.specs.Grammar.{Element, Cbp, AtCbp, slot, block_slot, kind, may_end, next}
 use Rattle.h261_mb.specs.Inside.{StaysInside}
 use Rattle.h261_mb.specs.Parts.{IsPattern}
-use Rattle.h261_mb.specs.State.{PatternFits}
 use Rattle.h261_mb.proofs.Steps.{fails_here}
+use Rattle.h261_mb.proofs.Taken.{cbp_due, some_cbp-taken}
 use Rattle.h261_mb.proofs.SentBlocks.{intra_has_no_cbp, slot-no-cbp}
 use Rattle.h261_mb.proofs.pattern.read_pattern.Goals as goal
 
--- CBP is due
-cbp_due : (k : MbKind) → has_cbp k ≡ true → cbp_slot k ≡ AtCbp
-cbp_due k coded = ap (λ (b : Bool). cond b AtCbp (block_slot k (cond (is_intra k) 6 0))) coded
-
 none : (k : MbKind) (n : ℕ) → has_cbp k ≡ false → [] ≡ cond (has_cbp k) (Cbp n ∷ []) []
 none k n no_cbp = sym (ap (λ (b : Bool). cond b (Cbp n ∷ []) []) no_cbp)
-
-fits_by : (intra coded : Bool) (n : ℕ) → intra ≡ false → coded ≡ true → n < 64 → MatchBool intra (n ≡ 63) (MatchBool coded (n < 64) (n ≡ 0))
-fits_by false true n other has six = six
-fits_by true coded n other has six = absurd cc
-fits_by false false n other has six = absurd cc
 
 all_by : (intra : Bool) (n : ℕ) (P : Type 0) → intra ≡ true → n ≡ 63 → MatchBool intra (n ≡ 63) P
 all_by true n P is all = all
@@ -35,16 +26,7 @@ none_by false true n other no_cbp is = absurd cc
 
 -- CBP was taken
 taken : (format : Format) (before : List Element) (k : MbKind) (old new : List Bool × ℕ) (result : Result ℕ Fault) → Takes Cbp (next format before old) result old new → slot before ≡ AtCbp → kind before ≡ k → is_intra k ≡ false → has_cbp k ≡ true → IfOk result (λ n. n < 64) → Walked (next format) before (IsPattern k before) (StaysInside before) result old new
-taken format before k old new (Ok n) took here kind_is other coded six = record {
-  elements = Cbp n ∷ [];
-  walk = (took.len, took.good, took.behind);
-  wanted = record {
-    fits = fits_by (is_intra k) (has_cbp k) n other coded six;
-    elements = sym (ap (λ (b : Bool). cond b (Cbp n ∷ []) []) coded);
-    due = ap (λ (k : MbKind). block_slot k (ones n)) kind_is;
-    to_come = refl;
-  };
-}
+taken format before k old new (Ok n) took here kind_is other coded six = some_cbp-taken format before k n old new other coded kind_is six took
 taken format before k old new (Err f) took here kind_is other coded six =
     fails_here (next format) before (StaysInside before) old old new [] f refl (tt, ap may_end here) took.bad took.place took.kept
 
@@ -66,7 +48,7 @@ pub returns-then-has_cbp-clause-walk : goal.returns-then-has_cbp-clause-walk
 returns-then-has_cbp-clause-walk c = λ format before due kind_is to_come.
     let other = sym c.is_intra.ensures ∙ c.if-is_intra.false in
     let coded = sym c.has_cbp.ensures ∙ c.if-has_cbp.true in
-    let here = due ∙ cbp_due c.args.kind coded in
+    let here = cbp_due format before c.args.kind coded due in
     taken format before c.args.kind c.args.r.now c.take_cbp.new.r c.take_cbp.result (c.take_cbp.ensures.taken format before here) here kind_is other coded
     c.take_cbp.ensures.six
 

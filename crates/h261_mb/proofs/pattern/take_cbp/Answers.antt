@@ -1,15 +1,14 @@
-use Rattle.std.proofs.Common.{refl}
 use Rattle.pel_model.specs.Codes.{cbp_table}
 use Rattle.pel_model.specs.Walk.{read}
 use Rattle.pel_model.specs.Grammar.{Cbp, AtCbp, table_rows}
-use Rattle.h261_mb.proofs.Slots.{good, no_word, at-cbp}
+use Rattle.h261_mb.proofs.Slots.{no_word, at-cbp}
 use Rattle.h261_mb.proofs.Words.{cbp_within}
+use Rattle.h261_mb.proofs.Taken.{cbp-taken}
 use Rattle.h261_mb.proofs.pattern.take_cbp.Goals as goal
 
 pub returns-in-Ok-clause-taken : goal.returns-in-Ok-clause-taken
 returns-in-Ok-clause-taken c = λ format before due.
-    let word = c.in-Ok.ensures in
-    record { len = word.len; good = good format before c.args.r.now AtCbp (read (table_rows cbp_table Cbp) c.args.r.now.0) due (at-cbp c.args.r.now.0) (Cbp c.in-Ok.pattern) word.len word.good refl; behind = word.behind }
+    cbp-taken format before c.in-Ok.pattern c.args.r.now c.cbp.new.r due c.in-Ok.ensures
 
 pub returns-in-Ok-clause-six : goal.returns-in-Ok-clause-six
 returns-in-Ok-clause-six c =

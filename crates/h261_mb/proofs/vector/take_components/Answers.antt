@@ -1,16 +1,13 @@
-use Rattle.std.proofs.Common.{◌≡◌, ℕ, ◌∷◌, List, ℤ, refl, sym, ◌∙◌, ap, subst, w8, rules}
+use Rattle.std.proofs.Common.{◌∷◌, List, refl, sym, ◌∙◌, subst, w8, rules}
 use Rattle.std.proofs.lemmas.Int.{to_z-of_z}
 use Rattle.std.proofs.lemmas.Result.{err_from_is_err_and}
-use Rattle.pel_model.specs.Records.{Axis, Across, Down}
+use Rattle.pel_model.specs.Records.{Across, Down}
 use Rattle.pel_model.specs.Walk.{Goes}
-use Rattle.pel_model.specs.Valid.{corner}
-use Rattle.pel_model.specs.Grammar.{Element, Mvd, group, address, component_from, next}
+use Rattle.pel_model.specs.Grammar.{Element, Mvd, next}
 use Rattle.h261_mb.proofs.Steps.{goes_first}
+use Rattle.h261_mb.proofs.Taken.{components-taken}
+use Rattle.h261_mb.proofs.Vectors.{corner_at}
 use Rattle.h261_mb.proofs.vector.take_components.Goals as goal
-
-corner_at : (axis : Axis) (before : List Element) (g a x : ℕ) → group before ≡ g → address before ≡ a → x ≡ corner axis g a → corner axis (group before) (address before) ≡ x
-corner_at axis before g a x number_is address_is is =
-    ap (λ (n : ℕ). corner axis n (address before)) number_is ∙ (ap (corner axis g) address_is ∙ sym is)
 
 pub returns-in_err-h-clause-walk : goal.returns-in_err-h-clause-walk
 returns-in_err-h-clause-walk c =
@@ -34,25 +31,11 @@ returns-in_err-v-clause-walk c =
 
 pub returns-clause-walk : goal.returns-clause-walk
 returns-clause-walk c = λ before due number_is address_is across_is down_is.
-    let next = next c.args.format in
     let front = c.args.front.now in
     let left = corner_at Across before c.args.group front.address c.left_edge.result number_is address_is c.left_edge.ensures.value in
     let top = corner_at Down before c.args.group front.address c.top_edge.result number_is address_is c.top_edge.ensures.value in
     let h_is = to_z-of_z w8 front.h (search rules) in
     let v_is = to_z-of_z w8 front.v (search rules) in
     let first = c.in_ok-h.ensures.walk c.args.format before Across due (across_is ∙ sym h_is) (sym c.width.ensures) left in
-    let across = Mvd Across first.wanted.values in
-    let took = subst (λ (es : List Element). Goes next before c.args.r.now es c.take_mvd.new.r) first.wanted.elements first.walk in
-    let later = c.in_ok-v.ensures.walk c.args.format (across ∷ before) Down refl (down_is ∙ sym v_is) (sym c.height.ensures) top in
-    let across_told = ap (λ (z : ℤ). component_from z first.wanted.values) (sym h_is) ∙ (first.wanted.component_is ∙ sym (to_z-of_z w8 c.in_ok-h.h (search rules))) in
-    let down_told = ap (λ (z : ℤ). component_from z later.wanted.values) (sym v_is) ∙ (later.wanted.component_is ∙ sym (to_z-of_z w8 c.in_ok-v.v (search rules))) in record {
-      elements = across ∷ later.elements;
-      walk = goes_first next before c.args.r.now c.take_mvd.new.r c.take_mvd-2.new.r across took.0 later.elements took.1 took.2 later.walk;
-      wanted = record {
-        across = first.wanted.values;
-        down = later.wanted.values;
-        elements = ap (λ (es : List Element). across ∷ es) later.wanted.elements;
-        across_is = across_told;
-        down_is = down_told;
-      };
-    }
+    let later = c.in_ok-v.ensures.walk c.args.format (Mvd Across first.wanted.values ∷ before) Down refl (down_is ∙ sym v_is) (sym c.height.ensures) top in
+    components-taken c.args.format before front _ _ c.in_ok-h.h c.in_ok-v.v _ c.args.r.now c.take_mvd.new.r c.take_mvd-2.new.r h_is v_is (sym (to_z-of_z w8 c.in_ok-h.h (search rules))) (sym (to_z-of_z w8 c.in_ok-v.v (search rules))) first later
