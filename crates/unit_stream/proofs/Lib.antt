@@ -1,0 +1,4 @@
+pub mod Ending
+pub mod Putting
+pub mod Rounding
+pub mod Telling

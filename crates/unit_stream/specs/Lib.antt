@@ -1,0 +1,4 @@
+pub mod Ends
+pub mod Events
+pub mod Steps
+pub mod Tellers
