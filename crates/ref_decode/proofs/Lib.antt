@@ -1,0 +1,17 @@
+mod BlockReading
+mod Comparing
+mod Drawn
+mod Filters
+mod Geometry
+mod Grouping
+mod HeaderReading
+mod Levels
+mod Looking
+mod Picturing
+mod Planed
+mod Predicted
+mod Rowing
+mod Rows
+mod Sums
+mod Telling
+mod WorkedPlanes

@@ -1,0 +1,5 @@
+pub mod Blocks
+pub mod Drawing
+pub mod Passes
+pub mod Planes
+pub mod Shown

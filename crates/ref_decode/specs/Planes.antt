@@ -1,0 +1,21 @@
+-- What a decoder shows after each picture of a stream, as octets.
+use Rattle.std.specs.Prelude.{ℕ, List, [], ◌∷◌}
+use Rattle.pel_model.specs.declared.Format.{Format}
+use Rattle.pel_model.specs.Decode.{decode}
+use Rattle.pel_model.specs.Frames.{Frame}
+use Rattle.pel_model.specs.Transform.{fixed}
+use Rattle.ref_decode.specs.Shown.{black, planes_of}
+use Rattle.unit_stream.specs.Events.{Event, Lost, Shown, Refused}
+
+-- the planes after each picture, from this frame on: a loss, or a unit that is no picture, changes nothing
+abbrev pub planes_from : Format → Frame → List Event → List (List ℕ)
+planes_from format before [] = []
+planes_from format before (Lost ∷ events) = planes_from format before events
+planes_from format before (Refused place why ∷ events) = planes_from format before events
+planes_from format before (Shown picture ∷ events) =
+    planes_of format (decode format fixed before picture)
+    ∷ planes_from format (decode format fixed before picture) events
+
+-- from a black frame on
+abbrev pub planes_shown : Format → List Event → List (List ℕ)
+planes_shown format events = planes_from format black events
