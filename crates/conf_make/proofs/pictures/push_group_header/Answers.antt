@@ -1,0 +1,12 @@
+-- Four fields.
+use Rattle.std.proofs.Common.{◌∙◌, ap, ℕ, ◌++◌}
+use Rattle.pel_bits.specs.Bits.{field}
+use Rattle.conf_make.specs.Steps.{with_bits}
+use Rattle.conf_make.proofs.Drawn.{four-pushes, group-header-is}
+use Rattle.conf_make.proofs.pictures.push_group_header.Goals as goal
+
+pub returns-clause-value : goal.returns-clause-value
+returns-clause-value c =
+    four-pushes _ _ _ _ _ _ _ _ _ c.push.ensures.value c.push-2.ensures.value c.push-3.ensures.value c.push-4.ensures.value
+    ∙ ap (λ (n : ℕ). with_bits c.args.bits.now (field 1 16 ++ (field n 4 ++ (field 8 5 ++ field 0 1)))) c.from.ensures
+    ∙ ap (with_bits c.args.bits.now) (group-header-is c.args.number)

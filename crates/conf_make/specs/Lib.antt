@@ -1,0 +1,7 @@
+pub mod Draws
+pub mod Ends
+pub mod Laws
+pub mod Made
+pub mod Packets
+pub mod Pictures
+pub mod Steps

@@ -1,0 +1,14 @@
+//! A conference to try a bridge on: a conference file with packets of small pictures, some of them lost, made of a number.
+#![tactic(auto)]
+
+mod draws;
+mod laws;
+mod maker;
+mod output;
+mod pictures;
+
+pub use laws::made_files_are_conferences;
+pub use maker::{MakeEnd, MakeStop, make};
+
+#[cfg(test)]
+mod tests;
