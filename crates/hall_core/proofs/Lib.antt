@@ -6,3 +6,4 @@ pub mod Orders
 pub mod Taking
 pub mod Waiting
 pub mod Ticking
+pub mod Turning

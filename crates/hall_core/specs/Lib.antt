@@ -3,3 +3,4 @@ pub mod Stands
 pub mod Boxes
 pub mod Fields
 pub mod Taking
+pub mod Machine

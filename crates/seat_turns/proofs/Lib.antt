@@ -1,0 +1,10 @@
+pub mod Every
+pub mod Owned
+pub mod Asked
+pub mod Joined
+pub mod Sorted
+pub mod Counted
+pub mod Sharing
+pub mod Finished
+pub mod Told
+pub mod Gathered
