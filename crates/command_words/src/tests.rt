@@ -14,73 +14,44 @@ fn words(alloc: Global, line: &str) -> Result<Vec<String>, AllocError> {
     Ok(words)
 }
 
-const REPLAY: ReplayOptions = ReplayOptions {
-    mtu: 1_400,
-    ssrc: 1_211_250_225,
-    seq: 0,
-    stamp: 0,
+// The job of `replay` with these options.
+fn replayed(mtu: u16, ssrc: u32, seq: u16, stamp: u32) -> Job {
+    Job::Replay(ReplayOptions {
+        mtu,
+        ssrc,
+        seq,
+        stamp,
+    })
+}
+
+// The job of `make` with these options.
+fn made(seed: u32, ticks: u32, lanes: u8) -> Job {
+    Job::Make(MakeOptions { seed, ticks, lanes })
+}
+
+const QCIF: FormatOptions = FormatOptions {
+    format: Format::Qcif,
+};
+
+const CIF: FormatOptions = FormatOptions {
+    format: Format::Cif,
 };
 
 #[test]
 fn words_that_ask_for_a_job(rt: HostRuntime) -> Result<(), Fail> {
     let rows = [
-        ("replay", Job::Replay(REPLAY)),
-        (
-            "replay --mtu=1000",
-            Job::Replay(ReplayOptions {
-                mtu: 1_000,
-                ..REPLAY
-            }),
-        ),
+        ("replay", replayed(1_400, 1_211_250_225, 0, 0)),
+        ("replay --mtu=1000", replayed(1_000, 1_211_250_225, 0, 0)),
         (
             "replay --stamp=4294967295 --seq=65535 --ssrc=7 --mtu=0000000009000",
-            Job::Replay(ReplayOptions {
-                mtu: 9_000,
-                ssrc: 7,
-                seq: 65_535,
-                stamp: 4_294_967_295,
-            }),
+            replayed(9_000, 7, 65_535, 4_294_967_295),
         ),
-        (
-            "check",
-            Job::Check(FormatOptions {
-                format: Format::Qcif,
-            }),
-        ),
-        (
-            "check --format=cif",
-            Job::Check(FormatOptions {
-                format: Format::Cif,
-            }),
-        ),
-        (
-            "decode",
-            Job::Decode(FormatOptions {
-                format: Format::Cif,
-            }),
-        ),
-        (
-            "decode --format=qcif",
-            Job::Decode(FormatOptions {
-                format: Format::Qcif,
-            }),
-        ),
-        (
-            "make",
-            Job::Make(MakeOptions {
-                seed: 1,
-                ticks: 100,
-                lanes: 4,
-            }),
-        ),
-        (
-            "make --lanes=1 --ticks=0",
-            Job::Make(MakeOptions {
-                seed: 1,
-                ticks: 0,
-                lanes: 1,
-            }),
-        ),
+        ("check", Job::Check(QCIF)),
+        ("check --format=cif", Job::Check(CIF)),
+        ("decode", Job::Decode(CIF)),
+        ("decode --format=qcif", Job::Decode(QCIF)),
+        ("make", made(1, 100, 4)),
+        ("make --lanes=1 --ticks=0", made(1, 0, 1)),
     ];
     for (line, job) in rows {
         let words = words(rt.alloc(), line)?;
