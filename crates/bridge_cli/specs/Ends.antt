@@ -1,20 +1,27 @@
 -- What a run did, and how it tells of it.
-use Rattle.std.specs.Prelude.{◌≡◌, ◌⊎◌, ◌^◌, ◌<◌, ◌≤◌, ◌++◌, ℕ, List, [], ⊤, length, take, Option, Some}
 use Rattle.std.specs.Io.KnownBytes.{Appends}
-use Rattle.bridge_cli.specs.declared.status.Status.{Status}
+use Rattle.std.specs.Prelude.{◌≡◌, ◌⊎◌, ◌^◌, ◌<◌, ◌≤◌, ◌++◌, ℕ, List, [], ⊤, length, take, Option, Some}
+use Rattle.bridge_cli.specs.Notes.{fault_line, line_of, made_line, planes_line, report_line, status_of_make, status_of_replay, status_of_units, tally_line}
 use Rattle.bridge_cli.specs.declared.status.Status.TheVariants.{Done, Usage, ReadFault, WriteFault, Cut, BadRecord, Limit, NoMemory, NoteFault}
-use Rattle.bridge_cli.specs.Notes.{fault_line, line_of, status_of_replay, tally_line}
+use Rattle.bridge_cli.specs.declared.status.Status.{Status}
+use Rattle.bridge_replay.specs.Replays.{Ends as Replays, IsReadBack}
+use Rattle.io_edge.specs.Outside.{Outside}
 use Rattle.bridge_replay.specs.declared.ends.ReplayEnd.{ReplayEnd}
 use Rattle.bridge_replay.specs.declared.ends.Settings.{Settings}
-use Rattle.bridge_replay.specs.Replays.{Outside, Ends as Replays, IsReadBack}
-use Rattle.command_words.specs.declared.job.Job.{Job}
-use Rattle.command_words.specs.declared.job.Job.TheVariants.{Replay, Check, Decode, Make}
-use Rattle.command_words.specs.declared.job.ReplayOptions.{ReplayOptions}
 use Rattle.command_words.specs.Asks.{Asks}
 use Rattle.command_words.specs.Options.{Text}
+use Rattle.command_words.specs.declared.job.Job.TheVariants.{Replay, Check, Decode, Make}
+use Rattle.command_words.specs.declared.job.Job.{Job}
+use Rattle.command_words.specs.declared.job.ReplayOptions.{ReplayOptions}
 use Rattle.conf_file.specs.Entries.{Content}
 use Rattle.conf_file.specs.File.{Whole, Conference, IsFile}
+use Rattle.conf_make.specs.Ends.{Ends as Makes}
+use Rattle.conf_make.specs.declared.maker.MakeEnd.{MakeEnd}
 use Rattle.io_edge.specs.Causes.{Rose}
+use Rattle.pic_report.specs.Report.{lines}
+use Rattle.ref_decode.specs.Planes.{planes_shown}
+use Rattle.rtp_h261.specs.declared.unit_end.UnitEnd.{UnitEnd}
+use Rattle.unit_stream.specs.Ends.{Ends as Reads, HasFrames}
 
 -- the number that the program ends with
 abbrev pub number_of_status : Status → ℕ
@@ -36,25 +43,26 @@ most_octets = 2 ^ 40
 abbrev pub settings : ReplayOptions → Settings
 settings o = record { mtu = o.mtu; seq = o.seq; stamp = o.stamp; ssrc = o.ssrc; budget = most_octets }
 
--- the jobs that the program does; the words of the others are refused
-abbrev pub IsServed : Job → Type 0
-IsServed (Replay o) = ⊤
-IsServed (Check o) = ⊥
-IsServed (Decode o) = ⊥
-IsServed (Make o) = ⊥
-
 -- what a job did between these two moments, with what status it ended, and the line that tells it
 abbrev pub Does : Job → (before after : Outside) → (told : Status) → (line : List ℕ) → Type 0
 Does (Replay o) before after told line =
     (end : ReplayEnd) × Replays (settings o) before after end × IsReadBack (settings o)
     × (told ≡ status_of_replay end.stop) × (line ≡ line_of (tally_line end.tally) told)
-Does (Check o) before after told line = ⊥
-Does (Decode o) before after told line = ⊥
-Does (Make o) before after told line = ⊥
+Does (Check o) before after told line =
+    (end : UnitEnd) × Reads o.format most_octets (lines o.format) before after end
+    × (told ≡ status_of_units end.stop) × (line ≡ line_of (report_line end) told)
+Does (Decode o) before after told line =
+    (end : UnitEnd) × Reads o.format most_octets (planes_shown o.format) before after end
+    × (told ≡ status_of_units end.stop) × (line ≡ line_of (planes_line end) told)
+Does (Make o) before after told line =
+    (end : MakeEnd)
+    × Makes o.seed o.ticks o.lanes before.written after.written before.write_faults after.write_faults end
+    × (after.left ≡ before.left) × (after.faults ≡ before.faults)
+    × (told ≡ status_of_make end.stop) × (line ≡ line_of (made_line o.ticks end) told)
 
--- the words ask for no job that is done
+-- the words ask for no job
 abbrev pub AskNone : List Text → Type 0
-AskNone words = (job : Job) → Asks words job → IsServed job → ⊥
+AskNone words = (job : Job) → Asks words job → ⊥
 
 -- what words made the program do: the job that they ask for; or nothing, since they ask for none; or nothing, since there
 -- was not the memory to read them
@@ -90,12 +98,16 @@ HasConference before =
     (file : List ℕ) × (more : List ℕ) × (lanes : ℕ) × (list : List Content) × (before.left ≡ Some (file ++ more))
     × IsFile file (Conference lanes list Whole) × (length file ≤ most_octets)
 
+-- the source tells whole frames of packets up to its end, of fewer octets than may be read
+abbrev pub HasPackets : Outside → Type 0
+HasPackets before = (octets : List ℕ) × (before.left ≡ Some octets) × HasFrames octets most_octets
+
 -- the input holds all that the job asks for
 abbrev pub HasInput : Job → Outside → Type 0
 HasInput (Replay o) before = HasConference before
-HasInput (Check o) before = ⊥
-HasInput (Decode o) before = ⊥
-HasInput (Make o) before = ⊥
+HasInput (Check o) before = HasPackets before
+HasInput (Decode o) before = HasPackets before
+HasInput (Make o) before = ⊤
 
 -- a job whose input is whole, and none of whose objects fails, is done, or wants memory
 abbrev pub IsComplete : (words : List Text) → (before after : Outside) → (faults now : ℕ) → Status → Type 0

@@ -6,6 +6,12 @@ use Rattle.bridge_replay.specs.declared.ends.ReplayEnd.{ReplayEnd}
 use Rattle.bridge_replay.specs.declared.ends.ReplayStop.{ReplayStop}
 use Rattle.bridge_replay.specs.declared.ends.ReplayStop.TheVariants as Stops
 use Rattle.bridge_replay.specs.declared.tally.Tally.{Tally}
+use Rattle.conf_make.specs.declared.maker.MakeEnd.{MakeEnd}
+use Rattle.conf_make.specs.declared.maker.MakeStop.{MakeStop}
+use Rattle.conf_make.specs.declared.maker.MakeStop.TheVariants as Makes
+use Rattle.rtp_h261.specs.declared.unit_end.UnitEnd.{UnitEnd}
+use Rattle.rtp_h261.specs.declared.unit_end.UnitStop.{UnitStop}
+use Rattle.rtp_h261.specs.declared.unit_end.UnitStop.TheVariants as Units
 use Rattle.conf_file.specs.declared.answers.EntryWhy.{EntryWhy}
 use Rattle.conf_file.specs.declared.answers.EntryWhy.TheVariants.{Header, Kind, Lane, Step, Order}
 
@@ -43,6 +49,27 @@ tally_line t =
     ++ codes " octets " ++ decimal t.octets
     ++ codes "\n"
 
+-- the line of framed packets that were reported
+unfoldable pub report_line : UnitEnd → List ℕ
+report_line end =
+    codes "done pictures " ++ decimal end.pictures ++ codes " gaps " ++ decimal end.gaps ++ codes "\n"
+
+-- the line of framed packets whose pictures were decoded
+unfoldable pub planes_line : UnitEnd → List ℕ
+planes_line end =
+    codes "done pictures " ++ decimal end.pictures
+    ++ codes " gaps " ++ decimal end.gaps
+    ++ codes " octets " ++ decimal end.octets
+    ++ codes "\n"
+
+-- the line of a conference file of so many ticks that was made
+unfoldable pub made_line : (ticks : ℕ) → MakeEnd → List ℕ
+made_line ticks end =
+    codes "done ticks " ++ decimal ticks
+    ++ codes " records " ++ decimal end.records
+    ++ codes " octets " ++ decimal end.octets
+    ++ codes "\n"
+
 -- the status that tells of a stop
 abbrev pub status_of_replay : ReplayStop → Status
 status_of_replay Stops.Done = Done
@@ -52,6 +79,19 @@ status_of_replay (Stops.Cut place) = Cut place
 status_of_replay (Stops.BadRecord place why) = BadRecord place why
 status_of_replay Stops.Limit = Limit
 status_of_replay Stops.NoMemory = NoMemory
+
+abbrev pub status_of_units : UnitStop → Status
+status_of_units Units.Done = Done
+status_of_units Units.ReadFault = ReadFault
+status_of_units Units.WriteFault = WriteFault
+status_of_units (Units.Cut place) = Cut place
+status_of_units Units.Limit = Limit
+status_of_units Units.NoMemory = NoMemory
+
+abbrev pub status_of_make : MakeStop → Status
+status_of_make Makes.Done = Done
+status_of_make Makes.WriteFault = WriteFault
+status_of_make Makes.NoMemory = NoMemory
 
 -- the line of a status, where a job that is done has this one
 abbrev pub line_of : (done : List ℕ) → Status → List ℕ

@@ -29,7 +29,17 @@ their own coded bits.";
 
 const USAGE: &str = "\
 Usage: bridge_cli replay [--NAME=VALUE ..] < CONFERENCE > PACKETS
-       bridge_cli --help | --version";
+       bridge_cli check [--format=FORMAT] < PACKETS > REPORT
+       bridge_cli decode [--format=FORMAT] < PACKETS > PLANES
+       bridge_cli make [--NAME=VALUE ..] > CONFERENCE
+       bridge_cli [COMMAND] --help | --version";
+
+const COMMANDS: [Command; 4] = [
+    Command::Replay,
+    Command::Check,
+    Command::Decode,
+    Command::Make,
+];
 
 const EXAMPLE: &str = "\
 Example, at the top of the repository:
@@ -79,18 +89,28 @@ fn serve(rt: &HostRuntime, words: &[String]) -> Status {
     match words {
         [word] if word.as_str() == "--help" => printed(help(rt)),
         [word] if word.as_str() == "--version" => printed(rt.println(VERSION)),
-        [command, word] if command.as_str() == "replay" && word.as_str() == "--help" => {
-            let replay = Command::Replay;
-            printed(print!(rt; "{replay}"))
-        }
+        [command, word] if word.as_str() == "--help" => help_of(rt, command.as_str()),
         _ => run_on_standard_streams(rt, words),
     }
 }
 
 // Prints what a person is told of the program.
 fn help(rt: &HostRuntime) -> io::Result<()> {
-    let replay = Command::Replay;
-    println!(rt; "{ABOUT}\n\n{USAGE}\n\n{replay}\n{EXAMPLE}\n\n{STATUS}")
+    println!(rt; "{ABOUT}\n\n{USAGE}\n")?;
+    for command in COMMANDS {
+        println!(rt; "{command}")?;
+    }
+    println!(rt; "{EXAMPLE}\n\n{STATUS}")
+}
+
+// Prints what a person is told of a command.
+fn help_of(rt: &HostRuntime, name: &str) -> Status {
+    for command in COMMANDS {
+        if command.name() == name {
+            return printed(print!(rt; "{command}"));
+        }
+    }
+    tell(rt, Status::Usage)
 }
 
 // How a run that only prints ended.

@@ -3,14 +3,16 @@
 ghost use Rattle.std.specs.Prelude.{◌≡◌, ◌+◌, ◌≤◌, ◌++◌, decimal, length};
 ghost use Rattle.arrayvec.specs.ArrayString.{array_string_len};
 ghost use Rattle.bridge_cli.specs.Ends.{Notes, without_note};
-ghost use Rattle.bridge_cli.specs.Notes.{fault_line, line_of, tally_line, word_of};
+ghost use Rattle.bridge_cli.specs.Notes.{fault_line, line_of, made_line, planes_line, report_line, tally_line, word_of};
 
 use crate::status::Status;
 use arrayvec::ArrayString;
 use bridge_replay::Tally;
 use conf_file::EntryWhy;
+use conf_make::MakeEnd;
 use io_edge::{Failed, Sink, put_all};
 use itoa::Buffer;
+use rtp_h261::UnitEnd;
 
 /// The most octets of a line.
 const LONGEST: usize = 256;
@@ -79,6 +81,52 @@ pub fn tally_line(tally: &Tally) -> Line
     push_number(&mut line, tally.packets);
     line.push_str(" octets ");
     push_number(&mut line, tally.octets);
+    line.push_str("\n");
+    line
+}
+
+/// The line of framed packets that were reported.
+#[tactic(auto, unfolding(crate::specs::Notes::report_line))]
+pub fn report_line(end: &UnitEnd) -> Line
+    ensures { result.bytes ≡ report_line end.now }
+{
+    let mut line = Line::new();
+    line.push_str("done pictures ");
+    push_number(&mut line, end.pictures);
+    line.push_str(" gaps ");
+    push_number(&mut line, end.gaps);
+    line.push_str("\n");
+    line
+}
+
+/// The line of framed packets whose pictures were decoded.
+#[tactic(auto, unfolding(crate::specs::Notes::planes_line))]
+pub fn planes_line(end: &UnitEnd) -> Line
+    ensures { result.bytes ≡ planes_line end.now }
+{
+    let mut line = Line::new();
+    line.push_str("done pictures ");
+    push_number(&mut line, end.pictures);
+    line.push_str(" gaps ");
+    push_number(&mut line, end.gaps);
+    line.push_str(" octets ");
+    push_number(&mut line, end.octets);
+    line.push_str("\n");
+    line
+}
+
+/// The line of a conference file of so many ticks that was made.
+#[tactic(auto, unfolding(crate::specs::Notes::made_line))]
+pub fn made_line(ticks: u32, end: &MakeEnd) -> Line
+    ensures { result.bytes ≡ made_line ticks end.now }
+{
+    let mut line = Line::new();
+    line.push_str("done ticks ");
+    push_number(&mut line, u64::from(ticks));
+    line.push_str(" records ");
+    push_number(&mut line, end.records);
+    line.push_str(" octets ");
+    push_number(&mut line, end.octets);
     line.push_str("\n");
     line
 }

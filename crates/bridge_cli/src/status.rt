@@ -2,10 +2,12 @@
 
 ghost use Rattle.std.specs.Prelude.{◌≡◌};
 ghost use Rattle.bridge_cli.specs.Ends.{number_of_status};
-ghost use Rattle.bridge_cli.specs.Notes.{status_of_replay};
+ghost use Rattle.bridge_cli.specs.Notes.{status_of_make, status_of_replay, status_of_units};
 
 use bridge_replay::ReplayStop;
 use conf_file::EntryWhy;
+use conf_make::MakeStop;
+use rtp_h261::UnitStop;
 
 /// How a run ends.
 #[derive(Clone, Copy, Debug, PartialEq, Eq)]
@@ -60,6 +62,31 @@ impl Status {
             ReplayStop::BadRecord { place, why } => Status::BadRecord { place, why },
             ReplayStop::Limit => Status::Limit,
             ReplayStop::NoMemory => Status::NoMemory,
+        }
+    }
+
+    /// The status that tells of a stop of `check` or `decode`.
+    pub fn of_units(stop: UnitStop) -> Status
+        ensures { result ≡ status_of_units stop }
+    {
+        match stop {
+            UnitStop::Done => Status::Done,
+            UnitStop::ReadFault => Status::ReadFault,
+            UnitStop::WriteFault => Status::WriteFault,
+            UnitStop::Cut { place } => Status::Cut { place },
+            UnitStop::Limit => Status::Limit,
+            UnitStop::NoMemory => Status::NoMemory,
+        }
+    }
+
+    /// The status that tells of a stop of `make`.
+    pub fn of_make(stop: MakeStop) -> Status
+        ensures { result ≡ status_of_make stop }
+    {
+        match stop {
+            MakeStop::Done => Status::Done,
+            MakeStop::WriteFault => Status::WriteFault,
+            MakeStop::NoMemory => Status::NoMemory,
         }
     }
 }
