@@ -35,6 +35,27 @@ is_conference four_faces \
     "done ticks 40 pictures 160 gaps 0 commands 6 refused 0 taken 110 packets 45 octets 12285" \
     2dc8ea51b4843b7d0b3be2d1cb1f5238fe36f30d8766862903fe8f3874cda3bb
 
+# A made conference, replayed, reported and decoded, each command over what the one before wrote: the octets by digests
+# that another implementation gave.
+gives() {
+    try_line '"$1" $2 < "$3"' "$program" "$1" "$2"
+    ended "$1" 0
+    said_line "$3"
+    is "the octets of $1" test "$(sha256sum < "$room/out" | cut -c1-64)" = "$4"
+    mv "$room/out" "$room/$5"
+}
+gives "make --seed=1 --ticks=1000 --lanes=4" /dev/null \
+    "done ticks 1000 records 4965 octets 311383" \
+    34104aec1fc17b6719eee009106bdcb1b5e198cc37d6b66eb7def07cb2822b1c made.conf
+gives "replay" "$room/made.conf" \
+    "done ticks 1000 pictures 3920 gaps 80 commands 44 refused 0 taken 3154 packets 1002 octets 233115" \
+    90296bdd235d7796b36435518330c09f5d1ee3d82dd79d9f4d41799acea69145 made.rtp
+gives "check --format=cif" "$room/made.rtp" "done pictures 1000 gaps 0" \
+    73b33ee64a4815b567d1d36a29d09d3ca784fb2b3d6d0429090efaf831ec4b86 made.txt
+gives "decode" "$room/made.rtp" "done pictures 1000 gaps 0 octets 152064000" \
+    8fefbccdf0529d0f410a309633232ef4ef3f7173cb7444d747b1a26170792ed4 made.yuv
+rm "$room/made.yuv"
+
 # is_usage NAME LINE WORDS..: the line asks for no job. The line of notes and a usage text are on standard error, and nothing
 # on standard output.
 is_usage() {
@@ -52,6 +73,9 @@ is_usage "a word too many" '"$1" replay replay < "$2"' "$program" "$striped"
 is_usage "a number out of range" '"$1" replay --mtu=999 < "$2"' "$program" "$striped"
 is_usage "an option in two words" '"$1" replay --mtu 1000 < "$2"' "$program" "$striped"
 is_usage "an option twice" '"$1" replay --seq=1 --seq=1 < "$2"' "$program" "$striped"
+is_usage "an option of another command" '"$1" check --mtu=1000 < "$2"' "$program" "$striped"
+is_usage "a format in capitals" '"$1" decode --format=CIF < "$2"' "$program" "$striped"
+is_usage "a lane too many" '"$1" make --lanes=17' "$program"
 is_usage "two options" '"$1" --help --version' "$program"
 is_usage "an empty word" '"$1" ""' "$program"
 is_usage "a word that is not UTF-8" '"$1" "$2"' "$program" "$(printf 'replay\377')"
@@ -79,12 +103,17 @@ cp "$room/out" "$room/help"
 for number in 0 2 3 4 5 6 7 9 10; do
     is "--help names status $number" grep -Eq "^ +$number  +[a-z]" "$room/help"
 done
-for option in mtu ssrc seq stamp; do
+for option in mtu ssrc seq stamp format seed ticks lanes; do
     is "--help names the option $option" grep -q -e "--$option=" "$room/help"
 done
-try "$program" replay --help
-ended "replay --help" 0
-is "it names its options" grep -q -e "--mtu=" "$room/out"
+for case in replay:mtu check:format decode:format make:ticks; do
+    command=${case%:*}
+    is "--help names the command $command" grep -q "bridge_cli $command " "$room/help"
+    try "$program" "$command" --help
+    ended "$command --help" 0
+    is "it names its options" grep -q -e "--${case#*:}=" "$room/out"
+    is "it has an example" grep -q -e "bridge_cli $command" "$room/out"
+done
 try "$program" --version
 ended "--version" 0
 said_nothing
@@ -128,6 +157,11 @@ try_line '"$1" replay < "$2"' "$program" "$room/kind"
 ended "a faulty entry behind two ticks" 6
 said_line "fault record at 14: kind"
 is "what the ticks wrote is there" test "$(wc -c < "$room/out")" -eq 122
+
+fails "a frame is cut" 5 "fault cut at 1" 'printf "\0" | "$1" check' "$program"
+fails "no frames to decode" 0 "done pictures 0 gaps 0 octets 0" '"$1" decode < /dev/null' "$program"
+fails "decode of a directory" 3 "fault read" '"$1" decode < /' "$program"
+fails "make, output full" 4 "fault write" '"$1" make > /dev/full' "$program"
 
 # What is written is in the buffer until the flush at the end, which the device refuses; the line tells of that.
 fails "output is full" 4 "fault write" '"$1" replay < "$2" > /dev/full' "$program" "$striped"
