@@ -59,3 +59,25 @@ build() {
     fi
     cp "$copy/out/${name}_bench" "$work/$name"
 }
+
+# what every measurement of composed pictures begins with: the pictures, and the programs that parse, compose and move them
+prepare_composing() {
+    say "making the pictures"
+    python3 "$here/pictures.py" qcif 1000 3 0 ten_kbit > "$work/ten_kbit"
+    python3 "$here/pictures.py" qcif 200 4 0 limit > "$work/limit"
+    build_c mover
+    build parse pel_bits pel_model h261_pic
+    build compose pel_bits pel_model h261_pic cif_mix
+}
+
+# build_program: PROGRAM is the program that it names already, or that of the repository, proved and built where need be
+build_program() {
+    [ -z "${PROGRAM:-}" ] || return 0
+    say "proving and building the program; with nothing in crates/*/out this takes as long as the crates' first check"
+    if ! (cd "$top/crates/bridge_cli" && rt run -- --version) < /dev/null > "$work/log" 2>&1; then
+        tail -n 40 "$work/log" >&2
+        say "the program was not built"
+        exit 1
+    fi
+    PROGRAM=$top/crates/bridge_cli/out/bridge_cli
+}

@@ -5,12 +5,7 @@
 set -eu
 . "$(dirname "$0")/lib.sh"
 
-say "making the pictures"
-python3 "$here/pictures.py" qcif 1000 3 0 ten_kbit > "$work/ten_kbit"
-python3 "$here/pictures.py" qcif 200 4 0 limit > "$work/limit"
-build_c mover
-build parse pel_bits pel_model h261_pic
-build compose pel_bits pel_model h261_pic cif_mix
+prepare_composing
 build pack pel_bits pel_model h261_pic io_edge cif_pack
 
 say "measuring"

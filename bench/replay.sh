@@ -6,15 +6,7 @@ set -eu
 . "$(dirname "$0")/lib.sh"
 pictures=${2:-40000}
 
-if [ -z "${PROGRAM:-}" ]; then
-    say "proving and building the program; with nothing in crates/*/out this takes as long as the crates' first check"
-    if ! (cd "$top/crates/bridge_cli" && rt run -- --version) < /dev/null > "$work/log" 2>&1; then
-        tail -n 40 "$work/log" >&2
-        say "the program was not built"
-        exit 1
-    fi
-    PROGRAM=$top/crates/bridge_cli/out/bridge_cli
-fi
+build_program
 python3 "$here/codes.py" > "$work/codes.h"
 build_c scanner
 build_c timed
