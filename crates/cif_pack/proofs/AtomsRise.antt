@@ -1,5 +1,5 @@
 -- The atoms of a valid picture fit packets one by one.
-use Rattle.std.proofs.Common.{◌≡◌, ℕ, zero, suc, ◌+◌, ◌-◌, ◌*◌, ◌/◌, ◌<◌, ◌≤◌, nat_le, Bool, true, List, [], ◌∷◌, ◌++◌, length, flat_map, Option, Some, None, refl, sym, ◌∙◌, ap, subst, arith, length-append}
+use Rattle.std.proofs.Common.{◌≡◌, ℕ, ◌+◌, ◌-◌, ◌/◌, ◌<◌, ◌≤◌, nat_le, true, List, [], ◌∷◌, ◌++◌, length, flat_map, Option, Some, None, refl, sym, ◌∙◌, ap, subst, arith, length-append}
 use Rattle.std.proofs.lemmas.Bool.Decides.{nat_tests}
 use Rattle.std.proofs.lemmas.List.Elements.{All-head, All-tail}
 use Rattle.std.specs.Prelude.{All}
@@ -15,10 +15,10 @@ use Rattle.std.proofs.Math.Logic.{∥∥₁_elim}
 use Rattle.std.proofs.Props.{props}
 use Rattle.cif_pack.specs.declared.atoms.AtomEnd.{AtomEnd}
 use Rattle.cif_pack.specs.Atoms.{context_behind, macroblock_ends, ends_behind, group_ends, atom_ends}
-use Rattle.cif_pack.specs.Cuts.{octets_between, fits}
+use Rattle.cif_pack.specs.Cuts.{fits}
 use Rattle.cif_pack.specs.Sending.{Rises}
 use Rattle.cif_pack.specs.Payload.{no_context}
-use Rattle.cif_pack.proofs.CutLemmas.{Ahead, rises-from}
+use Rattle.cif_pack.proofs.CutLemmas.{rises-from}
 
 -- 7,807 bits fit a packet of 1,000 octets wherever they begin
 fits-in : (mtu from to : ℕ) → 1000 ≤ mtu → to ≤ from + 7807 → fits mtu from to ≡ true

@@ -1,5 +1,5 @@
 -- The cuts of a picture are those of the definition, and nothing else is.
-use Rattle.std.proofs.Common.{◌≡◌, ℕ, zero, suc, ◌+◌, ◌-◌, ◌<◌, ◌≤◌, nat_le, Bool, true, false, not, List, [], ◌∷◌, ◌++◌, length, slice_index_or, refl, sym, ◌∙◌, ap, ap₂, subst, arith, append_assoc}
+use Rattle.std.proofs.Common.{◌≡◌, ℕ, zero, suc, ◌-◌, ◌<◌, ◌≤◌, Bool, true, false, List, [], ◌∷◌, ◌++◌, length, slice_index_or, refl, sym, ◌∙◌, ap, ap₂, subst, arith, append_assoc}
 use Rattle.std.proofs.lemmas.Bool.{leb-true, leb-false, not-true}
 use Rattle.std.proofs.lemmas.List.Elements.{All-cons, All-nil, All-append, All-push, All-weaker, All-contains, Contains-append_right}
 use Rattle.std.specs.Prelude.{All, Contains}

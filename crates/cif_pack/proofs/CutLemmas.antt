@@ -1,11 +1,11 @@
 -- The walk over the ends of atoms.
-use Rattle.std.proofs.Common.{◌≡◌, ℕ, zero, suc, ◌+◌, ◌-◌, ◌*◌, ◌/◌, ◌<◌, ◌≤◌, nat_le, nat_lt, ◌&&◌, Bool, true, false, not, List, [], ◌∷◌, ◌++◌, length, flat_map, refl, sym, ◌∙◌, ap, subst, arith, append_assoc, length-append}
+use Rattle.std.proofs.Common.{◌≡◌, ℕ, ◌<◌, ◌≤◌, nat_le, nat_lt, ◌&&◌, Bool, true, false, not, List, [], ◌∷◌, refl, arith}
 use Rattle.std.proofs.lemmas.Bool.{leb-true, ltb-true, and_parts}
 use Rattle.std.proofs.lemmas.Bool.Decides.{nat_tests}
 use Rattle.std.proofs.lemmas.List.Elements.{All-cons, All-nil}
-use Rattle.std.specs.Prelude.{All, Contains}
+use Rattle.std.specs.Prelude.{All}
 use Rattle.cif_pack.specs.declared.atoms.AtomEnd.{AtomEnd}
-use Rattle.cif_pack.specs.Cuts.{octets_between, fits, IsCut, AreCuts, is_cut, with_cut, from_behind, cuts}
+use Rattle.cif_pack.specs.Cuts.{fits, is_cut}
 use Rattle.cif_pack.specs.Sending.{rises, Rises}
 
 -- the parts of what is known of the first end

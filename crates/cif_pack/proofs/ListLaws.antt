@@ -1,5 +1,5 @@
 -- The packets of one picture after the other.
-use Rattle.std.proofs.Common.{◌≡◌, ℕ, zero, suc, ◌+◌, ◌%◌, ◌^◌, ◌<◌, ◌==◌, Bool, true, false, List, [], ◌∷◌, ◌++◌, length, take, flat_map, Option, Result, Ok, Err, refl, sym, ◌∙◌, ap, ap₂, subst, arith, append_assoc, append-nil, length-append}
+use Rattle.std.proofs.Common.{◌≡◌, ℕ, suc, ◌+◌, ◌^◌, ◌<◌, ◌≤◌, ◌==◌, Bool, false, List, [], ◌∷◌, ◌++◌, length, take, Option, Ok, Err, refl, sym, ◌∙◌, ap, ap₂, subst, arith, append_assoc, append-nil, length-append}
 use Rattle.std.proofs.lemmas.Grind.{flat_map-append}
 use Rattle.std.proofs.Math.Seq.{take-append-add}
 use Rattle.std.proofs.KnownBytes.{Appends-trans}
@@ -83,13 +83,13 @@ nothing-sent s first small = record {
 }
 
 -- what is put next is what the pictures' definition says
-put-is : (s : Settings) (pictures : List (ℕ × Picture)) (packer : PackerState) (count octets total : ℕ) (p : Picture) (first now : Option (List ℕ))
+pub put-is : (s : Settings) (pictures : List (ℕ × Picture)) (packer : PackerState) (count octets total : ℕ) (p : Picture) (first now : Option (List ℕ))
     → HasSent s pictures packer count octets first now → packets packer.settings total 0 p ≡ packets s total (length (sent_packets s 0 pictures)) p
 put-is s pictures packer count octets total p first now h =
     ap (λ (q : PackerState). packets q.settings total 0 p) h.state
     ∙ packets-behind s total (length (sent_packets s 0 pictures)) 0 p ∙ ap (λ (k : ℕ). packets s total k p) (omega arith)
 
-out-more : (s : Settings) (pictures : List (ℕ × Picture)) (total : ℕ) (p : Picture)
+pub out-more : (s : Settings) (pictures : List (ℕ × Picture)) (total : ℕ) (p : Picture)
     → out s 0 (pictures ++ (total, p) ∷ []) ≡ out s 0 pictures ++ framed (packets s total (length (sent_packets s 0 pictures)) p)
 out-more s pictures total p =
     ap framed (one-more s pictures total p)
@@ -122,7 +122,8 @@ one-more-is-sent s pictures packer after count octets first now then total p sen
 pub front-is-written : (s : Settings) (pictures : List (ℕ × Picture)) (packer : PackerState) (count octets : ℕ) (first now then : Option (List ℕ)) (total : ℕ) (p : Picture) (failed : Failed)
     → HasSent s pictures packer count octets first now
     → Puts now then (Err failed) (packets packer.settings total 0 p)
-    → (n : ℕ) × (n < length (out s 0 (pictures ++ (total, p) ∷ []))) × Appends first then (take n (out s 0 (pictures ++ (total, p) ∷ [])))
+    → (n : ℕ) × (length (out s 0 pictures) ≤ n) × (n < length (out s 0 (pictures ++ (total, p) ∷ [])))
+    × Appends first then (take n (out s 0 (pictures ++ (total, p) ∷ [])))
 front-is-written s pictures packer count octets first now then total p failed h puts =
     let front = framed (sent_packets s 0 pictures) in
     let next = framed (packets s total (length (sent_packets s 0 pictures)) p) in
@@ -131,6 +132,7 @@ front-is-written s pictures packer count octets first now then total p failed h 
     let part : take (length front + puts.0) (out s 0 (pictures ++ (total, p) ∷ [])) ≡ front ++ take puts.0 next =
     ap (take (length front + puts.0)) all ∙ take-append-add front next puts.0 in (
       length front + puts.0,
+      omega arith,
       omega (arith, puts.1, ap length is, ap length all, length-append front next),
       subst (Appends first then) (sym part)
           (Appends-trans first now then front (take puts.0 next) h.written (subst (λ (t : List ℕ). Appends now then (take puts.0 t)) is puts.2)),

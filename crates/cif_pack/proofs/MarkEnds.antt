@@ -1,5 +1,5 @@
 -- Ends of atoms from marks and group views are those of the picture.
-use Rattle.std.proofs.Common.{◌≡◌, ℕ, zero, suc, ◌+◌, ◌-◌, ◌*◌, ◌<◌, ◌≤◌, ◌==◌, Bool, true, false, List, [], ◌∷◌, ◌++◌, length, take, drop, get_or, Option, Some, None, refl, sym, ◌∙◌, ap, ap₂, subst, arith, append_assoc, length-append, length-take, append-nil, pos}
+use Rattle.std.proofs.Common.{◌≡◌, ℕ, zero, suc, ◌+◌, ◌<◌, ◌≤◌, ◌==◌, Bool, true, false, List, [], ◌∷◌, ◌++◌, length, take, drop, get_or, Option, Some, None, refl, sym, ◌∙◌, ap, ap₂, subst, arith, append_assoc, length-append, length-take, append-nil, pos}
 use Rattle.std.proofs.lemmas.Bool.Decides.{nat_tests}
 use Rattle.std.proofs.lemmas.List.{take_at, drop_at}
 use Rattle.std.proofs.lemmas.List.Elements.{All-head, All-tail}
@@ -13,12 +13,12 @@ use Rattle.h261_pic.specs.Coded.{Coding, coding, views, IsWhole}
 use Rattle.h261_pic.specs.declared.coded.GroupView.{GroupView}
 use Rattle.pel_model.specs.declared.Format.{Format}
 use Rattle.pel_model.specs.declared.Mark.{Mark}
-use Rattle.pel_model.specs.Marks.{mark_of, macroblock_marks, group_marks, marks_of}
+use Rattle.pel_model.specs.Marks.{mark_of, macroblock_marks, group_marks}
 use Rattle.pel_model.specs.Records.{Macroblock, Group, Picture, quantiser_after}
 use Rattle.pel_model.specs.Text.{macroblock_text, group_text}
 use Rattle.cif_pack.specs.declared.atoms.AtomEnd.{AtomEnd}
-use Rattle.cif_pack.specs.Atoms.{context_behind, macroblock_ends, ends_behind, group_ends, atom_ends}
-use Rattle.cif_pack.specs.Marked.{ends_from, is_none_left, mark_ends, header_end, ends_in, view_ends, views_ends, ends_of_marks, count_of}
+use Rattle.cif_pack.specs.Atoms.{macroblock_ends, ends_behind, group_ends, atom_ends}
+use Rattle.cif_pack.specs.Marked.{ends_from, mark_ends, ends_in, view_ends, views_ends, ends_of_marks, count_of}
 
 abbrev pub no_mark : Mark
 no_mark = record { at = 0; len = 0; group = 0; address = 0; quant_after = 0; h_after = pos 0; v_after = pos 0; intra = false }

@@ -1,9 +1,9 @@
 -- Octets whose first or last bits are zeros, and octets that bits are packed into.
-use Rattle.std.proofs.Common.{◌≡◌, ℕ, zero, suc, ◌+◌, ◌-◌, ◌*◌, ◌/◌, ◌%◌, ◌^◌, ◌<◌, ◌≤◌, Bool, true, false, List, [], ◌∷◌, ◌++◌, length, take, drop, slice_index, refl, sym, ◌∙◌, ap, ap₂, subst, arith, append_assoc, append-nil, length-append, pos, negsuc, ℤ}
+use Rattle.std.proofs.Common.{◌≡◌, ℕ, zero, suc, ◌+◌, ◌-◌, ◌*◌, ◌/◌, ◌%◌, ◌^◌, ◌<◌, Bool, true, false, List, [], ◌∷◌, ◌++◌, take, drop, slice_index, refl, sym, ◌∙◌, ap, ap₂, subst, arith, append_assoc, append-nil, pos, negsuc, ℤ}
 use Rattle.byteorder.specs.Endian.{big_bytes}
-use Rattle.pel_bits.specs.Bits.{bits, field, number}
+use Rattle.pel_bits.specs.Bits.{bits, field}
 use Rattle.pel_bits.specs.Reading.{zeros}
-use Rattle.pel_bits.proofs.Fields.{length-field, field-add, field-mod, field-join, field-zero, field-shift, take-field, drop-field, number-field, number-fits}
+use Rattle.pel_bits.proofs.Fields.{field-add, field-mod, field-join, field-zero, field-shift, take-field, drop-field, number-field, number-fits}
 use Rattle.cif_pack.specs.declared.atoms.Context.{Context}
 use Rattle.cif_pack.specs.Payload.{packed, header_bits, in_five_bits}
 

@@ -1,23 +1,22 @@
 -- The packets of a picture: their lengths, their marker bits, and the bits of their payloads.
-use Rattle.std.proofs.Common.{◌≡◌, ℕ, zero, suc, ◌+◌, ◌-◌, ◌*◌, ◌/◌, ◌%◌, ◌<◌, ◌≤◌, ◌==◌, Bool, true, false, List, [], ◌∷◌, ◌++◌, length, take, drop, map, replicate, refl, sym, ◌∙◌, ap, ap₂, subst, arith, append_assoc, append-nil, length-append, length-take-le}
+use Rattle.std.proofs.Common.{◌≡◌, ℕ, zero, suc, ◌+◌, ◌-◌, ◌*◌, ◌%◌, ◌<◌, ◌≤◌, ◌==◌, Bool, true, false, List, [], ◌∷◌, ◌++◌, length, take, drop, map, replicate, refl, ◌∙◌, ap, ap₂, arith, length-append, length-take-le}
 use Rattle.std.proofs.lemmas.Bool.{leb-true}
 use Rattle.std.proofs.lemmas.Bool.Decides.{nat_tests}
 use Rattle.std.proofs.lemmas.List.{length-drop, length-replicate}
 use Rattle.std.proofs.lemmas.List.Elements.{All-cons, All-nil, All-contains}
-use Rattle.std.specs.Prelude.{All, Contains}
+use Rattle.std.specs.Prelude.{All}
 use Rattle.cif_pack.specs.declared.atoms.AtomEnd.{AtomEnd}
 use Rattle.cif_pack.specs.declared.atoms.Context.{Context}
 use Rattle.cif_pack.specs.declared.packer.Settings.{Settings}
 use Rattle.cif_pack.specs.Atoms.{atom_ends}
-use Rattle.cif_pack.specs.Cuts.{octets_between, fits, IsCut, AreCuts, cuts}
+use Rattle.cif_pack.specs.Cuts.{octets_between, AreCuts, cuts}
 use Rattle.cif_pack.specs.Packets.{packet, packets_to, packets, stamp_at, number_of}
 use Rattle.cif_pack.specs.Payload.{packed, header_bits, payload, sbit_of, ebit_of, no_context}
-use Rattle.cif_pack.specs.Sending.{Rises}
 use Rattle.cif_pack.proofs.AtomsRise.{atoms-rise}
 use Rattle.cif_pack.proofs.CutLaws.{within, cuts-are-furthest}
 use Rattle.cif_pack.proofs.Frames.{length-packed, length-part-octets, header-and-payload}
 use Rattle.h261_pic.proofs.Texts.{length-text}
-use Rattle.pel_bits.specs.Bits.{bits, field, number}
+use Rattle.pel_bits.specs.Bits.{bits, field}
 use Rattle.pel_bits.specs.Reading.{zeros}
 use Rattle.pel_bits.proofs.Fields.{field-number}
 use Rattle.pel_bits.proofs.OctetBits.{bits-append}

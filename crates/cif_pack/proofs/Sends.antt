@@ -1,8 +1,7 @@
 -- Packets that were put one by one.
-use Rattle.std.proofs.Common.{◌≡◌, ℕ, zero, suc, ◌+◌, ◌-◌, ◌*◌, ◌<◌, ◌≤◌, ◌==◌, ◌%◌, Bool, true, false, List, [], ◌∷◌, ◌++◌, length, take, drop, get_or, flat_map, Option, Some, None, Result, Ok, Err, refl, sym, ◌∙◌, ap, ap₂, subst, arith, append_assoc, append-nil, length-append, pos}
+use Rattle.std.proofs.Common.{◌≡◌, ℕ, suc, ◌+◌, ◌-◌, ◌*◌, ◌<◌, ◌≤◌, ◌==◌, Bool, true, false, List, [], ◌∷◌, ◌++◌, length, take, drop, get_or, Option, Some, None, Result, Ok, Err, refl, sym, ◌∙◌, ap, subst, arith, append_assoc, append-nil, length-append}
 use Rattle.std.proofs.lemmas.List.{drop_more, take-append-le, take_all, length-drop}
 use Rattle.std.proofs.Math.Seq.{take-append-add}
-use Rattle.std.proofs.lemmas.Bool.{leb-true}
 use Rattle.std.proofs.KnownBytes.{Appends-trans}
 use Rattle.std.specs.Prelude.{All, IsErr}
 use Rattle.std.specs.Io.KnownBytes.{Appends}
@@ -10,7 +9,7 @@ use Rattle.rtp_wire.specs.Frames.{frame}
 use Rattle.cif_pack.specs.declared.atoms.AtomEnd.{AtomEnd}
 use Rattle.cif_pack.specs.declared.packer.Sent.{Sent}
 use Rattle.cif_pack.specs.declared.packer.Settings.{Settings}
-use Rattle.cif_pack.specs.Cuts.{is_cut, with_cut, from_behind, cuts, octets_between, fits}
+use Rattle.cif_pack.specs.Cuts.{is_cut, with_cut, from_behind, cuts, octets_between}
 use Rattle.cif_pack.specs.Packets.{packet, packets_to, number_of, framed}
 use Rattle.cif_pack.specs.Payload.{no_context, payload}
 use Rattle.cif_pack.specs.declared.atoms.Context.{Context}
@@ -35,7 +34,8 @@ pub record Stands (s : Settings) (stamp len : ℕ) (text : List Bool) (ends : Li
   pub octets : sent.octets ≡ length (framed done)
   pub rise : Rises s.mtu len start.at (drop i ends)
   pub few : sent.packets ≤ i
-  pub short : sent.octets ≤ 9002 * i
+  pub inside : start.at ≤ len
+  pub short : 8 * sent.octets ≤ start.at + 158 * sent.packets
 
 pub framed-more : (done : List (List ℕ)) (p : List ℕ) → framed (done ++ p ∷ []) ≡ framed done ++ frame p
 framed-more [] p = append-nil (frame p)
@@ -76,6 +76,7 @@ stands-first s stamp len text ends old none rise = record {
   octets = refl;
   rise = rise;
   few = omega arith;
+  inside = omega arith;
   short = omega arith;
 }
 
@@ -93,15 +94,22 @@ stands-on s stamp len text ends i start sent old new less goes w =
       octets = w.octets;
       rise = rises-on s.mtu len start.at e es (subst (Rises s.mtu len start.at) (next-end ends i less) w.rise) goes;
       few = omega (arith, w.few);
-      short = omega (arith, w.short);
+      inside = w.inside;
+      short = w.short;
     }
+
+-- A packet has its bits' octets, the first and the last of which it may share, and 18 more.
+octets-add : (from to octets packets count : ℕ) → from < to → count ≡ octets_between from to + 18 → 8 * octets ≤ from + 158 * packets
+    → 8 * (octets + count) ≤ to + 158 * (packets + 1)
+octets-add from to octets packets count some count_is short = omega (arith, some, count_is, short)
 
 pub stands-cut : (s : Settings) (stamp len : ℕ) (text : List Bool) (ends : List AtomEnd) (i : ℕ) (start : AtomEnd) (sent : Sent) (old new now : Option (List ℕ)) (piece : List ℕ) (count : ℕ)
     → i < length ends → is_cut s.mtu start.at (drop (i + 1) ends) ≡ true
-    → piece ≡ frame (packet s stamp sent.packets text start.at (get_or ends i no_end).at start.context) → count ≡ length piece → length piece ≤ 9002 → Appends new now piece
+    → piece ≡ frame (packet s stamp sent.packets text start.at (get_or ends i no_end).at start.context) → count ≡ length piece
+    → length piece ≡ octets_between start.at (get_or ends i no_end).at + 18 → Appends new now piece
     → Stands s stamp len text ends i start sent old new
     → Stands s stamp len text ends (i + 1) (get_or ends i no_end) (record { packets = sent.packets + 1; octets = sent.octets + count }) old now
-stands-cut s stamp len text ends i start sent old new now piece count less ends_here piece_is count_is short put w =
+stands-cut s stamp len text ends i start sent old new now piece count less ends_here piece_is count_is long put w =
     let e = get_or ends i no_end in
     let es = drop (i + 1) ends in
     let p = packet s stamp sent.packets text start.at e.at start.context in
@@ -109,15 +117,17 @@ stands-cut s stamp len text ends i start sent old new now piece count less ends_
     let next : rest_of s stamp text sent.packets start (drop i ends) ≡ p ∷ rest_of s stamp text (sent.packets + 1) e es =
     ap (rest_of s stamp text sent.packets start) (next-end ends i less) ∙ rest-cuts s stamp text sent.packets start e es ends_here
     ∙ ap (λ (n : ℕ). p ∷ rest_of s stamp text n e es) (omega arith) in
+    let ahead_is = next-ahead s.mtu len start.at ends i less w.rise in
     record {
       done = w.done ++ p ∷ [];
       all = w.all ∙ ap (λ (t : List (List ℕ)). w.done ++ t) next ∙ sym (append_assoc w.done (p ∷ []) (rest_of s stamp text (sent.packets + 1) e es));
       bytes = subst (Appends old now) (sym more) (Appends-trans old new now (framed w.done) piece w.bytes put);
       packets = omega (arith, w.packets, length-append w.done (p ∷ []));
       octets = omega (arith, count_is, w.octets, ap length more, length-append (framed w.done) piece);
-      rise = (next-ahead s.mtu len start.at ends i less w.rise).rest;
+      rise = ahead_is.rest;
       few = omega (arith, w.few);
-      short = omega (arith, count_is, w.short, short);
+      inside = ahead_is.within;
+      short = octets-add start.at e.at sent.octets sent.packets count ahead_is.behind (count_is ∙ long) w.short;
     }
 
 -- at the end of the ends all was put
@@ -178,10 +188,6 @@ stands-same s stamp len text ends i start start2 sent sent2 old new new2 start_i
     subst (λ (e : AtomEnd). Stands s stamp len text ends i e sent2 old new2) (sym start_is)
     (subst (λ (t : Sent). Stands s stamp len text ends i start t old new2) (sym sent_is)
     (subst (Stands s stamp len text ends i start sent old) (sym new_is) w))
-
--- an end that fits makes a short frame
-pub short-frame : (mtu last from : ℕ) (e : AtomEnd) (es : List AtomEnd) → mtu ≤ 9000 → Ahead mtu last from e es → octets_between from e.at + 18 ≤ 9002
-short-frame mtu last from e es most a = omega (arith, most, leb-true (octets_between from e.at) (mtu - 16) a.fit)
 
 pub puts-of-error : {E : Type 0} (old now : Option (List ℕ)) (packets : List (List ℕ)) (result : Result Sent E) → IsErr result
     → (n : ℕ) × (n < length (framed packets)) × Appends old now (take n (framed packets)) → Puts old now result packets

@@ -1,7 +1,7 @@
 -- The last end of a picture's atoms is the end of its text.
-use Rattle.std.proofs.Common.{◌≡◌, ℕ, zero, suc, ◌+◌, ◌<◌, ◌≤◌, List, [], ◌∷◌, ◌++◌, length, flat_map, Option, Some, None, refl, sym, ◌∙◌, ap, arith, length-append}
+use Rattle.std.proofs.Common.{◌≡◌, ℕ, ◌+◌, ◌<◌, List, [], ◌∷◌, ◌++◌, length, flat_map, Option, Some, None, sym, ◌∙◌, ap, arith, length-append}
 use Rattle.cif_pack.specs.declared.atoms.AtomEnd.{AtomEnd}
-use Rattle.cif_pack.specs.Atoms.{context_behind, macroblock_ends, ends_behind, group_ends, atom_ends}
+use Rattle.cif_pack.specs.Atoms.{macroblock_ends, ends_behind, group_ends, atom_ends}
 use Rattle.cif_pack.proofs.AtomsRise.{length-more, length-none}
 use Rattle.h261_pic.proofs.Texts.{length-group_text, length-text}
 use Rattle.pel_model.specs.declared.Format.TheVariants.{Cif}

@@ -1,6 +1,6 @@
 -- Worked packets: the ends of the atoms of pictures, where the pictures are cut, and their packets octet by octet, as
 -- another implementation gives them.
-use Rattle.std.specs.Prelude.{◌≡◌, ℕ, zero, suc, ◌+◌, ℤ, pos, negsuc, Bool, false, true, List, [], ◌∷◌, ◌++◌, length, map, replicate, Option, Some, None, refl}
+use Rattle.std.specs.Prelude.{◌≡◌, ℕ, zero, suc, ◌+◌, ℤ, pos, negsuc, false, true, List, [], ◌∷◌, ◌++◌, length, map, replicate, Option, Some, None, refl}
 use Rattle.cif_pack.specs.declared.atoms.AtomEnd.{AtomEnd}
 use Rattle.cif_pack.specs.declared.packer.Settings.{Settings}
 use Rattle.cif_pack.specs.Atoms.{atom_ends}
@@ -8,13 +8,12 @@ use Rattle.cif_pack.specs.Cuts.{cuts}
 use Rattle.cif_pack.specs.Packets.{stamp_at, number_of, packets, framed, sent_packets, out}
 use Rattle.cif_pack.specs.Payload.{packed, header_bits, sbit_of, ebit_of, no_context}
 use Rattle.pel_bits.specs.Bits as OctetBits
-use Rattle.pel_model.specs.declared.Format.TheVariants.{Cif}
 use Rattle.pel_model.specs.declared.MbKind.TheVariants.{Intra, IntraQuant, Inter, Mc, McQuant}
 use Rattle.pel_model.specs.Bits.{field, number}
 use Rattle.pel_model.specs.Codes.{mba_table, mtype_table, mvd_table, cbp_table, tcoeff_table}
 use Rattle.pel_model.specs.Headers.{picture_header_text, group_header_text}
 use Rattle.pel_model.specs.Records.{Block, Macroblock, Group, Picture}
-use Rattle.pel_model.specs.Text.{text, macroblocks_text, macroblock_text, block_text, coefficient_word}
+use Rattle.pel_model.specs.Text.{macroblocks_text, macroblock_text, block_text, coefficient_word}
 
 -- ---- macroblocks
 

@@ -1,5 +1,5 @@
 -- Where a picture's text is cut into packets: each packet goes on as far as an atom ends that still fits.
-use Rattle.std.specs.Prelude.{◌≡◌, ℕ, ◌+◌, ◌-◌, ◌/◌, ◌<◌, ◌≤◌, nat_le, Bool, true, false, not, if◌then◌else◌, List, [], ◌∷◌, All, Contains}
+use Rattle.std.specs.Prelude.{◌≡◌, ℕ, ◌+◌, ◌-◌, ◌/◌, ◌<◌, ◌≤◌, nat_le, Bool, true, false, not, List, [], ◌∷◌, All, Contains}
 use Rattle.cif_pack.specs.declared.atoms.AtomEnd.{AtomEnd}
 
 -- the octets of both headers of a packet: 12 of RTP and 4 of its payload

@@ -1,5 +1,5 @@
 -- Laws of the packets of pictures.
-use Rattle.std.specs.Prelude.{◌≡◌, ℕ, ◌+◌, ◌-◌, ◌^◌, ◌<◌, ◌≤◌, Bool, false, true, List, [], ◌∷◌, ◌++◌, length, take, drop, map, replicate, All, Option, Result, Ok, Err}
+use Rattle.std.specs.Prelude.{◌≡◌, ℕ, ◌+◌, ◌-◌, ◌^◌, ◌<◌, ◌≤◌, Bool, false, true, List, [], ◌∷◌, ◌++◌, length, take, drop, map, replicate, All, Option, Ok, Err}
 use Rattle.std.specs.Io.KnownBytes.{Appends}
 use Rattle.cif_pack.specs.declared.atoms.AtomEnd.{AtomEnd}
 use Rattle.cif_pack.specs.declared.atoms.Context.{Context}
@@ -86,12 +86,13 @@ OneMoreIsSent =
     → GoesOn {E = Failed} packer after (Ok sent) (packets packer.settings total 0 p)
     → HasSent s (pictures ++ (total, p) ∷ []) after (count + sent.packets) (octets + sent.octets) first then
 
--- where the sink fails in the middle, a front was written of the octets of all pictures up to that one, and not all
+-- where the sink fails in the middle, a front was written of the octets of all pictures up to that one: those of all before it, and
+-- not all of its own
 abbrev pub FrontIsWritten : Type 0
 FrontIsWritten =
     (s : Settings) (pictures : List (ℕ × Picture)) (packer : PackerState) (count octets : ℕ) (first now then : Option (List ℕ))
     (total : ℕ) (p : Picture) (failed : Failed)
     → HasSent s pictures packer count octets first now
     → Puts now then (Err failed) (packets packer.settings total 0 p)
-    → (n : ℕ) × (n < length (out s 0 (pictures ++ (total, p) ∷ [])))
+    → (n : ℕ) × (length (out s 0 pictures) ≤ n) × (n < length (out s 0 (pictures ++ (total, p) ∷ [])))
     × Appends first then (take n (out s 0 (pictures ++ (total, p) ∷ [])))

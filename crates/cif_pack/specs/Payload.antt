@@ -1,5 +1,5 @@
 -- The payload of a packet of H.261 (RFC 4587, 4.1): a header of 32 bits, and the octets in which the packet's bits stand.
-use Rattle.std.specs.Prelude.{ℕ, ◌+◌, ◌-◌, ◌*◌, ◌/◌, ◌%◌, ℤ, pos, negsuc, Bool, false, true, List, [], ◌∷◌, ◌++◌, take, drop}
+use Rattle.std.specs.Prelude.{ℕ, ◌-◌, ◌%◌, ℤ, pos, negsuc, Bool, false, true, List, [], ◌∷◌, ◌++◌, take, drop}
 use Rattle.cif_pack.specs.declared.atoms.Context.{Context}
 use Rattle.pel_bits.specs.Bits.{field, number}
 use Rattle.pel_bits.specs.Reading.{zeros}

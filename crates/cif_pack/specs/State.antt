@@ -1,5 +1,5 @@
 -- A packer, as its callers see it, and what sending a picture does.
-use Rattle.std.specs.Prelude.{◌≡◌, ℕ, ◌*◌, ◌<◌, ◌≤◌, Bool, true, false, List, length, take, Option, Result, Ok, Err}
+use Rattle.std.specs.Prelude.{◌≡◌, ℕ, ◌^◌, ◌<◌, ◌≤◌, Bool, true, false, List, length, take, Option, Result, Ok, Err}
 use Rattle.std.specs.Io.KnownBytes.{Appends}
 use Rattle.cif_pack.specs.declared.packer.Sent.{Sent}
 use Rattle.cif_pack.specs.declared.packer.Settings.{Settings}
@@ -18,9 +18,10 @@ Puts old new (Ok sent) packets =
     Appends old new (framed packets) × (sent.packets ≡ length packets) × (sent.octets ≡ length (framed packets))
 Puts old new (Err _) packets = (n : ℕ) × (n < length (framed packets)) × Appends old new (take n (framed packets))
 
--- a picture has at most 396 atoms, and no more packets than atoms; a frame has at most 9,002 octets
+-- a picture has at most 396 atoms, and no more packets than atoms; its bits, at most 262,144, fill 32,768 octets, and each packet has
+-- one more at most, which it shares with the packet before it, and 18 of its headers and of its frame's length
 abbrev pub AreFew : Sent → Type 0
-AreFew sent = (sent.packets ≤ 396) × (sent.octets ≤ 396 * 9002)
+AreFew sent = (sent.packets ≤ 396) × (sent.octets < 2 ^ 16)
 
 -- the settings behind so many packets: the number of the first one is that of the next
 abbrev pub behind : Settings → ℕ → Settings

@@ -6,6 +6,7 @@ ghost use Rattle.io_edge.specs.Causes.{HasCause};
 ghost use Rattle.pel_bits.specs.Bits.{bits};
 ghost use Rattle.pel_model.specs.declared.Format.TheVariants.{Cif};
 ghost use Rattle.pel_model.specs.Records.{Picture};
+ghost use Rattle.pel_model.specs.Valid.{limit};
 ghost use Rattle.rtp_wire.specs.Frames.{frame};
 ghost use Rattle.rtp_wire.specs.Rtp.{octets_of, plain};
 ghost use Rattle.cif_pack.specs.declared.atoms.AtomEnd.{AtomEnd as End};
@@ -159,7 +160,7 @@ fn put_packets<K: Sink>(
     requires mtu { settings.now.mtu ≤ 9000 }
     requires room { settings.now.mtu + 2 ≤ vec_capacity buffer.old }
     requires inside { text.now.len ≤ 8 * length text.now.octets.now }
-    requires short { text.now.len < 2 ^ 32 }
+    requires short { text.now.len ≤ limit Cif }
     requires few { length ends.now ≤ 396 }
     requires rises { Rises settings.now.mtu text.now.len 0 ends.now }
     ensures packets { Puts (K.written sink.old) (K.written sink.new) result

@@ -1,4 +1,4 @@
-use Rattle.std.proofs.Common.{◌≡◌, ℕ, ◌+◌, ◌<◌, ◌==◌, ◌++◌, ◌∷◌, [], List, length, take, get_or, refl, sym, ◌∙◌, ap, subst, arith, append_assoc, length-append, length-take-le, pos}
+use Rattle.std.proofs.Common.{◌≡◌, ◌+◌, ◌==◌, ◌++◌, ◌∷◌, [], List, length, take, get_or, refl, sym, ◌∙◌, ap, arith, append_assoc, length-append, length-take-le}
 use Rattle.std.proofs.lemmas.List.{take_more, take_all}
 use Rattle.cif_pack.specs.declared.atoms.AtomEnd.{AtomEnd}
 use Rattle.cif_pack.specs.Marked.{mark_ends, header_end}

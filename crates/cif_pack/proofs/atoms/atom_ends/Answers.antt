@@ -1,11 +1,11 @@
-use Rattle.std.proofs.Common.{◌≡◌, ℕ, ◌+◌, ◌*◌, ◌<◌, ◌≤◌, ◌++◌, ◌∷◌, [], List, length, take, get_or, refl, sym, ◌∙◌, ap, ap₂, subst, arith, length-append, Some}
+use Rattle.std.proofs.Common.{◌≡◌, ℕ, ◌+◌, ◌<◌, ◌++◌, ◌∷◌, [], List, length, take, sym, ◌∙◌, ap, subst, arith, length-append, Some}
 use Rattle.std.specs.List.{slice_get}
 use Rattle.pel_model.specs.declared.Mark.{Mark}
 use Rattle.pel_model.specs.Valid.{group_count}
 use Rattle.std.proofs.lemmas.List.{take_more, take_all}
 use Rattle.std.proofs.lemmas.Option.{get_or_from_slice_get}
 use Rattle.cif_pack.specs.declared.atoms.AtomEnd.{AtomEnd}
-use Rattle.h261_pic.specs.Coded.{Coding, coding, IsWhole}
+use Rattle.h261_pic.specs.Coded.{Coding, IsWhole}
 use Rattle.h261_pic.specs.declared.coded.GroupView.{GroupView}
 use Rattle.pel_model.specs.declared.Format.TheVariants.{Cif}
 use Rattle.cif_pack.specs.Marked.{view_ends, views_ends}

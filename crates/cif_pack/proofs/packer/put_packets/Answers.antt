@@ -1,17 +1,12 @@
-use Rattle.std.proofs.Common.{◌≡◌, ℕ, ◌+◌, ◌-◌, ◌<◌, ◌≤◌, ◌++◌, [], List, Bool, true, false, length, take, drop, get_or, Option, Result, Ok, Err, refl, sym, ◌∙◌, ap, ap₂, subst, arith, rules, vec_capacity}
-use Rattle.std.proofs.lemmas.List.{take_all, length-drop}
-use Rattle.std.specs.Prelude.{All, IsErr}
-use Rattle.io_edge.specs.Whole.{PutsAll}
+use Rattle.std.proofs.Common.{◌≡◌, ◌+◌, ◌<◌, length, take, drop, get_or, refl, sym, ◌∙◌, ap, subst, arith, vec_capacity}
+use Rattle.std.specs.Prelude.{All}
 use Rattle.pel_bits.specs.Bits.{bits}
 use Rattle.cif_pack.specs.declared.atoms.AtomEnd.{AtomEnd}
 use Rattle.cif_pack.specs.Cuts.{is_cut}
 use Rattle.cif_pack.specs.Packets.{packet}
-use Rattle.cif_pack.specs.State.{Puts, behind}
 use Rattle.cif_pack.specs.declared.packer.Settings.{Settings}
 use Rattle.rtp_wire.specs.Frames.{frame}
-use Rattle.cif_pack.specs.Cuts.{octets_between}
-use Rattle.cif_pack.proofs.CutLemmas.{rises-near, rises-on, ahead}
-use Rattle.cif_pack.proofs.Sends.{Stands, no_end, next-ahead, near-left, left-is, stands-first, stands-on, stands-cut, stands-last, stands-failed, packet-behind, nothing-appended, stands-same, short-frame, puts-of-error}
+use Rattle.cif_pack.proofs.Sends.{Stands, no_end, near-left, left-is, stands-first, stands-on, stands-cut, stands-failed, packet-behind, nothing-appended, stands-same, puts-of-error}
 use Rattle.cif_pack.proofs.packer.put_packets.Goals as goal
 use Rattle.cif_pack.proofs.packer.put_packets.Goals.{then-is_cut+in_ok-put_all, else-is_cut}
 
@@ -69,15 +64,13 @@ loop-i-preserved g c =
           w.as_slice.ensures.value ∙ w.write_frame.ensures.octets
           ∙ ap (λ (t : Settings). frame (packet t c.args.stamp 0 text start.at e.at start.context)) w.numbered.ensures
           ∙ ap frame (packet-behind s c.args.stamp sent.packets text start.at e.at start.context) in
-          let short = short-frame s.mtu c.args.text.now.len start.at e (drop (i + 1) ends) c.requires.mtu
-          (next-ahead s.mtu c.args.text.now.len start.at ends i c.loop-i-test.true here.rise) in
           record {
             stands = stands-same s c.args.stamp c.args.text.now.len text ends (i + 1) e c.if-is_cut.start (record { packets = sent.packets + 1; octets = sent.octets + w.len.result }) c.if-is_cut.sent old
                 (g.K.Sink.written w.put_all.new.sink) (g.K.Sink.written c.if-is_cut.sink)
                 w.start-is w.sent-is (ap g.K.Sink.written w.sink-is)
                 (stands-cut s c.args.stamp c.args.text.now.len text ends i start sent old (g.K.Sink.written c.loop-i.sink) (g.K.Sink.written w.put_all.new.sink) w.as_slice.result.now w.len.result
                 c.loop-i-test.true (sym cut_is ∙ w.if-is_cut.true) piece_is
-                (w.len.ensures ∙ sym w.as_slice.ensures.len) (omega (arith, short, w.write_frame.ensures.long, ap length w.as_slice.ensures.value)) w.in_ok-put_all.ensures.bytes
+                (w.len.ensures ∙ sym w.as_slice.ensures.len) (ap length w.as_slice.ensures.value ∙ w.write_frame.ensures.long) w.in_ok-put_all.ensures.bytes
                 here);
             kept = ap g.K.Sink.faults w.sink-is ∙ w.in_ok-put_all.ensures.cause.kept ∙ c.loop-i.invariant.kept;
             capacity = omega (arith, ap vec_capacity w.buffer-is, w.write_frame.ensures.kept, c.loop-i.invariant.capacity);

@@ -1,4 +1,4 @@
-use Rattle.std.proofs.Common.{◌≡◌, ◌+◌, ◌≤◌, take, vec_capacity}
+use Rattle.std.proofs.Common.{◌≡◌, ◌≤◌, take, vec_capacity}
 use Rattle.pel_bits.specs.Bits.{bits}
 use Rattle.cif_pack.proofs.Sends.{Stands}
 use Rattle.cif_pack.proofs.packer.put_packets.Given as goal

@@ -1,4 +1,4 @@
-use Rattle.std.proofs.Common.{◌<◌, ◌+◌, arith, rules}
+use Rattle.std.proofs.Common.{◌+◌, arith, rules}
 use Rattle.cif_pack.proofs.Frames.{IsBuilt, length-built, frame-built}
 use Rattle.cif_pack.proofs.packer.write_frame.Goals as goal
 use Rattle.cif_pack.proofs.packer.write_frame.Goals.{After-append_part}

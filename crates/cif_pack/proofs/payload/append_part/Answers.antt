@@ -1,4 +1,4 @@
-use Rattle.std.proofs.Common.{arith, ◌∙◌, ap, ap₂, sym, ◌≡◌, ◌++◌, ◌-◌, ◌+◌, ◌/◌, ◌%◌, [], ◌∷◌, List, ℕ, Bool, append_assoc, take, drop, slice_index, subst}
+use Rattle.std.proofs.Common.{arith, ◌∙◌, ap, ◌≡◌, ◌++◌, ◌-◌, ◌+◌, ◌/◌, [], ◌∷◌, List, ℕ, append_assoc, take, drop, slice_index, subst}
 use Rattle.pel_bits.specs.Bits.{field}
 use Rattle.pel_bits.specs.Reading.{zeros}
 use Rattle.cif_pack.proofs.Parts.{several-octets, single-octet}

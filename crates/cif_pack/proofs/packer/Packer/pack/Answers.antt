@@ -1,6 +1,5 @@
-use Rattle.std.proofs.Common.{◌≡◌, ℕ, ◌+◌, ◌-◌, ◌*◌, ◌≤◌, length, take, sym, ◌∙◌, ap, subst, arith, rules, length-append}
+use Rattle.std.proofs.Common.{◌≡◌, ◌+◌, ◌-◌, ◌*◌, length, sym, ◌∙◌, ap, arith, length-append}
 use Rattle.pel_bits.proofs.OctetBits.{length-bits}
-use Rattle.pel_bits.specs.Bits.{bits}
 use Rattle.pel_bits.specs.Buffer.{whole}
 use Rattle.pel_bits.specs.Reading.{zeros}
 use Rattle.cif_pack.proofs.AtomsRise.{rises-of}
