@@ -1,6 +1,6 @@
 -- A run over a valid file whose source and sink do not fail is done, or wants memory.
-use Rattle.std.proofs.Common.{◌≡◌, ◌⊎◌, ⊎_elim, ℕ, ◌+◌, ◌<◌, ◌≤◌, List, [], ◌∷◌, ◌++◌, Option, None, Some, length, take, drop, inl, inr, refl, sym, ap, subst, ◌∙◌, arith, length-append, append-nil, take-append-drop}
-use Rattle.std.proofs.Math.Seq.{take-append_seam, drop-append_seam}
+use Rattle.std.proofs.Common.{◌≡◌, ◌⊎◌, ⊎_elim, ℕ, ◌≤◌, List, ◌++◌, Option, None, Some, length, take, drop, inl, inr, refl, sym, ap, subst, ◌∙◌, arith, append-nil, take-append-drop}
+use Rattle.std.proofs.Math.Seq.{take-append_seam}
 use Rattle.std.proofs.lemmas.List.{take-append-le}
 use Rattle.std.specs.Io.KnownBytes.{Consumes, IsAtEnd}
 use Rattle.bridge_replay.specs.declared.ends.ReplayEnd.{ReplayEnd}
@@ -13,7 +13,7 @@ use Rattle.bridge_replay.specs.Steps.{oldest_first}
 use Rattle.cif_pack.specs.declared.packer.Settings.{Settings as Packing}
 use Rattle.conf_file.specs.declared.answers.EntryWhy.{EntryWhy}
 use Rattle.conf_file.specs.Entries.{Content}
-use Rattle.conf_file.specs.File.{Said, Stop, Whole, WrongAt, CutAt, Conference, WrongHeader, CutHeader, IsFile, IsDecided, LawOfOneReading, LawOfFronts}
+use Rattle.conf_file.specs.File.{Said, Whole, WrongAt, CutAt, Conference, WrongHeader, CutHeader, IsFile, IsDecided, LawOfOneReading, LawOfFronts}
 use Rattle.io_edge.specs.Causes.{Rose}
 use Rattle.pel_model.specs.History.{History}
 

@@ -1,7 +1,8 @@
 -- What a tally counts is no more than the steps.
-use Rattle.std.proofs.Common.{◌≡◌, ℕ, suc, ◌+◌, ◌*◌, ◌≤◌, Bool, true, false, is_some, not, List, [], ◌∷◌, length, ap, arith}
-use Rattle.bridge_replay.specs.declared.tally.Tally.{Tally}
-use Rattle.bridge_replay.specs.Tallies.{one_if, takes_in, with_step, steps_counted}
+use Rattle.std.proofs.Common.{ℕ, suc, ◌*◌, ◌≤◌, Bool, true, false, is_some, not, [], ◌∷◌, length, ap, arith}
+use Rattle.tick_picture.specs.declared.tally.Tally.{Tally}
+use Rattle.tick_picture.specs.Tallies.{with_step, steps_counted}
+use Rattle.tick_picture.specs.Ticks.{one_if, takes_in}
 use Rattle.bridge_replay.specs.UnderWay.{Counts}
 use Rattle.pel_model.specs.declared.note.TickNote.{TickNote}
 use Rattle.pel_model.specs.History.{Step, Post, Gap, Order, Tick, End, History}

@@ -1,14 +1,13 @@
 -- What is written for a legal history reads back.
-use Rattle.std.proofs.Common.{ℕ, ◌≤◌, List, [], ◌∷◌, ◌++◌, length, All, arith}
+use Rattle.std.proofs.Common.{ℕ, [], ◌∷◌, All, arith}
 use Rattle.std.proofs.lemmas.List.Elements.{All-nil, All-cons, All-append}
-use Rattle.bridge_replay.specs.Output.{pictures_written}
+use Rattle.tick_picture.specs.Output.{pictures_written}
 use Rattle.bridge_replay.specs.Replays.{ReadsBack}
 use Rattle.cif_pack.specs.declared.packer.Settings.{Settings as Packing}
 use Rattle.history_laws.proofs.Composing.{writable}
 use Rattle.pel_model.specs.declared.note.TickNote.{TickNote}
-use Rattle.pel_model.specs.History.{History, Step, Tick, Post, Gap, Order, End, total_of}
+use Rattle.pel_model.specs.History.{History, Tick, Post, Gap, Order, End, total_of}
 use Rattle.pel_model.specs.Legal.{Legal}
-use Rattle.pel_model.specs.Records.{Picture}
 use Rattle.pel_model.specs.Written.{written_picture}
 use Rattle.reading_back.specs.Laws.{CanBeSent, OctetsGivePictures}
 

@@ -1,18 +1,16 @@
 -- A conference in which nothing came yet.
-use Rattle.std.proofs.Common.{◌≡◌, ℕ, ◌+◌, ◌<◌, ◌≤◌, ◌^◌, false, List, [], Some, None, Option, length, slice_get, get_or, All, refl, sym, ap, subst, ◌∙◌, arith}
+use Rattle.std.proofs.Common.{◌≡◌, ℕ, ◌<◌, ◌^◌, false, List, [], None, Option, length, All, refl, sym, ap, subst, ◌∙◌, arith}
 use Rattle.std.proofs.lemmas.Option.{slice_get-get_or}
 use Rattle.bridge_replay.specs.declared.conference.Conference.{Conference}
-use Rattle.bridge_replay.specs.declared.tally.Tally.{Tally}
-use Rattle.bridge_replay.specs.Tallies.{nothing_counted}
+use Rattle.tick_picture.specs.declared.tally.Tally.{Tally}
+use Rattle.tick_picture.specs.Tallies.{nothing_counted}
 use Rattle.bridge_replay.specs.UnderWay.{most_steps, IsFedQcif, AreFed, beginning, UnderWay}
 use Rattle.cif_pack.specs.declared.packer.Settings.{Settings as Packing}
-use Rattle.cif_pack.specs.State.{HasSent}
 use Rattle.cif_pack.proofs.ListLaws.{nothing-sent}
 use Rattle.h261_pic.specs.Coded.{Coding, nothing}
-use Rattle.hall_core.specs.Hall.{HallView, lanes_of}
-use Rattle.hall_core.specs.Stands.{StandsFor, IsQcifHand, box_of}
-use Rattle.pel_model.specs.declared.Format.TheVariants.{Qcif, Cif}
-use Rattle.pel_model.specs.declared.Quad.{Quad}
+use Rattle.hall_core.specs.Hall.{lanes_of}
+use Rattle.hall_core.specs.Stands.{StandsFor, IsQcifHand}
+use Rattle.pel_model.specs.declared.Format.TheVariants.{Qcif}
 use Rattle.pel_model.specs.declared.Quad.TheVariants.{One, Two, Three, Four}
 use Rattle.rtp_h261.specs.Depack.{Held, StandsFor as IsFed}
 use Rattle.rtp_h261.specs.Steps.{Seek}
@@ -43,8 +41,8 @@ qcif-hand c one two three four Four = ap (λ (b : Coding). b.format) four
 
 pub begun : (set : Packing) (lanes : ℕ) (c : Conference) (first : Option (List ℕ)) → set.seq < 2 ^ 16 → lanes_of c.hall ≡ lanes → c.hall.limit ≡ most_steps → StandsFor c.hall []
     → AreFed lanes [] c.depacks.items → c.hand.one.value ≡ nothing Qcif → c.hand.two.value ≡ nothing Qcif → c.hand.three.value ≡ nothing Qcif → c.hand.four.value ≡ nothing Qcif
-    → c.composed ≡ nothing Cif → c.packer ≡ record { settings = set; spent = false } → c.tally ≡ nothing_counted → UnderWay (beginning set lanes) c first first
-begun set lanes c first small lanes_are limit stands depacks one two three four composed packer tally =
+    → c.writer ≡ record { settings = set; spent = false } → c.tally ≡ nothing_counted → UnderWay (beginning set lanes) c first first
+begun set lanes c first small lanes_are limit stands depacks one two three four writer tally =
     let sent = nothing-sent set first small in
     record {
       steps = refl;
@@ -57,9 +55,8 @@ begun set lanes c first small lanes_are limit stands depacks one two three four 
       };
       depacks = depacks;
       hand = qcif-hand c one two three four;
-      composed = ap (λ (b : Coding). b.format) composed;
       sent = record {
-        state = packer ∙ sent.state;
+        state = writer ∙ sent.state;
         packets_told = ap (λ (t : Tally). t.packets) tally;
         octets_told = ap (λ (t : Tally). t.octets) tally;
         written = sent.written;

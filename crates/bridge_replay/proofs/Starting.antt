@@ -1,5 +1,5 @@
 -- What a replay did that read no entry, and how it begins.
-use Rattle.std.proofs.Common.{◌≡◌, ℕ, ◌+◌, ◌^◌, ◌<◌, ◌≤◌, List, [], ◌++◌, Option, None, Some, Result, Ok, Err, length, take, inl, inr, refl, sym, ap, subst, ◌∙◌, arith, append-nil, take_all}
+use Rattle.std.proofs.Common.{◌≡◌, ℕ, ◌^◌, ◌≤◌, List, [], Option, Result, Ok, Err, length, take, inl, inr, refl, sym, ap, subst, ◌∙◌, arith, append-nil, take_all}
 use Rattle.std.proofs.KnownBytes.{Consumes-nil}
 use Rattle.bridge_replay.specs.declared.conference.Conference.{Conference}
 use Rattle.bridge_replay.specs.declared.ends.ReplayStop.{ReplayStop}
@@ -8,14 +8,12 @@ use Rattle.bridge_replay.specs.declared.ends.Settings.{Settings}
 use Rattle.bridge_replay.specs.Reading.{stop_for, HasTaken, StandsAt}
 use Rattle.bridge_replay.specs.Replays.{packing, StoppedEarly, NoneRead}
 use Rattle.io_edge.specs.Outside.{Outside}
-use Rattle.bridge_replay.specs.Tallies.{nothing_counted}
+use Rattle.tick_picture.specs.Tallies.{nothing_counted}
 use Rattle.bridge_replay.specs.UnderWay.{beginning, UnderWay}
 use Rattle.conf_file.specs.declared.answers.EntryEnd.{EntryEnd}
 use Rattle.conf_file.specs.declared.answers.EntryEnd.TheVariants.{Bad, Cut, Fault, Limit}
-use Rattle.conf_file.specs.File.{WrongHeader, CutHeader, IsFile, HasRead}
-use Rattle.conf_file.specs.Header.{header_of, header_size, HasLanes, IsNoHeader}
+use Rattle.conf_file.specs.Header.{header_of, header_size, IsNoHeader}
 use Rattle.conf_file.specs.Reading.{ReaderState, CallsStart}
-use Rattle.io_edge.specs.Causes.{Rose}
 
 -- there was no memory to begin with
 pub memory-first : (set : Settings) (before : Outside) → NoneRead set before before (record { stop = stop.NoMemory; tally = nothing_counted })

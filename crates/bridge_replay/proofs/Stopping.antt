@@ -1,32 +1,30 @@
 -- How a replay stands behind an entry, and what it did where it stops.
-use Rattle.std.proofs.Common.{◌≡◌, ℕ, ◌+◌, ◌*◌, ◌^◌, ◌<◌, ◌≤◌, Bool, true, false, is_some, List, [], ◌∷◌, ◌++◌, Option, None, Some, Result, Ok, Err, length, take, refl, sym, ap, ap₂, subst, ◌∙◌, arith, length-append}
+use Rattle.std.proofs.Common.{◌≡◌, ℕ, ◌<◌, ◌≤◌, true, false, is_some, List, [], ◌∷◌, ◌++◌, Option, None, Some, Result, Ok, Err, length, take, refl, sym, ap, ap₂, subst, ◌∙◌, arith, length-append}
 use Rattle.std.proofs.KnownBytes.{Consumes-trans}
 use Rattle.std.proofs.lemmas.List.{take_all}
-use Rattle.std.specs.Io.KnownBytes.{Consumes, Appends, IsAtEnd}
+use Rattle.std.specs.Io.KnownBytes.{Consumes, Appends}
 use Rattle.bridge_replay.specs.declared.conference.Conference.{Conference}
 use Rattle.bridge_replay.specs.declared.ends.ReplayStop.{ReplayStop}
 use Rattle.bridge_replay.specs.declared.ends.ReplayStop.TheVariants as stop
 use Rattle.bridge_replay.specs.declared.ends.Settings.{Settings}
-use Rattle.bridge_replay.specs.declared.tally.Tally.{Tally}
-use Rattle.bridge_replay.specs.Output.{pictures_written}
+use Rattle.tick_picture.specs.Output.{pictures_written}
 use Rattle.bridge_replay.specs.Reading.{stop_for, HasTaken, StandsAt}
 use Rattle.bridge_replay.specs.Replays.{packing, Stopped, Wrote, Replays}
 use Rattle.io_edge.specs.Outside.{Outside}
 use Rattle.bridge_replay.specs.Steps.{oldest_first, IsHistory}
-use Rattle.bridge_replay.specs.Tallies.{steps_counted, tally_of}
-use Rattle.bridge_replay.specs.UnderWay.{Place, UnderWay, IsOpen, StaysOpen, behind_entry, Entered, Broke, Follows, MayCome}
+use Rattle.tick_picture.specs.Tallies.{steps_counted, tally_of}
+use Rattle.bridge_replay.specs.UnderWay.{Place, UnderWay, IsOpen, StaysOpen, behind_entry, Entered, Broke, MayCome}
 use Rattle.cif_pack.specs.declared.packer.Settings.{Settings as Packing}
 use Rattle.cif_pack.specs.Packets.{out}
 use Rattle.conf_file.specs.declared.answers.EntryEnd.{EntryEnd}
 use Rattle.conf_file.specs.declared.answers.EntryEnd.TheVariants.{Bad, Cut, Fault, Limit}
 use Rattle.conf_file.specs.Entries.{Content, Packet, Chair, Tick as TickEntry, End}
-use Rattle.conf_file.specs.File.{CutAt, Whole, WrongAt, Conference as FileOf, IsFile, HasRead, AfterNext, LawOfReading}
+use Rattle.conf_file.specs.File.{CutAt, Conference as FileOf, IsFile, HasRead, AfterNext, LawOfReading}
 use Rattle.conf_file.specs.Reading.{ReaderState, ReadsEntry, CallsNext, lanes_after}
 use Rattle.history_laws.proofs.Cutting.{headline}
 use Rattle.io_edge.specs.Causes.{Rose}
-use Rattle.pel_model.specs.History.{History, Tick, End as Ended, has_ended}
+use Rattle.pel_model.specs.History.{History, Tick, End as Ended}
 use Rattle.pel_model.specs.declared.note.TickNote.{TickNote}
-use Rattle.pel_model.specs.Legal.{Legal}
 use Rattle.bridge_replay.proofs.Calls.{says}
 
 -- what the tally has of a conference under way

@@ -1,10 +1,10 @@
 -- What a packet makes of a conference.
-use Rattle.std.proofs.Common.{◌≡◌, ◌≢◌, ℕ, zero, suc, ◌+◌, ◌<◌, ◌≤◌, ◌==◌, if◌then◌else◌, Bool, true, false, List, [], ◌∷◌, ◌++◌, Option, None, Some, length, map, slice_get, slice_set, inl, inr, refl, sym, ap, subst, ◌∙◌, arith, length-set}
+use Rattle.std.proofs.Common.{◌≡◌, ◌≢◌, ℕ, zero, suc, ◌+◌, ◌<◌, ◌≤◌, ◌==◌, if◌then◌else◌, Bool, true, false, List, [], ◌∷◌, ◌++◌, Option, None, Some, length, slice_get, slice_set, inl, inr, refl, sym, ap, subst, ◌∙◌, arith, length-set}
 use Rattle.std.proofs.lemmas.Bool.Decides.{nat_tests}
 use Rattle.bridge_replay.specs.declared.conference.Conference.{Conference}
-use Rattle.bridge_replay.specs.Output.{pictures_written}
+use Rattle.tick_picture.specs.Output.{pictures_written}
 use Rattle.bridge_replay.specs.Steps.{packets_in, after_loss, AfterUnit, AfterEntry}
-use Rattle.bridge_replay.specs.UnderWay.{step_octets, Counts, Follows, IsOpen, GoesOn, Makes, AreFed, IsFedQcif, IsSameBeside, Place, UnderWay, StaysOpen, Entered}
+use Rattle.bridge_replay.specs.UnderWay.{Counts, Follows, IsOpen, GoesOn, Makes, AreFed, IsFedQcif, IsSameBeside, Place, UnderWay, StaysOpen, Entered}
 use Rattle.cif_pack.specs.Packets.{sent_packets, out}
 use Rattle.cif_pack.specs.State.{behind}
 use Rattle.hall_core.specs.Hall.{HallView, lanes_of}
@@ -18,9 +18,7 @@ use Rattle.pel_model.specs.Accepts.{Accepts}
 use Rattle.pel_model.specs.History.{History, Step, Post, Gap, has_ended}
 use Rattle.pel_model.specs.Legal.{IsPostable}
 use Rattle.pel_model.specs.Records.{Picture}
-use Rattle.pel_model.specs.Text.{text}
 use Rattle.pel_model.specs.Valid.{limit}
-use Rattle.rtp_h261.specs.declared.depack.Unit.{Unit as Ended}
 use Rattle.rtp_h261.specs.declared.depack.Unit.TheVariants as unit
 use Rattle.rtp_h261.specs.Depack.{Held, HasUnit, given_behind, StandsFor as IsFed}
 
@@ -158,8 +156,7 @@ fed-further lanes entries depacks lane packet d fed below format is = record {
 pub beside-both : (a b c : Conference) → IsSameBeside a b → IsSameBeside b c → IsSameBeside a c
 beside-both a b c x y = record {
   depacks = y.depacks ∙ x.depacks;
-  composed = y.composed ∙ x.composed;
-  packer = y.packer ∙ x.packer;
+  writer = y.writer ∙ x.writer;
   packets = y.packets ∙ x.packets;
   octets = y.octets ∙ x.octets;
 }
@@ -185,9 +182,8 @@ packet-enters p lane packet lost bits fed old mid new first now beside_first u f
         follows = goes.follows;
         depacks = subst (AreFed p.lanes (Packet lane packet ∷ p.entries)) (sym beside.depacks) depacks;
         hand = subst IsQcifHand (sym (hand ∙ ap (λ (c : Conference). c.hand) is)) u.hand;
-        composed = ap (λ (c : Coding). c.format) (beside.composed ∙ ap (λ (c : Conference). c.composed) is) ∙ u.composed;
         sent = record {
-          state = beside.packer ∙ ap (λ (c : Conference). c.packer) is ∙ u.sent.state ∙ ap (λ (ps : List (ℕ × Picture)). record { settings = behind p.set (length (sent_packets p.set 0 ps)); spent = false }) (sym silent);
+          state = beside.writer ∙ ap (λ (c : Conference). c.writer) is ∙ u.sent.state ∙ ap (λ (ps : List (ℕ × Picture)). record { settings = behind p.set (length (sent_packets p.set 0 ps)); spent = false }) (sym silent);
           packets_told = beside.packets ∙ ap (λ (c : Conference). c.tally.packets) is ∙ u.sent.packets_told ∙ ap (λ (ps : List (ℕ × Picture)). length (sent_packets p.set 0 ps)) (sym silent);
           octets_told = beside.octets ∙ ap (λ (c : Conference). c.tally.octets) is ∙ u.sent.octets_told ∙ ap (λ (ps : List (ℕ × Picture)). length (out p.set 0 ps)) (sym silent);
           written = subst (λ (ps : List (ℕ × Picture)). Appends first now (out p.set 0 ps)) (sym silent) u.sent.written;
@@ -220,9 +216,8 @@ step-enters p content s old new first now u follows beside hand after none silen
       each = λ c below. subst (λ (ps : List (List ℕ)). IsFedQcif ps (slice_get old.depacks.items c)) (sym (none c)) (u.depacks.each c below);
     });
     hand = subst IsQcifHand (sym hand) u.hand;
-    composed = ap (λ (c : Coding). c.format) beside.composed ∙ u.composed;
     sent = record {
-      state = beside.packer ∙ u.sent.state ∙ ap (λ (ps : List (ℕ × Picture)). record { settings = behind p.set (length (sent_packets p.set 0 ps)); spent = false }) (sym silent);
+      state = beside.writer ∙ u.sent.state ∙ ap (λ (ps : List (ℕ × Picture)). record { settings = behind p.set (length (sent_packets p.set 0 ps)); spent = false }) (sym silent);
       packets_told = beside.packets ∙ u.sent.packets_told ∙ ap (λ (ps : List (ℕ × Picture)). length (sent_packets p.set 0 ps)) (sym silent);
       octets_told = beside.octets ∙ u.sent.octets_told ∙ ap (λ (ps : List (ℕ × Picture)). length (out p.set 0 ps)) (sym silent);
       written = subst (λ (ps : List (ℕ × Picture)). Appends first now (out p.set 0 ps)) (sym silent) u.sent.written;

@@ -1,8 +1,8 @@
 -- The worked conference, computed.
-use Rattle.std.proofs.Common.{◌≡◌, ℕ, ◌≤◌, [], ◌∷◌, List, refl, arith}
-use Rattle.bridge_replay.specs.Output.{pictures_written}
-use Rattle.bridge_replay.specs.Tallies.{tally_of}
-use Rattle.bridge_replay.specs.Worked.{settings, note, entries, history, file, octets, OneEmptyTick}
+use Rattle.std.proofs.Common.{◌≡◌, [], ◌∷◌, refl, arith}
+use Rattle.tick_picture.specs.Output.{pictures_written}
+use Rattle.tick_picture.specs.Tallies.{tally_of}
+use Rattle.bridge_replay.specs.Worked.{settings, note, history, octets, OneEmptyTick}
 use Rattle.pel_model.specs.declared.Quad.{Quad}
 use Rattle.pel_model.specs.declared.Quad.TheVariants.{One, Two, Three, Four}
 use Rattle.cif_pack.specs.Packets.{out}
@@ -12,7 +12,7 @@ use Rattle.pel_model.specs.Bits.{field}
 use Rattle.pel_model.specs.Headers.{picture_header_text, group_header_text}
 use Rattle.pel_model.specs.Text.{macroblocks_text}
 use Rattle.conf_file.specs.Entries.{Tick as TickEntry, End as EndEntry}
-use Rattle.pel_model.specs.History.{History, Tick, taken_in}
+use Rattle.pel_model.specs.History.{Tick, taken_in}
 use Rattle.pel_model.specs.Legal.{IsNote}
 use Rattle.pel_model.specs.Takes.{take}
 

@@ -1,6 +1,6 @@
 -- Inner contracts alone use this; nothing here has to be believed.
 -- A conference whose file is being read.
-use Rattle.std.specs.Prelude.{◌≡◌, ℕ, ◌+◌, ◌*◌, ◌^◌, ◌<◌, ◌≤◌, false, Bool, Option, None, Some, List, [], ◌∷◌, ◌++◌, length, Result, Ok, Err}
+use Rattle.std.specs.Prelude.{◌≡◌, ℕ, ◌*◌, ◌^◌, ◌≤◌, false, Option, None, Some, List, [], length, Result, Ok, Err}
 use Rattle.std.specs.Io.KnownBytes.{Consumes}
 use Rattle.bridge_replay.specs.declared.conference.Conference.{Conference}
 use Rattle.bridge_replay.specs.declared.ends.ReplayStop.{ReplayStop}
@@ -9,7 +9,7 @@ use Rattle.bridge_replay.specs.declared.ends.Settings.{Settings}
 use Rattle.bridge_replay.specs.Replays.{packing, EndsThere, Replays}
 use Rattle.io_edge.specs.Outside.{Outside}
 use Rattle.bridge_replay.specs.Steps.{oldest_first}
-use Rattle.bridge_replay.specs.UnderWay.{Place, UnderWay, IsOpen}
+use Rattle.bridge_replay.specs.UnderWay.{Place, UnderWay}
 use Rattle.conf_file.specs.declared.answers.EntryEnd.{EntryEnd}
 use Rattle.conf_file.specs.declared.answers.EntryEnd.TheVariants.{Bad, Cut, Fault, Limit}
 use Rattle.conf_file.specs.File.{Whole, Conference as FileOf, IsFile, HasRead}

@@ -1,14 +1,14 @@
 -- What a run of the job `replay` did: from the octets that it took, through the history that they say, to the octets that it
 -- wrote.
-use Rattle.std.specs.Prelude.{◌≡◌, ◌⊎◌, ℕ, ◌<◌, ◌≤◌, Option, Some, List, [], ◌∷◌, ◌++◌, length, take}
+use Rattle.std.specs.Prelude.{◌≡◌, ◌⊎◌, ℕ, ◌<◌, ◌≤◌, Some, List, [], ◌∷◌, ◌++◌, length, take}
 use Rattle.std.specs.Io.KnownBytes.{Consumes, Appends, IsAtEnd}
 use Rattle.bridge_replay.specs.declared.ends.ReplayEnd.{ReplayEnd}
 use Rattle.bridge_replay.specs.declared.ends.ReplayStop.{ReplayStop}
 use Rattle.bridge_replay.specs.declared.ends.ReplayStop.TheVariants.{Done, ReadFault, WriteFault, Cut, BadRecord, Limit, NoMemory}
 use Rattle.bridge_replay.specs.declared.ends.Settings.{Settings}
-use Rattle.bridge_replay.specs.Output.{pictures_written}
+use Rattle.tick_picture.specs.Output.{pictures_written}
 use Rattle.bridge_replay.specs.Steps.{oldest_first, IsHistory}
-use Rattle.bridge_replay.specs.Tallies.{nothing_counted, tally_of}
+use Rattle.tick_picture.specs.Tallies.{nothing_counted, tally_of}
 use Rattle.cif_pack.specs.declared.packer.Settings.{Settings as Packing}
 use Rattle.cif_pack.specs.Packets.{out}
 use Rattle.conf_file.specs.declared.answers.EntryWhy.TheVariants.{Header}

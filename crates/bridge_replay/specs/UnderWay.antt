@@ -1,27 +1,23 @@
 -- Inner contracts alone use this; nothing here has to be believed.
 -- A conference under way, behind entries and their history.
-use Rattle.std.specs.Prelude.{◌≡◌, ℕ, ◌+◌, ◌*◌, ◌^◌, ◌<◌, ◌≤◌, false, Bool, is_some, Option, None, Some, List, [], ◌∷◌, ◌++◌, length, slice_get, take, vec_len, Result, Ok, Err}
+use Rattle.std.specs.Prelude.{◌≡◌, ℕ, ◌+◌, ◌*◌, ◌^◌, ◌<◌, ◌≤◌, false, Bool, Option, None, Some, List, [], ◌∷◌, ◌++◌, length, slice_get, take, Result, Ok, Err}
 use Rattle.std.specs.Io.KnownBytes.{Appends}
 use Rattle.bridge_replay.specs.declared.conference.Conference.{Conference}
-use Rattle.bridge_replay.specs.declared.tally.Tally.{Tally}
-use Rattle.bridge_replay.specs.Output.{pictures_written}
-use Rattle.bridge_replay.specs.Steps.{packets_in, after_loss, AfterUnit, IsHistory}
-use Rattle.bridge_replay.specs.Tallies.{steps_counted, tally_of}
-use Rattle.cif_mix.specs.Shows.{MayBeShown, Shows}
+use Rattle.tick_picture.specs.declared.tally.Tally.{Tally}
+use Rattle.tick_picture.specs.Output.{pictures_written}
+use Rattle.bridge_replay.specs.Steps.{packets_in, AfterUnit, IsHistory}
+use Rattle.tick_picture.specs.Tallies.{steps_counted, tally_of}
 use Rattle.cif_pack.specs.declared.packer.Settings.{Settings as Packing}
-use Rattle.cif_pack.specs.declared.packer.Sent.{Sent}
-use Rattle.cif_pack.specs.Packets.{packets, out}
-use Rattle.cif_pack.specs.State.{Puts, GoesOn as SendsOn, AreFew, HasSent}
+use Rattle.cif_pack.specs.Packets.{out}
+use Rattle.cif_pack.specs.State.{HasSent}
+use Rattle.tick_picture.specs.Ticks.{HasFront}
 use Rattle.conf_file.specs.Entries.{Content, Packet, Chair, Tick as TickEntry, End, IsStep}
-use Rattle.h261_pic.specs.declared.hand.Hand.{Hand}
-use Rattle.hall_core.specs.Hall.{lanes_of, is_over}
-use Rattle.hall_core.specs.Stands.{StandsFor, IsQcifHand, box_of}
+use Rattle.hall_core.specs.Hall.{lanes_of}
+use Rattle.hall_core.specs.Stands.{StandsFor, IsQcifHand}
 use Rattle.io_edge.specs.declared.edges.Failed.{Failed}
-use Rattle.io_edge.specs.Causes.{Rose}
-use Rattle.pel_model.specs.declared.Format.TheVariants.{Qcif, Cif}
-use Rattle.pel_model.specs.declared.Quad.{Quad}
+use Rattle.pel_model.specs.declared.Format.TheVariants.{Qcif}
 use Rattle.pel_model.specs.declared.note.TickNote.{TickNote}
-use Rattle.pel_model.specs.History.{History, Step, Tick, taken_in, has_ended}
+use Rattle.pel_model.specs.History.{History, Step, Tick, has_ended}
 use Rattle.pel_model.specs.Legal.{Legal}
 use Rattle.pel_model.specs.Records.{Picture}
 use Rattle.rtp_h261.specs.Depack.{Held, StandsFor as IsFed}
@@ -57,8 +53,7 @@ MayStep more c = (lanes : ℕ) × (history : History) × Follows lanes history c
 -- nothing changed but the hall, the tally of steps and the hand
 pub record IsSameBeside (old new : Conference) : Type 0 where
   pub depacks : new.depacks.items ≡ old.depacks.items
-  pub composed : new.composed ≡ old.composed
-  pub packer : new.packer ≡ old.packer
+  pub writer : new.writer ≡ old.writer
   pub packets : new.tally.packets ≡ old.tally.packets
   pub octets : new.tally.octets ≡ old.tally.octets
 
@@ -96,9 +91,9 @@ pub record AreFed (lanes : ℕ) (entries : List Content) (depacks : List Held) :
   pub count : length depacks ≡ lanes
   pub each : (c : ℕ) → c < lanes → IsFedQcif (packets_in entries c) (slice_get depacks c)
 
--- the octets that a conference sent are no more than this for each of its steps
+-- the packets and the octets that a conference sent are no more than this for each of its steps
 abbrev pub step_octets : ℕ
-step_octets = 2 ^ 22
+step_octets = 2 ^ 16
 
 -- a conference behind its entries, whose sink was given `now` since it had `first`
 pub record UnderWay (p : Place) (c : Conference) (first now : Option (List ℕ)) : Type 0 where
@@ -106,8 +101,7 @@ pub record UnderWay (p : Place) (c : Conference) (first now : Option (List ℕ))
   pub follows : Follows p.lanes p.history c
   pub depacks : AreFed p.lanes p.entries c.depacks.items
   pub hand : IsQcifHand c.hand
-  pub composed : c.composed.format ≡ Cif
-  pub sent : HasSent p.set (pictures_written p.lanes p.history) c.packer c.tally.packets c.tally.octets first now
+  pub sent : HasSent p.set (pictures_written p.lanes p.history) c.writer c.tally.packets c.tally.octets first now
   pub few_packets : c.tally.packets ≤ step_octets * length p.history
   pub few_octets : c.tally.octets ≤ step_octets * length p.history
 
@@ -161,24 +155,18 @@ Enters p content new first now (Err _) = Broke p content new first now
 
 -- ---- ticks
 
--- the packets of a picture were sent, or the sink failed at them
-abbrev pub Sends : (total : ℕ) → Picture → (now then : Option (List ℕ)) → (old new : Conference) → Result Unit Failed → Type 0
-Sends total picture now then old new (Ok _) =
-    (sent : Sent) × Puts {E = Failed} now then (Ok sent) (packets old.packer.settings total 0 picture)
-    × SendsOn {E = Failed} old.packer new.packer (Ok sent) (packets old.packer.settings total 0 picture)
-    × AreFew sent
+-- behind pictures that were written the next one was written too; or the sink failed at it
+abbrev pub HasWritten : Packing → List (ℕ × Picture) → (next : ℕ × Picture) → (first now : Option (List ℕ)) → (new : Conference) → Result Unit Failed → Type 0
+HasWritten set pictures next first now new (Ok _) =
+    HasSent set (pictures ++ next ∷ []) new.writer new.tally.packets new.tally.octets first now
+HasWritten set pictures next first now new (Err _) = HasFront set pictures next first now
+
+-- the counts rise by those of one picture, or the sink failed at it; beside them and the writer nothing changed
+abbrev pub CountsPackets : (old new : Conference) → Result Unit Failed → Type 0
+CountsPackets old new (Ok _) =
+    (new.tally.packets ≤ old.tally.packets + step_octets) × (new.tally.octets ≤ old.tally.octets + step_octets)
     × (new ≡ record old {
-      packer = new.packer;
-      tally = record old.tally { packets = old.tally.packets + sent.packets; octets = old.tally.octets + sent.octets };
+      writer = new.writer;
+      tally = record old.tally { packets = new.tally.packets; octets = new.tally.octets };
     })
-Sends total picture now then old new (Err failed) =
-    Puts {E = Failed} now then (Err failed) (packets old.packer.settings total 0 picture)
-    × (new ≡ record old { packer = new.packer })
-
--- each place that took a picture may show it
-abbrev pub MayShow : TickNote → Hand → Type 0
-MayShow note hand = (q : Quad) → MayBeShown (is_some (taken_in q note)) (box_of hand q)
-
--- each place shows the picture that it took
-abbrev pub ShowsEach : TickNote → Hand → (Quad → Option Picture) → Type 0
-ShowsEach note hand shown = (q : Quad) → Shows (is_some (taken_in q note)) (box_of hand q) (shown q)
+CountsPackets old new (Err _) = new ≡ record old { writer = new.writer }

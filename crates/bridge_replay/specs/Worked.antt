@@ -1,8 +1,8 @@
 -- A worked conference: one lane, a tick of one step, and the end.
-use Rattle.std.specs.Prelude.{◌≡◌, ℕ, ◌++◌, List, [], ◌∷◌, None, codes, length}
-use Rattle.bridge_replay.specs.Output.{pictures_written}
+use Rattle.std.specs.Prelude.{◌≡◌, ℕ, ◌++◌, List, [], ◌∷◌, None, codes}
+use Rattle.tick_picture.specs.Output.{pictures_written}
 use Rattle.bridge_replay.specs.Steps.{oldest_first, IsHistory}
-use Rattle.bridge_replay.specs.Tallies.{tally_of}
+use Rattle.tick_picture.specs.Tallies.{tally_of}
 use Rattle.cif_pack.specs.declared.packer.Settings.{Settings as Packing}
 use Rattle.cif_pack.specs.Packets.{out}
 use Rattle.conf_file.specs.Entries.{Content, Tick as TickEntry, End as EndEntry}

@@ -1,13 +1,10 @@
-//! A conference under way: its hall, the depacketisers of its lanes, and what the pictures of its ticks are composed and sent
-//! with.
-ghost use Rattle.std.specs.Prelude.{◌≡◌, ℕ, ◌+◌, ◌%◌, ◌<◌, ◌≤◌, ◌^◌, Bool, true, false, IfOk, Option, Some, List, length, vec_len, [], ◌∷◌, if◌then◌else◌, not};
+//! A conference under way: its hall, the depacketisers of its lanes, and what writes the pictures of its ticks.
+ghost use Rattle.std.specs.Prelude.{◌≡◌, ℕ, ◌+◌, ◌<◌, ◌≤◌, ◌^◌, Bool, true, false, IfOk, Option, Some, List, length, vec_len, [], ◌∷◌, if◌then◌else◌, not};
 ghost use Rattle.h261_pic.specs.Coded.{Coding, coding, IsFinished};
 ghost use Rattle.hall_core.specs.Hall.{lanes_of};
 ghost use Rattle.hall_core.specs.Stands.{TakesInto, IsQcifHand};
-ghost use Rattle.pel_model.specs.declared.Format.TheVariants.{Qcif, Cif};
-ghost use Rattle.pel_model.specs.declared.Quad.{Quad};
+ghost use Rattle.pel_model.specs.declared.Format.TheVariants.{Qcif};
 ghost use Rattle.pel_model.specs.declared.chair.Reply.{Reply as ReplyOf};
-ghost use Rattle.pel_model.specs.Composed.{composed_of};
 ghost use Rattle.pel_model.specs.History.{History, Gap as Lost, Post as Posted, Order as Ordered, Tick as Ticked, End as Closed};
 ghost use Rattle.pel_model.specs.Legal.{IsPostable};
 ghost use Rattle.pel_model.specs.Plan.{is_done};
@@ -15,16 +12,15 @@ ghost use Rattle.pel_model.specs.Records.{Picture};
 ghost use Rattle.pel_model.specs.Valid.{limit};
 ghost use Rattle.rtp_h261.specs.Depack.{FinishedAt, HasUnit};
 ghost use Rattle.bridge_replay.specs.Steps.{after_loss};
-ghost use Rattle.bridge_replay.specs.Tallies.{takes_in, one_if};
-ghost use Rattle.bridge_replay.specs.UnderWay.{beginning, MayStep, Makes, IsSameBeside, Follows, IsOpen, GoesOn, MayShow, ShowsEach, Place, UnderWay, MayGoOn, MayCome, Entered, Enters, Sends, AreFed};
+ghost use Rattle.cif_pack.specs.State.{HasSent};
+ghost use Rattle.tick_picture.specs.Ticks.{Took, picture_at, takes_in, one_if};
+ghost use Rattle.bridge_replay.specs.UnderWay.{beginning, MayStep, Makes, IsSameBeside, Follows, IsOpen, GoesOn, Place, UnderWay, MayGoOn, MayCome, Entered, Enters, HasWritten, CountsPackets, AreFed};
 ghost use Rattle.conf_file.specs.Entries.{Packet as PacketEntry, Tick as TickEntry};
 ghost use Rattle.conf_file.specs.Reading.{content_of};
 ghost use Rattle.io_edge.specs.Causes.{HasCause};
 ghost use Rattle.bridge_replay.specs.UnderWay.{most_steps};
 
-use crate::tally::Tally;
-use cif_mix::compose;
-use cif_pack::{Packer, Settings as Packing};
+use cif_pack::Settings as Packing;
 use conf_file::Entry;
 use h261_pic::{Coded, Hand};
 use hall_core::Hall;
@@ -33,19 +29,19 @@ use pel_bits::NoMemory;
 use pel_model::{Command, Format, Reply, TickNote};
 use rtp_h261::{Depack, Unit};
 use std::alloc::Global;
+use tick_picture::{PictureWriter, Tally, takes_in};
 
 /// The most steps of a conference.
 const MOST_STEPS: u64 = 0x200_0000_0000;
 
-/// What a conference has: its hall, a depacketiser for each lane, the pictures that a tick took, the picture composed of
-/// them, the packer, and the tally.
+/// What a conference has: its hall, a depacketiser for each lane, the pictures that a tick took, what writes the picture
+/// composed of them, and the tally.
 #[derive(Drop)]
 pub struct Conference {
     pub hall: Hall,
     pub depacks: Vec<Depack>,
     pub hand: Hand,
-    pub composed: Coded,
-    pub packer: Packer,
+    pub writer: PictureWriter,
     pub tally: Tally,
 }
 
@@ -62,8 +58,7 @@ impl Conference {
             hall: Hall::reserve(alloc, lanes, MOST_STEPS)?,
             depacks,
             hand: Hand::reserve(alloc)?,
-            composed: Coded::reserve(alloc, Format::Cif)?,
-            packer: Packer::reserve(alloc, set)?,
+            writer: PictureWriter::reserve(alloc, set)?,
             tally: Tally::default(),
         })
     }
@@ -198,42 +193,26 @@ impl Conference {
         note
     }
 
-    // Composes the picture of a tick from those that the places took.
-    fn show(&mut self, note: &TickNote)
-        requires shown { MayShow note.now self.old.hand }
-        requires cif { self.old.composed.format ≡ Cif }
-        ensures picture { (shown : Quad → Option Picture) → ShowsEach note.now self.old.hand shown
-            → self.new ≡ record self.old { composed = coding Cif (composed_of (note.now.total % 32) shown) } }
-    {
-        compose(
-            &self.hand,
-            note.taken_one.is_some(),
-            note.taken_two.is_some(),
-            note.taken_three.is_some(),
-            note.taken_four.is_some(),
-            (note.total % 32) as u8,
-            &mut self.composed,
-        );
-    }
-
-    // Sends the composed picture, when the sum of all steps is `total`.
-    fn send<K: Sink>(&mut self, total: u64, sink: &mut K) -> Result<(), Failed>
-        requires usable { self.old.packer.spent ≡ false }
-        requires cif { self.old.composed.format ≡ Cif }
-        requires finished { IsFinished self.old.composed }
-        requires total { total ≤ 2 ^ 50 }
+    // Writes the picture of a tick whose takes stand in the hand, and counts its packets.
+    fn write<K: Sink>(&mut self, note: &TickNote, sink: &mut K) -> Result<(), Failed>
+        requires usable { self.old.writer.spent ≡ false }
+        requires took { (lanes : ℕ) × (history : History) × Took lanes history note.now self.old.hand }
+        requires total { note.now.total ≤ 2 ^ 50 }
         requires room { (self.old.tally.packets < 2 ^ 63) × (self.old.tally.octets < 2 ^ 63) }
-        ensures sent { (picture : Picture) → self.old.composed ≡ coding Cif picture →
-            Sends total picture (K.written sink.old) (K.written sink.new) self.old self.new result }
+        ensures wrote { (lanes : ℕ) (history : History) → Took lanes history note.now self.old.hand →
+            (set : Packing) (pictures : List (ℕ × Picture)) (first : Option (List ℕ)) →
+            HasSent set pictures self.old.writer self.old.tally.packets self.old.tally.octets first (K.written sink.old)
+            → HasWritten set pictures (picture_at lanes history note.now) first (K.written sink.new) self.new result }
+        ensures counts { CountsPackets self.old self.new result }
         ensures cause { HasCause (K.faults sink.old) (K.faults sink.new) result }
     {
-        let sent = self.packer.pack(&self.composed, total, sink)?;
+        let sent = self.writer.write(note, &self.hand, sink)?;
         self.tally.packets += sent.packets;
         self.tally.octets += sent.octets;
         Ok(())
     }
 
-    // A tick: the places take their pictures, and the picture composed of them is sent.
+    // A tick: the places take their pictures, and the picture composed of them is written.
     fn tick<K: Sink>(&mut self, step: u8, sink: &mut K) -> Result<(), Failed>
         requires room { MayGoOn 1 self.old }
         requires step { (1 ≤ step) × (step ≤ 31) }
@@ -242,8 +221,7 @@ impl Conference {
         ensures cause { HasCause (K.faults sink.old) (K.faults sink.new) result }
     {
         let note = self.take(step);
-        self.show(&note);
-        self.send(note.total, sink)
+        self.write(&note, sink)
     }
 
     // A packet comes in a lane, whose picture may be put into `item`. Gives a box for the next one.
@@ -306,16 +284,6 @@ fn empty_depacks(alloc: Global, lanes: u8) -> Result<Vec<Depack>, NoMemory>
         };
     }
     Ok(depacks)
-}
-
-// How many places a tick took a picture in.
-fn takes_in(note: &TickNote) -> u64
-    ensures { result ≡ takes_in note.now }
-{
-    u64::from(note.taken_one.is_some())
-        + u64::from(note.taken_two.is_some())
-        + u64::from(note.taken_three.is_some())
-        + u64::from(note.taken_four.is_some())
 }
 
 // Tells that a picture's text is within the limit.

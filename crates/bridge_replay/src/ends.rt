@@ -1,7 +1,7 @@
 //! What a replay is set to, and how it ends.
 
-use crate::tally::Tally;
 use conf_file::EntryWhy;
+use tick_picture::Tally;
 
 /// What is set for a replay.
 #[derive(Clone, Copy, Debug, PartialEq, Eq)]

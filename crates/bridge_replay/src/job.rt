@@ -3,7 +3,7 @@ ghost use Rattle.std.specs.Prelude.{◌≡◌, ℕ, ◌≤◌, ◌^◌, ◌<◌,
 ghost use Rattle.bridge_replay.specs.Reading.{stop_for, StandsAt, IsReplaying, ReplaysOn, StepsTo};
 ghost use Rattle.bridge_replay.specs.Replays.{Ends, IsComplete, IsReadBack, Replays, packing};
 ghost use Rattle.io_edge.specs.Outside.{Outside};
-ghost use Rattle.bridge_replay.specs.Tallies.{nothing_counted};
+ghost use Rattle.tick_picture.specs.Tallies.{nothing_counted};
 ghost use Rattle.h261_pic.specs.Coded.{nothing};
 ghost use Rattle.io_edge.specs.Causes.{StaysCounted};
 ghost use Rattle.pel_model.specs.declared.Format.TheVariants.{Qcif};
@@ -11,7 +11,6 @@ ghost use Rattle.bridge_replay.specs.declared.ends.Settings.{Settings as Set};
 
 use crate::conference::Conference;
 use crate::ends::{ReplayEnd, ReplayStop, Settings};
-use crate::tally::Tally;
 use cif_pack::Settings as Packing;
 use conf_file::{EntryEnd, EntryReader, files_are_read, fronts_decide, one_reading};
 use h261_pic::Coded;
@@ -20,6 +19,7 @@ use pel_bits::NoMemory;
 use pel_model::Format;
 use reading_back::packets_are_read_back;
 use std::alloc::Global;
+use tick_picture::Tally;
 
 /// Reads a conference file from `source`, up to its end entry and no further, and writes the framed packets of every tick to
 /// `sink`. The mtu is 1,000 to 9,000, and the budget 2^40 octets at most. All memory is taken before the first entry is read;

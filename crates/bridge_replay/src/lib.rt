@@ -6,12 +6,11 @@ mod conference;
 mod ends;
 mod job;
 mod laws;
-mod tally;
 
 pub use ends::{ReplayEnd, ReplayStop, Settings};
 pub use job::replay;
 pub use laws::{one_history, worked_replay};
-pub use tally::Tally;
+pub use tick_picture::Tally;
 
 #[cfg(test)]
 mod tests;

@@ -1,4 +1,4 @@
-use Rattle.std.proofs.Common.{◌≡◌, sym, ◌∙◌}
+use Rattle.std.proofs.Common.{sym, ◌∙◌}
 use Rattle.bridge_replay.proofs.Stopping.{done-so, none-of}
 use Rattle.bridge_replay.proofs.job.read_on.Goals as goal
 

@@ -1,7 +1,6 @@
-use Rattle.std.proofs.Common.{◌≡◌, ℕ, Option, List, Result, Ok, Err, refl, sym, subst, ◌∙◌}
+use Rattle.std.proofs.Common.{ℕ, Result, Ok, Err, refl, sym, subst}
 use Rattle.bridge_replay.specs.declared.ends.ReplayStop.{ReplayStop}
 use Rattle.bridge_replay.specs.Replays.{Replays}
-use Rattle.io_edge.specs.Outside.{Outside}
 use Rattle.bridge_replay.specs.UnderWay.{behind_entry, MayCome}
 use Rattle.conf_file.specs.declared.answers.Entry.{Entry}
 use Rattle.conf_file.specs.declared.answers.EntryEnd.{EntryEnd}

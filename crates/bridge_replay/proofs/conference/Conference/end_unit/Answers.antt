@@ -1,4 +1,4 @@
-use Rattle.std.proofs.Common.{◌≤◌, length, Option, Some, subst}
+use Rattle.std.proofs.Common.{◌≤◌, length, Some, subst}
 use Rattle.h261_pic.specs.Coded.{Coding}
 use Rattle.pel_model.specs.Valid.{limit}
 use Rattle.pel_model.specs.declared.Format.TheVariants.{Qcif}

@@ -1,4 +1,4 @@
-use Rattle.std.proofs.Common.{◌∷◌, Option, List, ℕ, refl, sym, ap, subst}
+use Rattle.std.proofs.Common.{◌∷◌, refl, sym, ap, subst}
 use Rattle.bridge_replay.specs.UnderWay.{Entered}
 use Rattle.conf_file.specs.declared.answers.Entry.{Entry}
 use Rattle.conf_file.specs.Entries.{Chair}

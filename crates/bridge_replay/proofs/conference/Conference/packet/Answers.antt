@@ -4,7 +4,6 @@ use Rattle.bridge_replay.specs.Steps.{packets_in, after_loss}
 use Rattle.bridge_replay.specs.UnderWay.{AreFed}
 use Rattle.conf_file.specs.Entries.{Packet}
 use Rattle.pel_model.specs.declared.Format.{Format}
-use Rattle.pel_model.specs.declared.Format.TheVariants.{Qcif}
 use Rattle.rtp_h261.specs.Depack.{Answers, given_behind}
 use Rattle.bridge_replay.proofs.Units.{fed-there, fed-further, still-follows, loss-open, packet-enters}
 use Rattle.bridge_replay.proofs.conference.Conference.packet.Goals as goal

@@ -1,5 +1,4 @@
 use Rattle.std.proofs.Common.{Option, subst}
-use Rattle.h261_pic.specs.Coded.{Coding}
 use Rattle.pel_model.specs.declared.Format.TheVariants.{Qcif}
 use Rattle.rtp_h261.specs.declared.depack.Unit.{Unit as Ended}
 use Rattle.rtp_h261.specs.Depack.{HasUnit}

@@ -1,21 +1,12 @@
 -- What a tally counts.
-use Rattle.std.specs.Prelude.{◌≡◌, ℕ, ◌+◌, Bool, true, false, if◌then◌else◌, List, [], ◌∷◌, length, Option, is_some, not}
-use Rattle.bridge_replay.specs.declared.tally.Tally.{Tally}
-use Rattle.bridge_replay.specs.Output.{pictures_written}
+use Rattle.std.specs.Prelude.{ℕ, ◌+◌, [], ◌∷◌, length, not}
+use Rattle.tick_picture.specs.declared.tally.Tally.{Tally}
 use Rattle.cif_pack.specs.declared.packer.Settings.{Settings as Packing}
 use Rattle.cif_pack.specs.Packets.{sent_packets, out}
-use Rattle.pel_model.specs.declared.note.TickNote.{TickNote}
 use Rattle.pel_model.specs.History.{Step, Post, Gap, Order, Tick, End, History}
 use Rattle.pel_model.specs.Plan.{is_done}
-
-abbrev pub one_if : Bool → ℕ
-one_if b = if b then 1 else 0
-
--- how many places a tick took a picture in
-abbrev pub takes_in : TickNote → ℕ
-takes_in note =
-    one_if (is_some note.taken_one) + one_if (is_some note.taken_two)
-    + one_if (is_some note.taken_three) + one_if (is_some note.taken_four)
+use Rattle.tick_picture.specs.Output.{pictures_written}
+use Rattle.tick_picture.specs.Ticks.{one_if, takes_in}
 
 -- a tally in which nothing is counted
 abbrev pub nothing_counted : Tally

@@ -1,6 +1,7 @@
+-- What the boxes may show.
 use Rattle.std.proofs.Common.{sym, ◌∙◌}
 use Rattle.pel_model.specs.declared.Quad.TheVariants.{One, Two, Three, Four}
-use Rattle.bridge_replay.proofs.conference.Conference.show.Goals as goal
+use Rattle.tick_picture.proofs.compose_hand.Goals as goal
 
 pub compose-requires-clause-box_one : goal.compose-requires-clause-box_one
 compose-requires-clause-box_one c = λ e. c.requires.shown One (sym c.is_some.ensures ∙ e)

@@ -1,0 +1,4 @@
+pub mod Output
+pub mod Showing
+pub mod Tallies
+pub mod Ticks
