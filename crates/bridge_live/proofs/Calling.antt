@@ -2,7 +2,7 @@
 use Rattle.std.proofs.Common.{◌≡◌, ℕ, Bool, true, false, List, [], ◌∷◌, ◌++◌, MatchBool, Ok, Err, refl, sym, subst, append-nil}
 use Rattle.hall_core.specs.declared.machine.HallCall.{HallCall}
 use Rattle.hall_core.specs.declared.machine.HallReply.{HallReply}
-use Rattle.hall_core.specs.Machine.{TellsStep, is_ended, turn_tells}
+use Rattle.hall_core.specs.Machine.{is_ended, turn_tells}
 use Rattle.hall_lock.specs.declared.view.Turn.{Turn}
 use Rattle.pel_model.specs.History.{Step}
 use Rattle.seat_turns.specs.Asking.{Works, AddsTurn, HasEnded, IsGoing, IsOver, StandsAt}

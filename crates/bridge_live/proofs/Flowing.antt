@@ -1,33 +1,32 @@
 -- A packet that was read and posted, and the ends of a lane.
-use Rattle.std.proofs.Common.{◌≡◌, ℕ, suc, ◌+◌, ◌<◌, ◌≤◌, Bool, true, false, List, [], ◌∷◌, ◌++◌, length, map, Option, Some, None, Result, Ok, Err, refl, sym, ◌∙◌, ap, ap₂, subst, arith, append_assoc, append-nil, length-append}
+use Rattle.std.proofs.Common.{◌≡◌, ℕ, suc, ◌+◌, ◌≤◌, Bool, true, false, List, [], ◌∷◌, ◌++◌, length, map, Option, Some, None, Result, Ok, Err, refl, sym, ◌∙◌, ap, ap₂, subst, arith, append_assoc, append-nil, length-append}
 use Rattle.std.specs.Global.{Box}
 use Rattle.std.specs.List.{flat_map, AllByRecursion}
-use Rattle.std.specs.Io.KnownBytes.{Consumes, IsAtEnd}
+use Rattle.std.specs.Io.KnownBytes.{Consumes}
 use Rattle.std.proofs.KnownBytes.{Consumes-trans}
 use Rattle.std.proofs.lemmas.List.{map-append, length-map}
 use Rattle.std.proofs.lemmas.Grind.{flat_map-append}
 use mathlib.Core.List.{IsPrefix}
 use Rattle.h261_pic.specs.Coded.{Coding, coding}
-use Rattle.hall_core.specs.Machine.{Holds}
 use Rattle.io_edge.specs.Causes.{Rose}
 use Rattle.pel_model.specs.Accepts.{Accepts}
 use Rattle.pel_model.specs.declared.Format.{Format}
 use Rattle.pel_model.specs.declared.Format.TheVariants.{Qcif}
-use Rattle.pel_model.specs.History.{Step, Post, Gap}
+use Rattle.pel_model.specs.History.{Step, Gap}
 use Rattle.pel_model.specs.Legal.{IsPostable}
 use Rattle.pel_model.specs.Records.{Picture as Record}
 use Rattle.pel_model.specs.Valid.{limit}
 use Rattle.rtp_h261.specs.declared.depack.Fed.{Fed}
 use Rattle.rtp_h261.specs.declared.depack.Unit.{Unit as Ending}
 use Rattle.rtp_h261.specs.declared.depack.Unit.TheVariants.{Picture, Gap as Broken}
-use Rattle.rtp_h261.specs.Depack.{Held, StandsFor, Answers, HasUnit, given_behind}
+use Rattle.rtp_h261.specs.Depack.{StandsFor, Answers, HasUnit, given_behind}
 use Rattle.rtp_h261.specs.Packets.{piece_of}
 use Rattle.rtp_h261.specs.Units.{Given, Piece, all_given, fed}
 use Rattle.rtp_h261.specs.Steps.{LawOfFronts}
 use Rattle.rtp_wire.specs.declared.frames.FrameEnd.{FrameEnd}
 use Rattle.rtp_wire.specs.declared.frames.FrameEnd.TheVariants.{End, Cut, Fault, Limit}
-use Rattle.rtp_wire.specs.Frames.{frame, HasFrame, CallsNext, ReadsFrame, ReadsOrStays, TakesOne, IsPartial, stream_of}
-use Rattle.unit_stream.specs.Events.{Event, Lost, Shown, Refused, IsUnitOf, Happens, HappenAt, AreEvents, lost_events}
+use Rattle.rtp_wire.specs.Frames.{frame, HasFrame, CallsNext, ReadsFrame, ReadsOrStays, IsPartial, stream_of}
+use Rattle.unit_stream.specs.Events.{Event, Shown, Refused, IsUnitOf, Happens, HappenAt, AreEvents, lost_events}
 use Rattle.unit_stream.proofs.Telling.{one_more}
 use Rattle.bridge_live.specs.declared.calls.Halt.{Halt}
 use Rattle.bridge_live.specs.declared.calls.Halt.TheVariants as halt

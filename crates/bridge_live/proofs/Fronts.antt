@@ -1,15 +1,14 @@
 -- The flow of the first of some packets.
-use Rattle.std.proofs.Common.{◌≡◌, ℕ, List, [], ◌∷◌, ◌++◌, length, map, Option, refl, sym, ap, subst, ◌∙◌, append_assoc, append-nil}
+use Rattle.std.proofs.Common.{◌≡◌, List, [], ◌∷◌, ◌++◌, length, map, Option, refl, sym, ap, subst, ◌∙◌, append_assoc, append-nil}
 use Rattle.std.proofs.lemmas.List.{map-append}
-use mathlib.Core.List.{IsPrefix}
 use Rattle.pel_model.specs.declared.Format.{Format}
 use Rattle.pel_model.specs.declared.Format.TheVariants.{Qcif}
 use Rattle.pel_model.specs.History.{Step}
 use Rattle.rtp_h261.specs.Packets.{piece_of}
 use Rattle.rtp_h261.specs.Steps.{LawOfFronts}
 use Rattle.rtp_h261.specs.Units.{Given, Piece, all_given, fed}
-use Rattle.unit_stream.specs.Events.{Event, Happens, HappenAt, AreEvents, LawOfOneTelling}
-use Rattle.bridge_live.specs.Flow.{step_of, IsFlow, LawOfOneFlow, LawOfFlowFronts}
+use Rattle.unit_stream.specs.Events.{Event, HappenAt, LawOfOneTelling}
+use Rattle.bridge_live.specs.Flow.{step_of, LawOfOneFlow, LawOfFlowFronts}
 
 pub one-flow : LawOfOneTelling → LawOfOneFlow
 one-flow one lane packets steps others h k =

@@ -14,8 +14,8 @@ use Rattle.bridge_live.specs.declared.lane.Counts.{Counts}
 use Rattle.bridge_live.specs.declared.lane.Lane.{Lane}
 use Rattle.bridge_live.specs.Lane.{is_post, is_gap, IsCounted}
 use Rattle.bridge_live.specs.declared.ends.LaneStop.{LaneStop}
-use Rattle.bridge_live.specs.Posting.{HasPosted, IsShort, Posts, HasSpare, stop_after}
-use Rattle.bridge_live.specs.Worker.{HallSeat, HasMade, IsUnderWay, HasHalted, Answers, MakesStep}
+use Rattle.bridge_live.specs.Posting.{HasPosted, Posts, HasSpare, stop_after}
+use Rattle.bridge_live.specs.Worker.{HallSeat, IsUnderWay, HasHalted, Answers}
 
 -- ---- replies
 

@@ -1,8 +1,8 @@
 -- A line says one thing.
-use Rattle.std.proofs.Common.{◌≡◌, ◌≢◌, ◌⊎◌, ℕ, ◌<◌, ◌≤◌, List, [], ◌∷◌, length, inl, inr, refl, sym, ap, ◌∙◌, arith}
-use Rattle.chair_words.specs.Line.{OneAnswer, Says}
-use Rattle.chair_words.specs.Words.{Word, words}
-use Rattle.bridge_live.specs.Lines.{Heard, Blank, Faulty, Said, IsHeard, LawOfOneHearing}
+use Rattle.std.proofs.Common.{◌≡◌, List, [], ◌∷◌, length, inl, inr, refl, sym, ap, ◌∙◌, arith}
+use Rattle.chair_words.specs.Line.{OneAnswer}
+use Rattle.chair_words.specs.Words.{Word}
+use Rattle.bridge_live.specs.Lines.{Blank, Faulty, Said, LawOfOneHearing}
 
 none-some : (w : Word) (ws : List Word) → [] ≡ w ∷ ws → ⊥
 none-some w ws e = absurd (omega (arith, ap length e))

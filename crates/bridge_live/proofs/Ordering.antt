@@ -1,12 +1,12 @@
 -- What the chair makes of its lines.
-use Rattle.std.proofs.Common.{◌≡◌, ◌≢◌, ◌⊎◌, ℕ, ◌+◌, ◌<◌, ◌≤◌, Bool, true, false, not, cond, count_by, nat_lt, List, [], ◌∷◌, ◌++◌, length, take, Option, Result, Ok, Err, inl, inr, refl, sym, ap, subst, ◌∙◌, arith, append_assoc, append-nil, length-append, take_all, length-take}
+use Rattle.std.proofs.Common.{◌≡◌, ◌≢◌, ℕ, ◌+◌, ◌<◌, ◌≤◌, Bool, true, false, not, cond, count_by, nat_lt, List, [], ◌∷◌, ◌++◌, length, take, Option, Result, Ok, Err, inl, inr, refl, sym, ap, subst, ◌∙◌, arith, append-nil, length-append, take_all, length-take}
 use Rattle.std.proofs.lemmas.Bool.Decides.{nat_tests}
 use Rattle.std.proofs.lemmas.List.Sums.{sum_by-append}
 use Rattle.std.proofs.lemmas.Grind.{flat_map-append}
 use Rattle.std.proofs.KnownBytes.{Consumes-nil, Consumes-trans}
 use Rattle.std.specs.Int.{from_bool}
 use Rattle.std.specs.List.{flat_map, AllByRecursion}
-use Rattle.std.specs.Io.KnownBytes.{Consumes, IsAtEnd}
+use Rattle.std.specs.Io.KnownBytes.{Consumes}
 use Rattle.chair_words.specs.declared.reader.LineWhy.{LineWhy}
 use Rattle.chair_words.specs.Line.{Says, FailsAt}
 use Rattle.chair_words.specs.Words.{Word, words}
@@ -31,7 +31,7 @@ use Rattle.bridge_live.specs.Hearing.{lines_counted, HasHeard, Orders, Hears, He
 use Rattle.bridge_live.specs.Lane.{most_octets, Input}
 use Rattle.bridge_live.specs.Lines.{line_feed, IsLine, Heard, Blank, Faulty, Said, IsHeard, AreHeard, said, is_faulty}
 use Rattle.bridge_live.specs.Posting.{input}
-use Rattle.bridge_live.specs.Reading.{end_of_line, TakesLine}
+use Rattle.bridge_live.specs.Reading.{TakesLine}
 use Rattle.bridge_live.specs.Worker.{HallSeat, IsNew, HasMade, IsUnderWay, HasHalted, Answers}
 use Rattle.bridge_live.proofs.Flowing.{none-made, none-back}
 

@@ -1,6 +1,6 @@
 -- Inner contracts alone use this; nothing here has to be believed.
 -- The chair at the lock: what it makes of one line, and what it has made so far.
-use Rattle.std.specs.Prelude.{⊤, Bool, false, not, ◌≡◌, ℕ, ◌+◌, ◌<◌, ◌≤◌, List, [], ◌∷◌, ◌++◌, length, Result, Ok, Err, flat_map, ◌⊎◌}
+use Rattle.std.specs.Prelude.{⊤, Bool, false, not, ◌≡◌, ℕ, ◌+◌, ◌<◌, ◌≤◌, List, [], ◌∷◌, ◌++◌, length, Result, Ok, Err, flat_map}
 use Rattle.std.specs.List.{AllByRecursion}
 use Rattle.std.specs.Io.KnownBytes.{Consumes}
 use Rattle.hall_core.specs.declared.machine.HallReply.{HallReply}
@@ -14,14 +14,13 @@ use Rattle.seat_turns.specs.Own.{InOrder}
 use Rattle.bridge_live.specs.declared.calls.Halt.{Halt}
 use Rattle.bridge_live.specs.declared.calls.Halt.TheVariants as halt
 use Rattle.bridge_live.specs.declared.chair.Chair.{Chair}
-use Rattle.bridge_live.specs.declared.chair.ChairCounts.{ChairCounts}
 use Rattle.bridge_live.specs.declared.ends.ChairStop.{ChairStop}
 use Rattle.bridge_live.specs.declared.ends.ChairStop.TheVariants.{Whole, Fault, Limit, Ended, Over}
 use Rattle.bridge_live.specs.declared.lines.Pause.{Pause}
 use Rattle.bridge_live.specs.declared.lines.Pause.TheVariants as pause
 use Rattle.bridge_live.specs.Chair.{AreOrders, IsChairCounted, RunsChair}
 use Rattle.bridge_live.specs.Lane.{most_octets, Input}
-use Rattle.bridge_live.specs.Lines.{line_feed, IsLine, Heard, Blank, Faulty, Said, IsHeard, AreHeard, said}
+use Rattle.bridge_live.specs.Lines.{line_feed, IsLine, Heard, Said, IsHeard, AreHeard, said}
 use Rattle.pel_model.specs.Plan.{is_done}
 use Rattle.bridge_live.specs.Worker.{HallSeat, HasMade, IsUnderWay, HasHalted}
 

@@ -3,7 +3,6 @@ use Rattle.std.specs.Prelude.{◌≡◌, ℕ, ◌^◌, ◌<◌, Bool, true, fals
 use Rattle.std.specs.List.{AllByRecursion}
 use Rattle.std.specs.Io.KnownBytes.{Consumes, IsAtEnd}
 use mathlib.Core.List.{IsPrefix}
-use Rattle.hall_core.specs.Machine.{is_ended}
 use Rattle.io_edge.specs.Causes.{Rose}
 use Rattle.pel_model.specs.History.{Step, Post, Gap}
 use Rattle.rtp_wire.specs.Frames.{HasFrame, IsPartial, stream_of}

@@ -1,5 +1,5 @@
 -- What a worker at the hall's lock does: calls, each of which makes a step of the conference, until one of them makes none.
-use Rattle.std.specs.Prelude.{◌≡◌, ℕ, ◌+◌, Bool, true, false, List, [], ◌∷◌, ◌++◌, Result, Ok, Err}
+use Rattle.std.specs.Prelude.{◌≡◌, ℕ, ◌+◌, false, List, [], ◌∷◌, ◌++◌, Result, Ok, Err}
 use Rattle.hall_core.specs.declared.machine.HallCall.{HallCall}
 use Rattle.hall_core.specs.declared.machine.HallCall.TheVariants.{Post, Gap, Order, Tick, Finish}
 use Rattle.hall_core.specs.declared.machine.HallReply.{HallReply}

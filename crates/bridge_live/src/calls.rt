@@ -1,5 +1,6 @@
 //! One call of a worker at the hall's lock.
-ghost use Rattle.std.specs.Prelude.{◌≡◌, List, IfOk, OnOk};
+ghost use Rattle.std.specs.Prelude.{◌≡◌, ◌≤◌, List, length, IfOk, OnOk};
+ghost use mathlib.Core.List.{IsPrefix};
 ghost use Rattle.hall_core.specs.Hall.{HallView, lanes_of};
 ghost use Rattle.hall_core.specs.Machine.{Fits, HallSteps, is_ended};
 ghost use Rattle.hall_lock.specs.Seats.{IsOf};
@@ -43,6 +44,8 @@ pub fn call(
     ensures seat { IsOf lock.now seat.new × InOrder seat.new }
     ensures live { OnOk result (IsUnderWay seat.new) }
     ensures answer { IfOk result (λ reply. Answers call reply) }
+    ensures within { IfOk result (λ _. length seat.new.seen ≤ lock.now.turns) }
+    ensures grows { IsPrefix seat.old.seen seat.new.seen }
     ensures led { IfOk result (λ reply.
         StepsAfter lanes_of Fits HallSteps lock.now.opening call reply seat.new.seen) }
     ensures makes { (first : HallSeat) (steps : List Step) →

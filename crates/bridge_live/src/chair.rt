@@ -153,7 +153,8 @@ fn take_line<S: Source>(
     ensures ready { MayCall lock.now chair.new }
     ensures rounds { (before : Input) (first : HallSeat) →
         HasLines (lanes_of lock.now.opening) before (input (S.left source.old) (S.faults source.old)) first room.old chair.old →
-        ChairRounds (lanes_of lock.now.opening) before (input (S.left source.new) (S.faults source.new)) first room.old room.new chair.new result }
+        ChairRounds (lanes_of lock.now.opening) before (input (S.left source.new) (S.faults source.new))
+        first room.old room.new chair.new result }
 {
     match next_line(source, line, room) {
         Ok(()) => halted(chair.hear(rt, lock, line.as_slice())),

@@ -291,7 +291,8 @@ fn take_packet<S: Source>(
     ensures spare { IfOk result (λ spare. spare.value.format ≡ Qcif) }
     ensures rounds { (before : Input) (first : HallSeat) →
         HasFlowed (lanes_of lock.now.opening) before (input (S.left source.old) (S.faults source.old)) first reader.old lane.old →
-        Rounds (lanes_of lock.now.opening) before (input (S.left source.new) (S.faults source.new)) first reader.old reader.new lane.new result }
+        Rounds (lanes_of lock.now.opening) before (input (S.left source.new) (S.faults source.new))
+        first reader.old reader.new lane.new result }
 {
     packets_one_by_one();
     let mut item = item;

@@ -3,16 +3,25 @@
 
 mod calls;
 mod chair;
+mod crew;
 mod ends;
 mod lane;
 mod laws;
 mod lines;
+mod mixer;
+mod run;
 #[cfg(test)]
 mod tests;
+mod worker;
 
 pub use calls::{Halt, call};
 pub use chair::{Chair, ChairCounts, run_chair};
-pub use ends::{ChairStop, LaneStop};
+pub use ends::{ChairEnd, ChairStop, LaneEnd, LaneStop, MixStop, ServeEnd, Unserved};
 pub use lane::{Counts, Lane, Reader, run_lane};
-pub use laws::{flow_of_packets, one_hearing};
+pub use laws::{
+    chair_of_a_told_source, flow_of_packets, lanes_of_told_sources, one_hearing,
+    stops_of_a_conference,
+};
 pub use lines::{KEPT, Pause, next_line};
+pub use mixer::{MixCounts, Mixer, Quiet, Taken, run_mixer};
+pub use run::serve;

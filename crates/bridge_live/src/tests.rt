@@ -1,16 +1,21 @@
-//! Workers at a hall that no one else calls: what they made of their sources, counted by hand.
+//! Workers at a hall that no one else calls, and whole conferences: what they made of their sources, counted by hand.
 ghost use Rattle.std.specs.Prelude.{◌≤◌, ◌^◌};
+ghost use Rattle.bridge_live.specs.Mixing.{most_turns};
 
 use super::*;
-use h261_pic::Coded;
+use cif_pack::Settings;
+use h261_pic::{Coded, Hand};
 use hall_core::Hall;
 use hall_lock::Shared;
-use io_edge::MemSource;
+use io_edge::{MemSink, MemSource, MemTicker};
+use pel_bits::NoMemory;
 use pel_model::Format;
 use std::alloc::Global;
 use std::process::Abort;
 use std::sync::Wait;
 use std::test::Fail;
+use std::thread::Threads;
+use tick_picture::PictureWriter;
 
 /// Two packets in their frames, the first with number 0 and the second with number 2: each is a QCIF picture of one header, whose
 /// groups are all left out.
@@ -105,6 +110,161 @@ fn what_the_chair_makes(rt: HostRuntime) -> Result<(), Fail> {
                 bad
             }
         );
+    }
+    Ok(())
+}
+
+/// What a mixer made over two steps of 1 and 2 picture times, at a hall of one lane that holds nothing: where the ticker and the
+/// sink fail, and for so many steps and turns.
+fn mix(
+    rt: &impl Wait,
+    alloc: Global,
+    ticker_fails: u64,
+    sink_fails: u64,
+    limit: u64,
+    turns: u64,
+) -> Result<(MixStop, MixCounts, u64), Fail>
+    requires { (1 ≤ limit) × (limit ≤ 2 ^ 45) × (1 ≤ turns) × (turns ≤ most_turns) }
+{
+    let (lock, seat) = Shared::reserve(alloc, Hall::reserve(alloc, 1, limit)?, turns)?;
+    let settings = Settings {
+        mtu: 1400,
+        ssrc: 7,
+        seq: 65_535,
+        stamp: 0,
+    };
+    let mut mixer = Mixer {
+        seat,
+        writer: PictureWriter::reserve(alloc, settings)?,
+        counts: MixCounts {
+            ticks: 0,
+            taken: 0,
+            packets: 0,
+            octets: 0,
+        },
+    };
+    let mut ticker = MemTicker::new(vec![in alloc; 1, 2]?, vec![in alloc; ticker_fails]?);
+    let mut sink = MemSink::reserve(alloc, 200, vec![in alloc; sink_fails]?, 200)?;
+    let hand = Hand::reserve(alloc)?;
+    let stop = run_mixer(rt, &lock, &mut ticker, &mut sink, &mut mixer, hand);
+    Ok((stop, mixer.counts, sink.bytes().len() as u64))
+}
+
+/// A picture of twelve groups without a macroblock has 32 bits and 12 times 26: 43 octets. It goes in one packet, with 16 octets of
+/// headers and 2 of the frame's length: 61.
+#[test]
+fn what_a_mixer_writes(rt: HostRuntime) -> Result<(), Fail> {
+    for (ticker_fails, sink_fails, limit, turns, stop, ticks, packets, octets) in [
+        (0, 0, 99, 99, MixStop::Whole, 2, 2, 122),
+        // the ticker fails, behind one step
+        (2, 0, 99, 99, MixStop::Ticker, 1, 1, 61),
+        // the sink fails at the second picture, whose tick was made
+        (0, 2, 99, 99, MixStop::Sink, 2, 1, 61),
+        // the second tick is given back, or the end
+        (0, 0, 99, 1, MixStop::Over, 1, 1, 61),
+        (0, 0, 99, 2, MixStop::Over, 2, 2, 122),
+        (0, 0, 1, 99, MixStop::Whole, 1, 1, 61),
+        // the end is given back too, but the ticker or the sink failed first
+        (2, 0, 99, 1, MixStop::Ticker, 1, 1, 61),
+        (0, 1, 99, 1, MixStop::Sink, 1, 0, 0),
+    ] {
+        let ran = mix(&rt, rt.alloc(), ticker_fails, sink_fails, limit, turns)?;
+        let counts = MixCounts {
+            ticks,
+            taken: 0,
+            packets,
+            octets,
+        };
+        assert_eq!(rt; ran, (stop, counts, octets));
+    }
+    Ok(())
+}
+
+/// Two lanes, of which the second is given nothing, a chair of one line, which shows no lane, and two steps of a ticker. So
+/// whenever the calls come, each tick has the same picture.
+fn live(
+    rt: &(impl Threads + Wait + Sync),
+    alloc: Global,
+    octets: usize,
+    ticker_fails: u64,
+    sink_fails: u64,
+    turns: u64,
+) -> Result<ServeEnd<MemSource, MemTicker, MemSink>, Fail>
+    requires { (1 ≤ turns) × (turns ≤ 2 ^ 45) }
+{
+    let mut bytes = Vec::new(alloc);
+    bytes.extend_from_slice(&TWO_PACKETS)?;
+    bytes.truncate(octets);
+    let mut line = Vec::new(alloc);
+    line.extend_from_slice(b"pin 1\n")?;
+    let mut lanes = Vec::new(alloc);
+    lanes.push(MemSource::new(bytes, Vec::new(alloc), 7))?;
+    lanes.push(MemSource::new(Vec::new(alloc), Vec::new(alloc), 7))?;
+    let chair = MemSource::new(line, Vec::new(alloc), 4);
+    let ticker = MemTicker::new(vec![in alloc; 1, 2]?, vec![in alloc; ticker_fails]?);
+    let sink = MemSink::reserve(alloc, 200, vec![in alloc; sink_fails]?, 200)?;
+    let set = Settings {
+        mtu: 1000,
+        seq: 7,
+        stamp: 0,
+        ssrc: 1,
+    };
+    match serve(rt, alloc, lanes, chair, ticker, sink, set, turns) {
+        Ok(end) => Ok(end),
+        Err(_back) => Err(NoMemory)?,
+    }
+}
+
+/// The picture of a tick that takes nothing is one packet of 61 octets, as above.
+#[test]
+fn what_a_live_conference_writes(rt: HostRuntime) -> Result<(), Fail> {
+    for (octets, ticker_fails, sink_fails, stop, ticks, packets, written) in [
+        (44, 0, 0, MixStop::Whole, 2, 2, 122),
+        // a frame of the first lane is cut
+        (30, 0, 0, MixStop::Whole, 2, 2, 122),
+        // the ticker fails, behind one step
+        (44, 2, 0, MixStop::Ticker, 1, 1, 61),
+        // the sink fails at the second picture, whose tick was made
+        (44, 0, 2, MixStop::Sink, 2, 1, 61),
+    ] {
+        let end = live(&rt, rt.alloc(), octets, ticker_fails, sink_fails, 99)?;
+        assert_eq!(rt; end.stop, stop);
+        assert_eq!(rt; end.tally.ticks, ticks);
+        assert_eq!(rt; end.tally.taken, 0);
+        assert_eq!(rt; end.tally.packets, packets);
+        assert_eq!(rt; end.tally.octets, written);
+        assert_eq!(rt; end.sink.bytes().len() as u64, written);
+        // the second lane was given nothing
+        assert_eq!(rt; end.lanes.len(), 2);
+        assert_eq!(rt; end.lanes[1].stop, LaneStop::Whole);
+        assert_eq!(rt; end.lanes[1].counts, Counts { posts: 0, gaps: 0 });
+        // what the first lane posted, and when it was cut off, is up to the threads
+        let first = &end.lanes[0];
+        let whole = first.stop != LaneStop::Ended;
+        let all = if octets == 44 {
+            LaneStop::Whole
+        } else {
+            LaneStop::Cut
+        };
+        let posts = if octets == 44 { 2 } else { 1 };
+        assert!(rt; !whole || first.stop == all);
+        assert!(rt; !whole || first.counts == Counts { posts, gaps: 1 });
+        assert_eq!(rt; end.tally.pictures, first.counts.posts);
+        assert_eq!(rt; end.tally.gaps, first.counts.gaps);
+        assert_eq!(rt; end.tally.commands, end.chair.counts.commands);
+    }
+    Ok(())
+}
+
+/// Two ticks and the end do not fit into two turns.
+#[test]
+fn turns_that_are_too_few(rt: HostRuntime) -> Result<(), Fail> {
+    for turns in [1, 2] {
+        let end = live(&rt, rt.alloc(), 44, 0, 0, turns)?;
+        assert_eq!(rt; end.stop, MixStop::Over);
+        assert_eq!(rt; end.hall.turns, turns);
+        assert_eq!(rt; end.tally.packets, end.tally.ticks);
+        assert_eq!(rt; end.sink.bytes().len() as u64, end.tally.octets);
     }
     Ok(())
 }

@@ -1,11 +1,9 @@
 -- A line more, or none.
-use Rattle.std.proofs.Common.{Result, Ok, Err, sym, subst, ◌∙◌}
+use Rattle.std.proofs.Common.{Result, sym, subst, ◌∙◌}
 use Rattle.hall_core.specs.Hall.{lanes_of}
 use Rattle.bridge_live.specs.declared.ends.ChairStop.{ChairStop}
-use Rattle.bridge_live.specs.declared.lines.Pause.{Pause}
 use Rattle.bridge_live.specs.Hearing.{ChairRounds}
 use Rattle.bridge_live.specs.Posting.{input}
-use Rattle.bridge_live.specs.Reading.{TakesLine}
 use Rattle.bridge_live.proofs.Ordering.{whole-round, pause-round}
 use Rattle.bridge_live.proofs.chair.take_line.Goals as goal
 

@@ -1,7 +1,6 @@
 -- Packet by packet.
-use Rattle.std.proofs.Common.{◌∙◌, refl, arith, ℕ, subst}
+use Rattle.std.proofs.Common.{◌∙◌, refl, arith}
 use Rattle.hall_core.specs.Hall.{lanes_of}
-use Rattle.bridge_live.specs.Lane.{RunsLane}
 use Rattle.bridge_live.specs.Posting.{input}
 use Rattle.bridge_live.proofs.Flowing.{lane-begins}
 use Rattle.bridge_live.proofs.lane.run_lane.Goals as goal

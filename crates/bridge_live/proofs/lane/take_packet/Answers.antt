@@ -1,5 +1,5 @@
 -- A packet more, or the end of the source.
-use Rattle.std.proofs.Common.{ℕ, ◌≤◌, List, length, Result, Ok, Err, sym, subst}
+use Rattle.std.proofs.Common.{◌≤◌, length, Result, sym, subst}
 use Rattle.std.specs.Global.{Box}
 use Rattle.h261_pic.specs.Coded.{Coding}
 use Rattle.hall_core.specs.Hall.{lanes_of}

@@ -1,5 +1,5 @@
 -- The command was made, or given back.
-use Rattle.std.proofs.Common.{refl, ◌∙◌, arith}
+use Rattle.std.proofs.Common.{refl, arith}
 use Rattle.std.proofs.lemmas.Result.{err_from_is_err_and}
 use Rattle.hall_core.specs.Hall.{lanes_of}
 use Rattle.bridge_live.proofs.Ordering.{order-told, order-made, order-back, one-refusal}

@@ -1,6 +1,6 @@
 -- By what the unit is.
 use Rattle.std.proofs.lemmas.Result.{err_from_is_err_and}
-use Rattle.std.proofs.Common.{Option, Some, List, sym, subst}
+use Rattle.std.proofs.Common.{Some, List, sym, subst}
 use Rattle.hall_core.specs.Hall.{lanes_of}
 use Rattle.pel_model.specs.History.{Step}
 use Rattle.rtp_h261.specs.declared.depack.Unit.{Unit as Ending}

@@ -1,11 +1,9 @@
 -- The loss comes before the unit.
 use Rattle.std.proofs.lemmas.Result.{err_from_is_err_and}
-use Rattle.std.proofs.Common.{List, sym, subst}
 use Rattle.std.specs.Global.{Box}
 use Rattle.h261_pic.specs.Coded.{Coding}
 use Rattle.hall_core.specs.Hall.{lanes_of}
-use Rattle.pel_model.specs.History.{Step}
-use Rattle.bridge_live.specs.Posting.{Posts, AreUnitSteps, lost_steps}
+use Rattle.bridge_live.specs.Posting.{lost_steps}
 use Rattle.bridge_live.proofs.Giving.{posts-short, posts-then}
 use Rattle.bridge_live.proofs.lane.Lane.give.Goals as goal
 
