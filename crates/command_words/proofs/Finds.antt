@@ -1,6 +1,7 @@
 -- The words that give options, and what is handed to clap.
 use Rattle.std.proofs.Common.{◌≡◌, ℕ, ◌+◌, ◌<◌, List, [], ◌∷◌, Option, Some, None, Bool, true, false, refl, ap, sym, ◌∙◌, map, drop, length, get_or, cond, add-one, suc, ◌++◌, take, append_assoc, subst, ◌&&◌}
-use Rattle.std.specs.Prelude.{option_map}
+use Rattle.std.specs.Prelude.{option_map, MatchOption}
+use Rattle.std.specs.Str.Pattern.{FindsTextPrefix, LacksTextAt, StripsPrefix}
 use Rattle.std.proofs.Math.Seq.{drop-cons, take-suc}
 use Rattle.std.specs.Borrow.{Bor}
 use Rattle.std.proofs.lemmas.List.{take-append-drop, map-append}
@@ -63,3 +64,12 @@ ordered_more command xs i d old new lt before after =
     ap (λ l. present (texts l)) front ∙ (ap present (map-append (option_map (λ (w : Bor Text). w.now)) (take i xs) (x ∷ []))
     ∙ present-append (texts (take i xs)) (texts (x ∷ []))) in
     after ∙ (ap (λ l. l ++ present (texts (x ∷ []))) before ∙ ap (λ l. command ∷ l) (sym whole))
+
+-- the text behind the start of the word that was found
+pub text_behind : (words : List Text) (start word : Text) (r : Option (Bor Text)) → Some word ≡ find (begins start) words
+    → begins start word ≡ true → MatchOption r (LacksTextAt start word 0) (λ x. StripsPrefix (FindsTextPrefix start) word x.now)
+    → option_map (λ t. t.now) r ≡ option_map (drop (length start)) (find (begins start) words)
+text_behind words start word (Some x) found begun strips =
+    ap Some (strips.2 ∙ ap (λ k. drop k word) strips.1.0) ∙ ap (option_map (drop (length start))) found
+text_behind words start word None found begun lacks =
+    absurd (lacks (drop (length start) word) (sym (begins_is start word begun)))

@@ -2,6 +2,7 @@ pub mod Finds
 pub mod Digits
 pub mod Formats
 pub mod Parsed
+pub mod Parts
 pub mod OneJob
 pub mod Results
 pub mod WorkedWords

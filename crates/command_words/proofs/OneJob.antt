@@ -4,12 +4,13 @@ use Rattle.std.proofs.lemmas.Bool.Decides.{nat_tests}
 use Rattle.pel_model.specs.declared.Format.{Format}
 use Rattle.pel_model.specs.declared.Format.TheVariants.{Qcif, Cif}
 use Rattle.command_words.specs.declared.job.Job.{Job}
-use Rattle.command_words.specs.declared.job.Job.TheVariants.{Replay, Check, Decode, Make}
+use Rattle.command_words.specs.declared.job.Job.TheVariants.{Replay, Check, Decode, Make, Live}
 use Rattle.command_words.specs.declared.job.ReplayOptions.{ReplayOptions}
 use Rattle.command_words.specs.declared.job.FormatOptions.{FormatOptions}
 use Rattle.command_words.specs.declared.job.MakeOptions.{MakeOptions}
+use Rattle.command_words.specs.declared.job.LiveOptions.{LiveOptions}
 use Rattle.command_words.specs.Options.{Text, Number, given, number}
-use Rattle.command_words.specs.Asks.{mtu, ssrc, seq, stamp, seed, ticks, lanes, Asks, OneJob, IsCommand, IsFormat, HasReplay, HasMake, format_name}
+use Rattle.command_words.specs.Asks.{mtu, ssrc, seq, stamp, seed, ticks, lanes, turns, Asks, OneJob, IsCommand, IsFormat, HasReplay, HasMake, HasLive, format_name}
 
 one_number : (words : List Text) (o : Number) (m n : ℕ) → number words o ≡ Some m → number words o ≡ Some n → m ≡ n
 one_number words o m n p q = let e : Some m ≡ Some n = sym p ∙ q in cc
@@ -40,6 +41,23 @@ one_make : (words : List Text) (a b : MakeOptions) → HasMake words a → HasMa
 one_make words a b p q =
     same_make a b (one_number words seed a.seed b.seed p.seed q.seed) (one_number words ticks a.ticks b.ticks p.ticks q.ticks)
     (one_number words lanes a.lanes b.lanes p.lanes q.lanes)
+
+live_of : List Text → Text → ReplayOptions → ℕ → LiveOptions
+live_of a b c d = record { lanes = a; chair = b; packets = c; turns = d }
+
+same_live : (a b : LiveOptions) → a.lanes ≡ b.lanes → a.chair ≡ b.chair → a.packets ≡ b.packets → a.turns ≡ b.turns → a ≡ b
+unfolding live_of
+same_live a b m r q t =
+    ap (λ x. live_of x a.chair a.packets a.turns) m ∙ (ap (λ x. live_of b.lanes x a.packets a.turns) r
+    ∙ (ap (λ x. live_of b.lanes b.chair x a.turns) q ∙ ap (λ x. live_of b.lanes b.chair b.packets x) t))
+
+one_thing : {X : Type 0} (o : Option X) (a b : X) → o ≡ Some a → o ≡ Some b → a ≡ b
+one_thing o a b p q = let e : Some a ≡ Some b = sym p ∙ q in cc
+
+one_live : (words : List Text) (a b : LiveOptions) → HasLive words a → HasLive words b → a ≡ b
+one_live words a b p q =
+    same_live a b (one_thing _ a.lanes b.lanes p.lanes q.lanes) (one_thing _ a.chair b.chair p.chair q.chair)
+    (one_replay words a.packets b.packets p.packets q.packets) (one_number words turns a.turns b.turns p.turns q.turns)
 
 pub one_name : (f g : Format) → format_name f ≡ format_name g → f ≡ g
 one_name Qcif Qcif e = refl
@@ -86,6 +104,9 @@ one_job words (Decode a) (Decode b) p q =
 one_job words (Make a) (Make b) p q =
     let same = one_list words _ _ _ p.0 q.0 p.1 q.1 in
     ap Make (one_make q.0 a b (subst (λ l. HasMake l a) same p.2) q.2)
+one_job words (Live a) (Live b) p q =
+    let same = one_list words _ _ _ p.0 q.0 p.1 q.1 in
+    ap Live (one_live q.0 a b (subst (λ l. HasLive l a) same p.2) q.2)
 one_job words (Replay a) (Check b) p q = absurd (differs (codes "replay") (codes "check") (two_commands words _ _ _ _ p.0 q.0 p.1 q.1) refl)
 one_job words (Replay a) (Decode b) p q = absurd (differs (codes "replay") (codes "decode") (two_commands words _ _ _ _ p.0 q.0 p.1 q.1) refl)
 one_job words (Replay a) (Make b) p q = absurd (differs (codes "replay") (codes "make") (two_commands words _ _ _ _ p.0 q.0 p.1 q.1) refl)
@@ -98,3 +119,11 @@ one_job words (Decode a) (Make b) p q = absurd (differs (codes "decode") (codes 
 one_job words (Make a) (Replay b) p q = absurd (differs (codes "make") (codes "replay") (two_commands words _ _ _ _ p.0 q.0 p.1 q.1) refl)
 one_job words (Make a) (Check b) p q = absurd (differs (codes "make") (codes "check") (two_commands words _ _ _ _ p.0 q.0 p.1 q.1) refl)
 one_job words (Make a) (Decode b) p q = absurd (differs (codes "make") (codes "decode") (two_commands words _ _ _ _ p.0 q.0 p.1 q.1) refl)
+one_job words (Replay a) (Live b) p q = absurd (differs (codes "replay") (codes "live") (two_commands words _ _ _ _ p.0 q.0 p.1 q.1) refl)
+one_job words (Check a) (Live b) p q = absurd (differs (codes "check") (codes "live") (two_commands words _ _ _ _ p.0 q.0 p.1 q.1) refl)
+one_job words (Decode a) (Live b) p q = absurd (differs (codes "decode") (codes "live") (two_commands words _ _ _ _ p.0 q.0 p.1 q.1) refl)
+one_job words (Make a) (Live b) p q = absurd (differs (codes "make") (codes "live") (two_commands words _ _ _ _ p.0 q.0 p.1 q.1) refl)
+one_job words (Live a) (Replay b) p q = absurd (differs (codes "live") (codes "replay") (two_commands words _ _ _ _ p.0 q.0 p.1 q.1) refl)
+one_job words (Live a) (Check b) p q = absurd (differs (codes "live") (codes "check") (two_commands words _ _ _ _ p.0 q.0 p.1 q.1) refl)
+one_job words (Live a) (Decode b) p q = absurd (differs (codes "live") (codes "decode") (two_commands words _ _ _ _ p.0 q.0 p.1 q.1) refl)
+one_job words (Live a) (Make b) p q = absurd (differs (codes "live") (codes "make") (two_commands words _ _ _ _ p.0 q.0 p.1 q.1) refl)

@@ -9,7 +9,7 @@ use Rattle.clap.specs.ValueTests.{accepts}
 use Rattle.clap.specs.declared.error.kind.ErrorKind.{ErrorKind}
 use Rattle.clap.specs.declared.builder.value_parser.ValueParser.{ValueParser}
 use Rattle.clap.specs.declared.builder.value_parser.ValueParser.TheVariants.{Unsigned}
-use Rattle.command_words.specs.Commands.{replay_app, make_app, format_app, replay_words, make_words, format_words}
+use Rattle.command_words.specs.Commands.{replay_app, make_app, turns_app, format_app, replay_words, make_words, turns_words, format_words}
 use Rattle.command_words.specs.Given.{passes}
 
 pub replay_is_simple : is_simple_and_free replay_app ≡ true
@@ -146,3 +146,22 @@ make_clean a b c p =
     (make_read a b c).faults ∙ (or_else-nil _
     ∙ turned_clean (Unsigned 0 4294967295) a _ p.seed (turned_clean (Unsigned 0 1000000) b _ p.ticks
     (turned_clean (Unsigned 1 16) c _ p.lanes refl)))
+
+pub turns_is_simple : is_simple_and_free turns_app ≡ true
+unfolding clap_on_literals
+turns_is_simple = refl
+
+pub record TurnsRead (a : Option Text) : Type 0 where
+  pub faults : fault_of turns_app (turns_words a) ≡ or_else (turned (Unsigned 1 1099511627776) a []) []
+  pub turns : one_of (codes "turns") (matches_of turns_app (turns_words a)) ≡ Some (unwrap_or a (codes "1099511627776"))
+
+pub turns_read : (a : Option Text) → TurnsRead a
+unfolding clap_on_literals
+turns_read None = record { faults = refl; turns = refl }
+turns_read (Some a) = record { faults = refl; turns = refl }
+
+pub turns_passes : (a : Option Text) → fault_of turns_app (turns_words a) ≡ [] → passes (Unsigned 1 1099511627776) a ≡ true
+turns_passes a e = (turned_good (Unsigned 1 1099511627776) a _ (sym (or_else-nil _) ∙ (sym (turns_read a).faults ∙ e))).0
+
+pub turns_clean : (a : Option Text) → passes (Unsigned 1 1099511627776) a ≡ true → fault_of turns_app (turns_words a) ≡ []
+turns_clean a p = (turns_read a).faults ∙ (or_else-nil _ ∙ turned_clean (Unsigned 1 1099511627776) a _ p refl)

@@ -9,24 +9,25 @@ use Rattle.command_words.specs.declared.fault.WordsFault.TheVariants.{Usage, NoM
 use Rattle.command_words.specs.declared.job.ReplayOptions.{ReplayOptions}
 use Rattle.command_words.specs.declared.job.MakeOptions.{MakeOptions}
 use Rattle.command_words.specs.Options.{Text, Number, are_digits, given, number, number_or}
-use Rattle.command_words.specs.Asks.{HasReplay, HasMake, mtu, ssrc, seq, stamp, seed, ticks, lanes}
-use Rattle.command_words.specs.Commands.{replay_app, make_app, replay_words, make_words, present, Parses}
+use Rattle.command_words.specs.Asks.{HasReplay, HasMake, mtu, ssrc, seq, stamp, seed, ticks, lanes, turns}
+use Rattle.command_words.specs.Commands.{replay_app, make_app, turns_app, replay_words, make_words, turns_words, Parses}
 use Rattle.command_words.specs.Given.{has_digits}
-use Rattle.command_words.specs.Answers.{TakesReplay, TakesMake, Refuses, IsReplay, IsMake}
+use Rattle.command_words.specs.Answers.{TakesReplay, TakesMake, TakesTurns, Refuses, IsMake}
+use Rattle.command_words.proofs.Parts.{names_within}
 use Rattle.command_words.proofs.Digits.{number_row, number_taken, number_within}
 use Rattle.pel_model.specs.declared.Format.{Format}
 use Rattle.clap.specs.Words.{first_of}
 use Rattle.command_words.specs.Asks.{Asks, IsInRange, IsFormat, format_name, OneJob}
 use Rattle.command_words.specs.declared.job.Job.{Job}
-use Rattle.command_words.specs.declared.job.Job.TheVariants.{Replay, Check, Decode, Make}
+use Rattle.command_words.specs.declared.job.Job.TheVariants.{Replay, Check, Decode, Make, Live}
 use Rattle.command_words.specs.Commands.{format_app, format_words}
 use Rattle.command_words.specs.Answers.{TakesFormat, IsFormatOption, Answers}
-use Rattle.command_words.specs.Rows.{NumberRow, ReplayRows, MakeRows}
+use Rattle.command_words.specs.Rows.{NumberRow, ReplayRows, MakeRows, TurnsRows}
 use Rattle.clap.specs.Words.{rows_of, found_of}
 use Rattle.clap.specs.declared.parser.matches.ArgMatches.{ArgMatches}
 use Rattle.std.specs.Prelude.{MatchResult}
 use Rattle.command_words.proofs.OneJob.{one_name, one_job}
-use Rattle.command_words.proofs.Parsed.{format_read, replay_read, make_read, replay_passes, replay_clean, make_passes, make_clean}
+use Rattle.command_words.proofs.Parsed.{format_read, replay_read, make_read, replay_passes, replay_clean, make_passes, make_clean, turns_read, turns_passes, turns_clean}
 
 -- what `number` needs of a row, and what it gives
 pub row_digits : (o : Number) (g row : Option Text) → NumberRow o g row → option_map_or are_digits row false ≡ true
@@ -73,22 +74,22 @@ replay_rows words found app rows t is clean read =
     }
 
 pub replay_refused : (words found : List Text) (app : App) → TakesReplay words found → app ≡ replay_app
-    → (fault_of app found ≡ [] → ⊥) → (o : ReplayOptions) → IsReplay words o → ⊥
+    → (fault_of app found ≡ [] → ⊥) → (o : ReplayOptions) → HasReplay words o → ⊥
 replay_refused words found app t is faulty o asked =
     let a = given words (codes "mtu") in
     let b = given words (codes "ssrc") in
     let c = given words (codes "seq") in
     let d = given words (codes "stamp") in
     let clean = replay_clean a b c d (record {
-      mtu = (number_taken mtu a o.mtu asked.1.mtu).1;
-      ssrc = (number_taken ssrc b o.ssrc asked.1.ssrc).1;
-      seq = (number_taken seq c o.seq asked.1.seq).1;
-      stamp = (number_taken stamp d o.stamp asked.1.stamp).1;
+      mtu = (number_taken mtu a o.mtu asked.mtu).1;
+      ssrc = (number_taken ssrc b o.ssrc asked.ssrc).1;
+      seq = (number_taken seq c o.seq asked.seq).1;
+      stamp = (number_taken stamp d o.stamp asked.stamp).1;
     }) in
     faulty (subst (λ x. fault_of x found ≡ []) (sym is) (subst (λ x. fault_of replay_app x ≡ []) (sym t.found) clean))
 
 pub replay_fails : (words found : List Text) (app : App) (e : WordsFault) → TakesReplay words found → app ≡ replay_app
-    → Parses app found (Err e) → Refuses (IsReplay words) e
+    → Parses app found (Err e) → Refuses (HasReplay words) e
 replay_fails words found app NoMemory t is p = tt
 replay_fails words found app Usage t is p = replay_refused words found app t is p
 
@@ -128,8 +129,38 @@ pub make_fails : (words found : List Text) (app : App) (e : WordsFault) → Take
 make_fails words found app NoMemory t is p = tt
 make_fails words found app Usage t is p = make_refused words found app t is p
 
+pub turns_rows : (words found : List Text) (app : App) (rows : List Row) → TakesTurns words found → app ≡ turns_app
+    → fault_of app found ≡ [] → rows ≡ matches_of app found → TurnsRows words rows
+turns_rows words found app rows t is clean read =
+    let a = given words (codes "turns") in
+    let fault : fault_of turns_app (turns_words a) ≡ [] =
+    subst (λ x. fault_of x (turns_words a) ≡ []) is (subst (λ x. fault_of app x ≡ []) t.found clean) in
+    let row : rows ≡ matches_of turns_app (turns_words a) =
+    subst (λ x. rows ≡ matches_of x (turns_words a)) is (subst (λ x. rows ≡ matches_of app x) t.found read) in
+    record {
+      turns = number_row turns (codes "1099511627776") a _ (ap (one_of (codes "turns")) row ∙ (turns_read a).turns) refl refl refl refl t.turns
+          (turns_passes a fault);
+    }
+
+pub turns_refused : (words found : List Text) (app : App) → TakesTurns words found → app ≡ turns_app
+    → (fault_of app found ≡ [] → ⊥) → (n : ℕ) → number words turns ≡ Some n → ⊥
+turns_refused words found app t is faulty n asked =
+    let a = given words (codes "turns") in
+    let clean = turns_clean a (number_taken turns a n asked).1 in
+    faulty (subst (λ x. fault_of x found ≡ []) (sym is) (subst (λ x. fault_of turns_app x ≡ []) (sym t.found) clean))
+
+turns_fails : (words found : List Text) (app : App) (e : WordsFault) → TakesTurns words found → app ≡ turns_app
+    → Parses app found (Err e) → Refuses (λ n. number words turns ≡ Some n) e
+turns_fails words found app NoMemory t is p = tt
+turns_fails words found app Usage t is p = turns_refused words found app t is p
+
+pub parses_turns : (words handed : List Text) (app : App) (r : Result ArgMatches WordsFault) → TakesTurns words handed → app ≡ turns_app
+    → Parses app handed r → MatchResult r (λ m. TurnsRows words (rows_of (found_of m))) (Refuses (λ n. number words turns ≡ Some n))
+parses_turns words handed app (Ok m) t is p = turns_rows words handed app (rows_of (found_of m)) t is p.0 p.1
+parses_turns words handed app (Err e) t is p = turns_fails words handed app e t is p
+
 pub parses_replay : (words handed : List Text) (app : App) (r : Result ArgMatches WordsFault) → TakesReplay words handed → app ≡ replay_app
-    → Parses app handed r → MatchResult r (λ m. ReplayRows words (rows_of (found_of m))) (Refuses (IsReplay words))
+    → Parses app handed r → MatchResult r (λ m. ReplayRows words (rows_of (found_of m))) (Refuses (HasReplay words))
 parses_replay words handed app (Ok m) t is p = replay_rows words handed app (rows_of (found_of m)) t is p.0 p.1
 parses_replay words handed app (Err e) t is p = replay_fails words handed app e t is p
 
@@ -173,6 +204,11 @@ in_range words (Make o) a =
     let few = number_within ticks (given a.0 (codes "ticks")) o.ticks refl refl a.2.ticks in
     let some = number_within lanes (given a.0 (codes "lanes")) o.lanes refl refl a.2.lanes in
     (few.1, some.0, some.1)
+in_range words (Live o) a =
+    let lanes = names_within (given a.0 (codes "lanes")) o.lanes a.2.lanes in
+    let octets = number_within mtu (given a.0 (codes "mtu")) o.packets.mtu refl refl a.2.packets.mtu in
+    let most = number_within turns (given a.0 (codes "turns")) o.turns refl refl a.2.turns in
+    (lanes.0, lanes.1, octets.0, octets.1, most.0, most.1)
 
 -- what `read_words` promises, by what it answers
 pub ok_asks : (words : List Text) (r : Result Job WordsFault) → Answers words r → IfOk r (λ job. Asks words job)

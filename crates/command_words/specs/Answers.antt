@@ -8,11 +8,12 @@ use Rattle.command_words.specs.declared.help.Command.{Command}
 use Rattle.command_words.specs.declared.help.Command.TheVariants as command
 use Rattle.command_words.specs.declared.job.Job.{Job}
 use Rattle.command_words.specs.Options.{Text, are_options, given}
-use Rattle.command_words.specs.Asks.{Asks, HasReplay, HasMake, IsFormat, replay_names, make_names, format_names, format_name}
-use Rattle.command_words.specs.Commands.{replay_words, make_words, format_words}
+use Rattle.command_words.specs.Asks.{Asks, HasReplay, HasMake, HasLive, IsFormat, replay_names, make_names, format_names, live_names, format_name}
+use Rattle.command_words.specs.Commands.{replay_words, make_words, format_words, turns_words}
 use Rattle.command_words.specs.Given.{has_digits}
 use Rattle.command_words.specs.declared.job.ReplayOptions.{ReplayOptions}
 use Rattle.command_words.specs.declared.job.MakeOptions.{MakeOptions}
+use Rattle.command_words.specs.declared.job.LiveOptions.{LiveOptions}
 
 -- the command's name
 abbrev pub command_name : Command → Text
@@ -20,16 +21,20 @@ command_name command.Replay = codes "replay"
 command_name command.Check = codes "check"
 command_name command.Decode = codes "decode"
 command_name command.Make = codes "make"
+command_name command.Live = codes "live"
 
--- the options are well formed, and so are their numbers; these words go to `clap`
+-- the numbers of the options are well formed, and the options are where they are all; these words go to `clap`
 pub record TakesReplay (words : List Text) (handed : List Text) : Type 0 where
-  pub formed : are_options replay_names words ≡ true
   pub mtu : has_digits (given words (codes "mtu")) ≡ true
   pub ssrc : has_digits (given words (codes "ssrc")) ≡ true
   pub seq : has_digits (given words (codes "seq")) ≡ true
   pub stamp : has_digits (given words (codes "stamp")) ≡ true
   pub found : handed ≡ replay_words (given words (codes "mtu")) (given words (codes "ssrc"))
       (given words (codes "seq")) (given words (codes "stamp"))
+
+pub record TakesTurns (words : List Text) (handed : List Text) : Type 0 where
+  pub turns : has_digits (given words (codes "turns")) ≡ true
+  pub found : handed ≡ turns_words (given words (codes "turns"))
 
 pub record TakesMake (words : List Text) (handed : List Text) : Type 0 where
   pub formed : are_options make_names words ≡ true
@@ -50,6 +55,9 @@ Refuses {O} Has Usage = (o : O) → Has o → ⊥
 
 abbrev pub IsReplay : List Text → ReplayOptions → Type 0
 IsReplay words o = (are_options replay_names words ≡ true) × HasReplay words o
+
+abbrev pub IsLive : List Text → LiveOptions → Type 0
+IsLive words o = (are_options live_names words ≡ true) × HasLive words o
 
 abbrev pub IsMake : List Text → MakeOptions → Type 0
 IsMake words o = (are_options make_names words ≡ true) × HasMake words o

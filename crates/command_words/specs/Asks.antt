@@ -1,12 +1,14 @@
 -- Which words ask for which job. The words are those after the program's name: a command, and then its options.
-use Rattle.std.specs.Prelude.{◌≡◌, ◌≤◌, ℕ, Bool, true, Option, Some, None, List, [], ◌∷◌, codes}
+use Rattle.std.specs.Prelude.{◌≡◌, ◌≤◌, ℕ, Bool, true, Option, Some, None, List, [], ◌∷◌, codes, length}
 use Rattle.pel_model.specs.declared.Format.{Format}
 use Rattle.pel_model.specs.declared.Format.TheVariants.{Qcif, Cif}
 use Rattle.command_words.specs.declared.job.Job.{Job}
-use Rattle.command_words.specs.declared.job.Job.TheVariants.{Replay, Check, Decode, Make}
+use Rattle.command_words.specs.declared.job.Job.TheVariants.{Replay, Check, Decode, Make, Live}
 use Rattle.command_words.specs.declared.job.ReplayOptions.{ReplayOptions}
 use Rattle.command_words.specs.declared.job.MakeOptions.{MakeOptions}
+use Rattle.command_words.specs.declared.job.LiveOptions.{LiveOptions}
 use Rattle.command_words.specs.Options.{Text, Number, are_options, given, number}
+use Rattle.command_words.specs.Names.{name, names}
 
 abbrev pub number_option : Text → ℕ → ℕ → ℕ → Number
 number_option name low high otherwise =
@@ -35,6 +37,10 @@ ticks = number_option (codes "ticks") 0 1000000 100
 abbrev pub lanes : Number
 lanes = number_option (codes "lanes") 1 16 4
 
+-- the most turns of a live conference
+abbrev pub turns : Number
+turns = number_option (codes "turns") 1 1099511627776 1099511627776
+
 abbrev pub replay_names : List Text
 replay_names = codes "mtu" ∷ codes "ssrc" ∷ codes "seq" ∷ codes "stamp" ∷ []
 
@@ -43,6 +49,10 @@ format_names = codes "format" ∷ []
 
 abbrev pub make_names : List Text
 make_names = codes "seed" ∷ codes "ticks" ∷ codes "lanes" ∷ []
+
+abbrev pub live_names : List Text
+live_names =
+    codes "lanes" ∷ codes "chair" ∷ codes "mtu" ∷ codes "ssrc" ∷ codes "seq" ∷ codes "stamp" ∷ codes "turns" ∷ []
 
 -- the words are the command and options of these names
 pub record IsCommand (words : List Text) (command : Text) (names : List Text) (options : List Text) : Type 0 where
@@ -59,6 +69,13 @@ pub record HasMake (words : List Text) (o : MakeOptions) : Type 0 where
   pub seed : number words seed ≡ Some o.seed
   pub ticks : number words ticks ≡ Some o.ticks
   pub lanes : number words lanes ≡ Some o.lanes
+
+-- the names of the lanes and of the chair have to be given
+pub record HasLive (words : List Text) (o : LiveOptions) : Type 0 where
+  pub lanes : names words (codes "lanes") ≡ Some o.lanes
+  pub chair : name words (codes "chair") ≡ Some o.chair
+  pub packets : HasReplay words o.packets
+  pub turns : number words turns ≡ Some o.turns
 
 abbrev pub format_name : Format → Text
 format_name Qcif = codes "qcif"
@@ -81,13 +98,18 @@ Asks words (Decode o) =
     × IsFormat Cif (given options (codes "format")) o.format
 Asks words (Make o) =
     (options : List Text) × IsCommand words (codes "make") make_names options × HasMake options o
+Asks words (Live o) =
+    (options : List Text) × IsCommand words (codes "live") live_names options × HasLive options o
 
--- what the numbers of a job are known to be
+-- what the numbers and the names of a job are known to be
 abbrev pub IsInRange : Job → Type 0
 IsInRange (Replay o) = (1000 ≤ o.mtu) × (o.mtu ≤ 9000)
 IsInRange (Check o) = Unit {0}
 IsInRange (Decode o) = Unit {0}
 IsInRange (Make o) = (o.ticks ≤ 1000000) × (1 ≤ o.lanes) × (o.lanes ≤ 16)
+IsInRange (Live o) =
+    (1 ≤ length o.lanes) × (length o.lanes ≤ 16) × (1000 ≤ o.packets.mtu) × (o.packets.mtu ≤ 9000)
+    × (1 ≤ o.turns) × (o.turns ≤ 1099511627776)
 
 -- words ask for at most one job
 abbrev pub OneJob : Type 0

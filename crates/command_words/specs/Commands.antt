@@ -24,6 +24,10 @@ replay_app = with_rule (with_rule (with_rule (with_rule (new_app (codes "replay"
     (number_rule (codes "seq") 0 65535 (codes "0")))
     (number_rule (codes "stamp") 0 4294967295 (codes "0"))
 
+-- the options of `live` that `replay` has too are read as those of `replay`
+abbrev pub turns_app : App
+turns_app = with_rule (new_app (codes "live")) (number_rule (codes "turns") 1 1099511627776 (codes "1099511627776"))
+
 abbrev pub make_app : App
 make_app = with_rule (with_rule (with_rule (new_app (codes "make"))
     (number_rule (codes "seed") 0 4294967295 (codes "1")))
@@ -57,6 +61,9 @@ abbrev pub replay_words : (mtu ssrc seq stamp : Option Text) → List Text
 replay_words mtu ssrc seq stamp =
     codes "replay" ∷ present (word_of (codes "mtu") mtu ∷ word_of (codes "ssrc") ssrc
     ∷ word_of (codes "seq") seq ∷ word_of (codes "stamp") stamp ∷ [])
+
+abbrev pub turns_words : Option Text → List Text
+turns_words turns = codes "live" ∷ present (word_of (codes "turns") turns ∷ [])
 
 abbrev pub make_words : (seed ticks lanes : Option Text) → List Text
 make_words seed ticks lanes =

@@ -4,7 +4,7 @@ use Rattle.std.specs.Prelude.{◌≡◌, ◌≤◌, true, Option, Some, List, co
 use Rattle.std.specs.Str.Parse.{digits_value}
 use Rattle.clap.specs.Words.{Row, one_of}
 use Rattle.command_words.specs.Options.{Text, Number, are_digits, given, number_or}
-use Rattle.command_words.specs.Asks.{mtu, ssrc, seq, stamp, seed, ticks, lanes}
+use Rattle.command_words.specs.Asks.{mtu, ssrc, seq, stamp, seed, ticks, lanes, turns}
 
 -- the row of an option has the text of its number, by what is given to it
 pub record NumberRow (o : Number) (g : Option Text) (row : Option Text) : Type 0 where
@@ -25,3 +25,6 @@ pub record MakeRows (words : List Text) (rows : List Row) : Type 0 where
   pub seed : NumberRow seed (given words (codes "seed")) (one_of (codes "seed") rows)
   pub ticks : NumberRow ticks (given words (codes "ticks")) (one_of (codes "ticks") rows)
   pub lanes : NumberRow lanes (given words (codes "lanes")) (one_of (codes "lanes") rows)
+
+pub record TurnsRows (words : List Text) (rows : List Row) : Type 0 where
+  pub turns : NumberRow turns (given words (codes "turns")) (one_of (codes "turns") rows)

@@ -7,11 +7,11 @@ ghost use Rattle.clap.specs.Words.{app_of, rule_of, rows_of, found_of, one_of, f
 ghost use Rattle.pel_model.specs.declared.Format.{Format};
 ghost use Rattle.command_words.specs.Options.{are_digits};
 ghost use Rattle.command_words.specs.Asks.{format_name};
-ghost use Rattle.command_words.specs.Commands.{number_rule, replay_app, make_app, format_app, present, Parses};
+ghost use Rattle.command_words.specs.Commands.{number_rule, replay_app, turns_app, make_app, format_app, present, Parses};
 
 use crate::fault::WordsFault;
 use crate::table::{
-    FORMAT_NAME, FormatOption, LANES, MTU, NumberOption, SEED, SEQ, SSRC, STAMP, TICKS,
+    FORMAT_NAME, FormatOption, LANES, MTU, NumberOption, SEED, SEQ, SSRC, STAMP, TICKS, TURNS,
 };
 use clap::builder::ValueParser;
 use clap::error::ErrorKind;
@@ -40,6 +40,13 @@ pub fn replay_command<'a>(alloc: Global) -> Result<Command<'a>, AllocError>
         .arg(number_argument(alloc, &SSRC))?
         .arg(number_argument(alloc, &SEQ))?
         .arg(number_argument(alloc, &STAMP))
+}
+
+/// The command `live` as `clap` reads it: the option that `replay` has not. Names are read by our own code.
+pub fn turns_command<'a>(alloc: Global) -> Result<Command<'a>, AllocError>
+    ensures { IfOk result (λ c. app_of c ≡ turns_app) }
+{
+    Command::new(alloc, "live").arg(number_argument(alloc, &TURNS))
 }
 
 /// The command `make` as `clap` reads it.

@@ -1,6 +1,6 @@
 //! The words that give options: whether they are well formed, and the word of one option.
 
-ghost use Rattle.std.specs.Prelude.{◌≡◌, ◌≤◌, ◌&&◌, true, nat_le, map, length, find, count_by, option_map, string_bytes, IsTrue, IfSome};
+ghost use Rattle.std.specs.Prelude.{◌≡◌, ◌≤◌, ◌&&◌, true, nat_le, drop, map, length, find, count_by, option_map, string_bytes, IsTrue, IfSome};
 ghost use Rattle.std.specs.List.{list_all, list_any};
 ghost use Rattle.std.specs.Char.{is_ascii_digit};
 ghost use Rattle.command_words.specs.Options.{begins, start_of, are_digits, given};
@@ -71,6 +71,15 @@ pub fn find_word<'a>(words: &'a [String], start: &str) -> Option<&'a str>
         }
     }
     None
+}
+
+/// What the words give to the option that begins so.
+pub fn text_of<'a>(words: &'a [String], start: &str) -> Option<&'a str>
+    ensures { option_map (λ t. t.now) result
+        ≡ option_map (drop (length start.now)) (find (begins start.now) (map string_bytes words.now)) }
+{
+    let word = find_word(words, start)?;
+    word.strip_prefix(start)
 }
 
 /// Whether all bytes are decimal digits.

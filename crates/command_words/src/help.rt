@@ -1,8 +1,8 @@
 //! What a person is told of a command. Its options come from the table that the words are read by.
 
 use crate::table::{
-    CHECK_FORMAT, DECODE_FORMAT, FORMAT_START, FormatOption, LANES, MTU, NumberOption, SEED, SEQ,
-    SSRC, STAMP, TICKS,
+    CHAIR_NAME, CHECK_FORMAT, DECODE_FORMAT, FORMAT_START, FormatOption, LANE_NAMES, LANES, MTU,
+    NameOption, NumberOption, SEED, SEQ, SSRC, STAMP, TICKS, TURNS,
 };
 use std::fmt::{Display, Formatter, Result, Write};
 
@@ -14,6 +14,7 @@ pub enum Command {
     Check,
     Decode,
     Make,
+    Live,
 }
 
 impl Command {
@@ -24,6 +25,7 @@ impl Command {
             Command::Check => "check",
             Command::Decode => "decode",
             Command::Make => "make",
+            Command::Live => "live",
         }
     }
 
@@ -37,6 +39,9 @@ impl Command {
             Command::Decode => "decodes the pictures of framed RTP packets into planes of samples",
             Command::Make =>
                 "makes a conference file, the same for the same options; it reads nothing",
+            Command::Live =>
+                "composes lanes of framed RTP packets while they come into framed RTP packets; the lines of standard \
+                input are the steps of its ticks, 1 to 31",
         }
     }
 
@@ -47,6 +52,8 @@ impl Command {
             Command::Check => "bridge_cli check --format=cif < call.rtp",
             Command::Decode => "bridge_cli decode < call.rtp > call.yuv",
             Command::Make => "bridge_cli make --ticks=25 --lanes=2 > call.conf",
+            Command::Live =>
+                "bridge_cli live --lanes=anna.rtp,bert.rtp --chair=chair.txt < ticks.txt > call.rtp",
         }
     }
 }
@@ -62,6 +69,15 @@ impl Display for NumberOption {
             f,
             "  {start}N  {about}: {low} to {high}, {otherwise} if not given"
         )
+    }
+}
+
+impl Display for NameOption {
+    fn fmt<W: Write>(&self, f: &mut Formatter<W>) -> Result {
+        let start = self.start;
+        let value = self.value;
+        let about = self.about;
+        writeln!(f, "  {start}{value}  {about}; it has to be given")
     }
 }
 
@@ -87,6 +103,7 @@ impl Display for Command {
             Command::Check => write!(f, "{CHECK_FORMAT}")?,
             Command::Decode => write!(f, "{DECODE_FORMAT}")?,
             Command::Make => write!(f, "{SEED}{TICKS}{LANES}")?,
+            Command::Live => write!(f, "{LANE_NAMES}{CHAIR_NAME}{MTU}{SSRC}{SEQ}{STAMP}{TURNS}")?,
         }
         writeln!(f, "  example: {example}")
     }

@@ -1,10 +1,11 @@
 //! The jobs that words ask for.
 
+use crate::names::{Name, Names};
 use pel_model::Format;
 
 /// A job and its options.
-#[derive(Clone, Copy, Debug, PartialEq, Eq)]
-pub enum Job {
+#[derive(Debug, Drop)]
+pub enum Job<'a> {
     /// A conference file is composed into framed packets.
     Replay(ReplayOptions),
     /// The pictures of framed packets are reported.
@@ -13,6 +14,8 @@ pub enum Job {
     Decode(FormatOptions),
     /// A conference file is made.
     Make(MakeOptions),
+    /// A conference is composed while it is held.
+    Live(LiveOptions<'a>),
 }
 
 /// How packets are written.
@@ -43,4 +46,16 @@ pub struct MakeOptions {
     pub ticks: u32,
     /// The number of lanes, 1 to 16.
     pub lanes: u8,
+}
+
+/// Where a live conference comes from, how its packets are written, and how long it may be.
+#[derive(Debug, Drop)]
+pub struct LiveOptions<'a> {
+    /// The names of the lanes, 1 to 16.
+    pub lanes: Names<'a>,
+    /// The name of what the chair's lines come from.
+    pub chair: Name<'a>,
+    pub packets: ReplayOptions,
+    /// The most turns of lanes, chair and ticks together, 1 to 1,099,511,627,776.
+    pub turns: u64,
 }

@@ -7,6 +7,8 @@ mod given;
 mod help;
 mod job;
 mod laws;
+mod live;
+mod names;
 mod reader;
 mod table;
 #[cfg(test)]
@@ -14,7 +16,8 @@ mod tests;
 
 pub use fault::WordsFault;
 pub use help::Command;
-pub use job::{FormatOptions, Job, MakeOptions, ReplayOptions};
+pub use job::{FormatOptions, Job, LiveOptions, MakeOptions, ReplayOptions};
 pub use laws::one_job;
+pub use names::{Name, Names};
 pub use pel_model::Format;
 pub use reader::read_words;

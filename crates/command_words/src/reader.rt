@@ -5,7 +5,7 @@ ghost use Rattle.pel_model.specs.declared.Format.{Format};
 ghost use Rattle.command_words.specs.declared.fault.WordsFault.{WordsFault};
 ghost use Rattle.command_words.specs.declared.help.Command.{Command};
 ghost use Rattle.command_words.specs.declared.job.Job.{Job};
-ghost use Rattle.command_words.specs.Asks.{Asks, IsInRange, format_name};
+ghost use Rattle.command_words.specs.Asks.{Asks, HasReplay, IsInRange, format_name};
 ghost use Rattle.clap.specs.Words.{rows_of, found_of, first_of};
 ghost use Rattle.command_words.specs.Options.{Text, given};
 ghost use Rattle.command_words.specs.Rows.{ReplayRows, MakeRows};
@@ -18,6 +18,7 @@ use crate::fault::WordsFault;
 use crate::given::{are_options, digits_of, find_word};
 use crate::help::Command;
 use crate::job::{FormatOptions, Job, MakeOptions, ReplayOptions};
+use crate::live::read_live;
 use crate::table::{
     CHECK_FORMAT, DECODE_FORMAT, FORMAT_START, FormatOption, LANES, MTU, SEED, SEQ, SSRC, STAMP,
     TICKS,
@@ -26,17 +27,13 @@ use clap::ArgMatches;
 use pel_model::Format;
 use std::alloc::Global;
 
-/// The words of `replay` as `clap` is handed them.
-fn replay_words<'a>(alloc: Global, words: &'a [String]) -> Result<Vec<&'a str>, WordsFault>
+/// The words of the options of `replay`, which `live` has too, as `clap` is handed them.
+fn packing_words<'a>(alloc: Global, words: &'a [String]) -> Result<Vec<&'a str>, WordsFault>
     ensures { let texts = map string_bytes words.now in
         MatchResult result
         (λ v. TakesReplay texts (map (λ w. w.now) v.items))
-        (λ e. Refuses (IsReplay texts) e) }
+        (λ e. Refuses (HasReplay texts) e) }
 {
-    let starts = [MTU.start, SSRC.start, SEQ.start, STAMP.start];
-    if !are_options(&starts, words) {
-        return Err(WordsFault::Usage);
-    }
     let mtu = digits_of(words, &MTU)?;
     let ssrc = digits_of(words, &SSRC)?;
     let seq = digits_of(words, &SEQ)?;
@@ -45,13 +42,28 @@ fn replay_words<'a>(alloc: Global, words: &'a [String]) -> Result<Vec<&'a str>, 
     Ok(ordered)
 }
 
-/// What `clap` finds in the words of `replay`.
-fn replay_matches<'a>(alloc: Global, ordered: &'a [&'a str]) -> Result<ArgMatches<'a>, WordsFault>
+/// What `clap` finds in them.
+fn packing_matches<'a>(alloc: Global, ordered: &'a [&'a str]) -> Result<ArgMatches<'a>, WordsFault>
     ensures { (words : List Text) → TakesReplay words (map (λ w. w.now) ordered.entry.now) →
-        MatchResult result (λ m. ReplayRows words (rows_of (found_of m))) (Refuses (IsReplay words)) }
+        MatchResult result (λ m. ReplayRows words (rows_of (found_of m))) (Refuses (HasReplay words)) }
 {
     let command = replay_command(alloc)?;
     parse(command, ordered)
+}
+
+/// How packets are written, by the options of `replay`. Other words may stand among them.
+pub fn read_packing(alloc: Global, words: &[String]) -> Result<ReplayOptions, WordsFault>
+    ensures { let texts = map string_bytes words.now in
+        MatchResult result (HasReplay texts) (Refuses (HasReplay texts)) }
+{
+    let ordered = packing_words(alloc, words)?;
+    let matches = packing_matches(alloc, ordered.as_slice())?;
+    Ok(ReplayOptions {
+        mtu: number(&matches, &MTU) as u16,
+        ssrc: number(&matches, &SSRC) as u32,
+        seq: number(&matches, &SEQ) as u16,
+        stamp: number(&matches, &STAMP) as u32,
+    })
 }
 
 /// The options of `replay`.
@@ -59,14 +71,11 @@ fn read_replay(alloc: Global, words: &[String]) -> Result<ReplayOptions, WordsFa
     ensures { let texts = map string_bytes words.now in
         MatchResult result (IsReplay texts) (Refuses (IsReplay texts)) }
 {
-    let ordered = replay_words(alloc, words)?;
-    let matches = replay_matches(alloc, ordered.as_slice())?;
-    Ok(ReplayOptions {
-        mtu: number(&matches, &MTU) as u16,
-        ssrc: number(&matches, &SSRC) as u32,
-        seq: number(&matches, &SEQ) as u16,
-        stamp: number(&matches, &STAMP) as u32,
-    })
+    let starts = [MTU.start, SSRC.start, SEQ.start, STAMP.start];
+    if !are_options(&starts, words) {
+        return Err(WordsFault::Usage);
+    }
+    read_packing(alloc, words)
 }
 
 /// The words of `make` as `clap` is handed them.
@@ -171,26 +180,32 @@ fn command_named(name: &str) -> Option<Command>
         Some(Command::Decode)
     } else if name.as_bytes() == "make".as_bytes() {
         Some(Command::Make)
+    } else if name.as_bytes() == "live".as_bytes() {
+        Some(Command::Live)
     } else {
         None
     }
 }
 
 /// The job of a command with these options.
-fn read_options(alloc: Global, command: Command, options: &[String]) -> Result<Job, WordsFault>
+fn read_options<'a>(
+    alloc: Global,
+    command: Command,
+    options: &'a [String],
+) -> Result<Job<'a>, WordsFault>
     ensures { Answers (command_name command ∷ map string_bytes options.now) result }
 {
-    let job = match command {
-        Command::Replay => Job::Replay(read_replay(alloc, options)?),
-        Command::Check => Job::Check(read_format(alloc, &CHECK_FORMAT, options)?),
-        Command::Decode => Job::Decode(read_format(alloc, &DECODE_FORMAT, options)?),
-        Command::Make => Job::Make(read_make(alloc, options)?),
-    };
-    Ok(job)
+    match command {
+        Command::Replay => Ok(Job::Replay(read_replay(alloc, options)?)),
+        Command::Check => Ok(Job::Check(read_format(alloc, &CHECK_FORMAT, options)?)),
+        Command::Decode => Ok(Job::Decode(read_format(alloc, &DECODE_FORMAT, options)?)),
+        Command::Make => Ok(Job::Make(read_make(alloc, options)?)),
+        Command::Live => Ok(Job::Live(read_live(alloc, options)?)),
+    }
 }
 
 /// The job of a command and its options.
-fn read_job(alloc: Global, words: &[String]) -> Result<Job, WordsFault>
+fn read_job<'a>(alloc: Global, words: &'a [String]) -> Result<Job<'a>, WordsFault>
     ensures { Answers (map string_bytes words.now) result }
 {
     match words.split_first() {
@@ -204,7 +219,7 @@ fn read_job(alloc: Global, words: &[String]) -> Result<Job, WordsFault>
 
 /// The job that the words after the program's name ask for: a command, and then its options, words `--name=value` in any
 /// order, each at most once. Numbers are one to thirteen digits. `Usage` says that the words ask for no job.
-pub fn read_words(alloc: Global, words: &[String]) -> Result<Job, WordsFault>
+pub fn read_words<'a>(alloc: Global, words: &'a [String]) -> Result<Job<'a>, WordsFault>
     ensures asks { IfOk result (λ job. Asks (map string_bytes words.now) job) }
     ensures ranges { IfOk result IsInRange }
     ensures usage { (job : Job) → Asks (map string_bytes words.now) job → result ≡ Err WordsFault.Usage → ⊥ }

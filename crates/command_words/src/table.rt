@@ -101,3 +101,39 @@ pub const DECODE_FORMAT: FormatOption = FormatOption {
     otherwise: "cif",
     about: "format of the pictures",
 };
+
+/// The most turns of a live conference.
+pub const TURNS: NumberOption = NumberOption {
+    name: "turns",
+    start: "--turns=",
+    low: 1,
+    high: 1_099_511_627_776,
+    otherwise: "1099511627776",
+    about: "most turns of lanes, chair and ticks together",
+};
+
+/// An option whose value is a name, or names with commas between. The words have to give it.
+#[derive(Clone, Copy)]
+pub struct NameOption {
+    /// How a word begins that gives it: its name between `--` and `=`.
+    pub start: &'static str,
+    /// What stands behind that, for a person.
+    pub value: &'static str,
+    /// What it is, for a person.
+    pub about: &'static str,
+}
+
+/// The most names of lanes.
+pub const MOST_LANES: usize = 16;
+
+pub const LANE_NAMES: NameOption = NameOption {
+    start: "--lanes=",
+    value: "FILE,..",
+    about: "files of framed packets, one for each lane, 1 to 16",
+};
+
+pub const CHAIR_NAME: NameOption = NameOption {
+    start: "--chair=",
+    value: "FILE",
+    about: "file of the chair's lines",
+};

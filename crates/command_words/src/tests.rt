@@ -14,53 +14,136 @@ fn words(alloc: Global, line: &str) -> Result<Vec<String>, AllocError> {
     Ok(words)
 }
 
-// The job of `replay` with these options.
-fn replayed(mtu: u16, ssrc: u32, seq: u16, stamp: u32) -> Job {
-    Job::Replay(ReplayOptions {
-        mtu,
-        ssrc,
-        seq,
-        stamp,
-    })
-}
-
-// The job of `make` with these options.
-fn made(seed: u32, ticks: u32, lanes: u8) -> Job {
-    Job::Make(MakeOptions { seed, ticks, lanes })
-}
-
-const QCIF: FormatOptions = FormatOptions {
-    format: Format::Qcif,
+const REPLAY: ReplayOptions = ReplayOptions {
+    mtu: 1_400,
+    ssrc: 1_211_250_225,
+    seq: 0,
+    stamp: 0,
 };
 
-const CIF: FormatOptions = FormatOptions {
-    format: Format::Cif,
+const MAKE: MakeOptions = MakeOptions {
+    seed: 1,
+    ticks: 100,
+    lanes: 4,
 };
 
 #[test]
-fn words_that_ask_for_a_job(rt: HostRuntime) -> Result<(), Fail> {
+fn options_of_replay(rt: HostRuntime) -> Result<(), Fail> {
     let rows = [
-        ("replay", replayed(1_400, 1_211_250_225, 0, 0)),
-        ("replay --mtu=1000", replayed(1_000, 1_211_250_225, 0, 0)),
+        ("replay", REPLAY),
+        (
+            "replay --mtu=1000",
+            ReplayOptions {
+                mtu: 1_000,
+                ..REPLAY
+            },
+        ),
         (
             "replay --stamp=4294967295 --seq=65535 --ssrc=7 --mtu=0000000009000",
-            replayed(9_000, 7, 65_535, 4_294_967_295),
+            ReplayOptions {
+                mtu: 9_000,
+                ssrc: 7,
+                seq: 65_535,
+                stamp: 4_294_967_295,
+            },
         ),
-        ("check", Job::Check(QCIF)),
-        ("check --format=cif", Job::Check(CIF)),
-        ("decode", Job::Decode(CIF)),
-        ("decode --format=qcif", Job::Decode(QCIF)),
-        ("make", made(1, 100, 4)),
-        ("make --lanes=1 --ticks=0", made(1, 0, 1)),
     ];
-    for (line, job) in rows {
+    for (line, options) in rows {
         let words = words(rt.alloc(), line)?;
-        assert!(rt;
-            read_words(rt.alloc(), words.as_slice()) == Ok(job),
-            "{line}"
-        );
+        match read_words(rt.alloc(), words.as_slice()) {
+            Ok(Job::Replay(read)) => assert_eq!(rt; read, options, "{line}"),
+            _other => assert!(rt; false, "{line}"),
+        }
     }
     Ok(())
+}
+
+#[test]
+fn options_of_make(rt: HostRuntime) -> Result<(), Fail> {
+    let rows = [
+        ("make", MAKE),
+        (
+            "make --lanes=1 --ticks=0",
+            MakeOptions {
+                ticks: 0,
+                lanes: 1,
+                ..MAKE
+            },
+        ),
+    ];
+    for (line, options) in rows {
+        let words = words(rt.alloc(), line)?;
+        match read_words(rt.alloc(), words.as_slice()) {
+            Ok(Job::Make(read)) => assert_eq!(rt; read, options, "{line}"),
+            _other => assert!(rt; false, "{line}"),
+        }
+    }
+    Ok(())
+}
+
+#[test]
+fn formats_of_check_and_decode(rt: HostRuntime) -> Result<(), Fail> {
+    let rows = [
+        ("check", Format::Qcif),
+        ("check --format=cif", Format::Cif),
+        ("decode", Format::Cif),
+        ("decode --format=qcif", Format::Qcif),
+    ];
+    for (line, format) in rows {
+        let words = words(rt.alloc(), line)?;
+        match read_words(rt.alloc(), words.as_slice()) {
+            Ok(Job::Check(read) | Job::Decode(read)) => {
+                assert_eq!(rt; read, FormatOptions { format }, "{line}");
+            }
+            _other => assert!(rt; false, "{line}"),
+        }
+    }
+    Ok(())
+}
+
+#[test]
+fn options_of_live(rt: HostRuntime) -> Result<(), Fail> {
+    // the words; the names of the lanes; that of the chair; the first sequence number; the turns
+    let most = 1_099_511_627_776;
+    let rows = [
+        ("live --lanes=a --chair=b", ["a"].as_slice(), "b", 0, most),
+        (
+            "live --turns=1 --chair=a=b --seq=9 --lanes=x,--y,x",
+            ["x", "--y", "x"].as_slice(),
+            "a=b",
+            9,
+            1,
+        ),
+        (
+            "live --lanes=1,2,3,4,5,6,7,8,9,10,11,12,13,14,15,16 --chair=a,b",
+            [
+                "1", "2", "3", "4", "5", "6", "7", "8", "9", "10", "11", "12", "13", "14", "15",
+                "16",
+            ]
+            .as_slice(),
+            "a,b",
+            0,
+            most,
+        ),
+    ];
+    for (line, lanes, chair, seq, turns) in rows {
+        let words = words(rt.alloc(), line)?;
+        match read_words(rt.alloc(), words.as_slice()) {
+            Ok(Job::Live(read)) => {
+                assert_eq!(rt; read.lanes.as_slice(), lanes, "{line}");
+                assert_eq!(rt; read.chair.as_str(), chair, "{line}");
+                assert_eq!(rt; read.packets, ReplayOptions { seq, ..REPLAY }, "{line}");
+                assert_eq!(rt; read.turns, turns, "{line}");
+            }
+            _other => assert!(rt; false, "{line}"),
+        }
+    }
+    Ok(())
+}
+
+// Whether the words ask for no job.
+fn ask_none(alloc: Global, words: &[String]) -> bool {
+    matches!(read_words(alloc, words), Err(WordsFault::Usage))
 }
 
 #[test]
@@ -83,12 +166,36 @@ fn words_that_ask_for_none(rt: HostRuntime) -> Result<(), Fail> {
     ];
     for line in lines {
         let words = words(rt.alloc(), line)?;
-        assert!(rt;
-            read_words(rt.alloc(), words.as_slice()) == Err(WordsFault::Usage),
-            "{line}"
-        );
+        assert!(rt; ask_none(rt.alloc(), words.as_slice()), "{line}");
     }
-    let none = Vec::new(rt.alloc());
-    assert!(rt; read_words(rt.alloc(), none.as_slice()) == Err(WordsFault::Usage));
+    assert!(rt; ask_none(rt.alloc(), &[]));
+    Ok(())
+}
+
+#[test]
+fn words_of_live_that_ask_for_none(rt: HostRuntime) -> Result<(), Fail> {
+    let lines = [
+        "live",
+        "live --lanes=a",
+        "live --chair=b",
+        "live --lanes= --chair=b",
+        "live --lanes=a --chair=",
+        "live --lanes=a, --chair=b",
+        "live --lanes=,a --chair=b",
+        "live --lanes=a,,c --chair=b",
+        "live --lanes=1,2,3,4,5,6,7,8,9,10,11,12,13,14,15,16,17 --chair=b",
+        "live --lanes=a --lanes=c --chair=b",
+        "live --lanes=a --chair=b --chair=b",
+        "live --lanes=a --chair=b --turns=0",
+        "live --lanes=a --chair=b --turns=1099511627777",
+        "live --lanes=a --chair=b --turns=",
+        "live --lanes=a --chair=b --mtu=999",
+        "live --lanes=a --chair=b --seed=1",
+        "live --lanes=a --chair=b c",
+    ];
+    for line in lines {
+        let words = words(rt.alloc(), line)?;
+        assert!(rt; ask_none(rt.alloc(), words.as_slice()), "{line}");
+    }
     Ok(())
 }

@@ -4,7 +4,7 @@ use Rattle.command_words.specs.Asks.{mtu, ssrc, seq, stamp}
 use Rattle.command_words.specs.Answers.{TakesReplay}
 use Rattle.command_words.specs.Rows.{ReplayRows}
 use Rattle.command_words.proofs.Results.{row_digits, row_value}
-use Rattle.command_words.proofs.reader.read_replay.Goals as goal
+use Rattle.command_words.proofs.reader.read_packing.Goals as goal
 
 pub number-requires : goal.number-requires
 number-requires c =
@@ -74,12 +74,10 @@ pub returns : goal.returns
 returns c =
     let texts = map string_bytes c.args.words.now in
     let rows : ReplayRows texts (rows_of (found_of c.in_ok-matches.matches)) = c.in_ok-matches.ensures texts
-    (subst (λ l. TakesReplay texts (map (λ w. w.now) l)) (sym c.as_slice.ensures.value) c.in_ok-ordered.ensures) in (
-      c.in_ok-ordered.ensures.formed,
-      record {
-        mtu = (row_value mtu _ _ c.number.result rows.mtu c.number.ensures).0;
-        ssrc = (row_value ssrc _ _ c.number-2.result rows.ssrc c.number-2.ensures).0;
-        seq = (row_value seq _ _ c.number-3.result rows.seq c.number-3.ensures).0;
-        stamp = (row_value stamp _ _ c.number-4.result rows.stamp c.number-4.ensures).0;
-      },
-    )
+    (subst (λ l. TakesReplay texts (map (λ w. w.now) l)) (sym c.as_slice.ensures.value) c.in_ok-ordered.ensures) in
+    record {
+      mtu = (row_value mtu _ _ c.number.result rows.mtu c.number.ensures).0;
+      ssrc = (row_value ssrc _ _ c.number-2.result rows.ssrc c.number-2.ensures).0;
+      seq = (row_value seq _ _ c.number-3.result rows.seq c.number-3.ensures).0;
+      stamp = (row_value stamp _ _ c.number-4.result rows.stamp c.number-4.ensures).0;
+    }

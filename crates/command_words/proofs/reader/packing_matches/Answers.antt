@@ -2,7 +2,7 @@ use Rattle.std.proofs.Common.{ap, ◌∙◌, map}
 use Rattle.clap.specs.Words.{app_of, is_simple_and_free}
 use Rattle.command_words.proofs.Parsed.{replay_is_simple}
 use Rattle.command_words.proofs.Results.{parses_replay}
-use Rattle.command_words.proofs.reader.replay_matches.Goals as goal
+use Rattle.command_words.proofs.reader.packing_matches.Goals as goal
 
 pub parse-requires : goal.parse-requires
 parse-requires c = ap is_simple_and_free c.in_ok-command.ensures ∙ replay_is_simple
