@@ -1,0 +1,3 @@
+pub mod Openings
+pub mod Exact
+pub mod Living

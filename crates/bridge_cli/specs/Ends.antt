@@ -2,7 +2,7 @@
 use Rattle.std.specs.Io.KnownBytes.{Appends}
 use Rattle.std.specs.Prelude.{◌≡◌, ◌⊎◌, ◌^◌, ◌<◌, ◌≤◌, ◌++◌, ℕ, List, [], ⊤, length, take, Option, Some}
 use Rattle.bridge_cli.specs.Notes.{fault_line, line_of, made_line, planes_line, report_line, status_of_make, status_of_replay, status_of_units, tally_line}
-use Rattle.bridge_cli.specs.declared.status.Status.TheVariants.{Done, Usage, ReadFault, WriteFault, Cut, BadRecord, Limit, NoMemory, NoteFault}
+use Rattle.bridge_cli.specs.declared.status.Status.TheVariants.{Done, Usage, ReadFault, WriteFault, Cut, BadRecord, Limit, OpenFault, NoMemory, NoteFault}
 use Rattle.bridge_cli.specs.declared.status.Status.{Status}
 use Rattle.bridge_replay.specs.Replays.{Ends as Replays, IsReadBack}
 use Rattle.io_edge.specs.Outside.{Outside}
@@ -10,7 +10,7 @@ use Rattle.bridge_replay.specs.declared.ends.ReplayEnd.{ReplayEnd}
 use Rattle.bridge_replay.specs.declared.ends.Settings.{Settings}
 use Rattle.command_words.specs.Asks.{Asks}
 use Rattle.command_words.specs.Options.{Text}
-use Rattle.command_words.specs.declared.job.Job.TheVariants.{Replay, Check, Decode, Make}
+use Rattle.command_words.specs.declared.job.Job.TheVariants.{Replay, Check, Decode, Make, Live}
 use Rattle.command_words.specs.declared.job.Job.{Job}
 use Rattle.command_words.specs.declared.job.ReplayOptions.{ReplayOptions}
 use Rattle.conf_file.specs.Entries.{Content}
@@ -32,6 +32,7 @@ number_of_status WriteFault = 4
 number_of_status (Cut place) = 5
 number_of_status (BadRecord place why) = 6
 number_of_status Limit = 7
+number_of_status (OpenFault lane) = 8
 number_of_status NoMemory = 9
 number_of_status NoteFault = 10
 
@@ -59,13 +60,19 @@ Does (Make o) before after told line =
     × Makes o.seed o.ticks o.lanes before.written after.written before.write_faults after.write_faults end
     × (after.left ≡ before.left) × (after.faults ≡ before.faults)
     × (told ≡ status_of_make end.stop) × (line ≡ line_of (made_line o.ticks end) told)
+Does (Live o) before after told line = ⊥
 
--- the words ask for no job
+-- a live conference is no job of this call
+abbrev pub IsServed : Job → Type 0
+IsServed (Live o) = ⊥
+IsServed _ = ⊤
+
+-- the words ask for no job of this call
 abbrev pub AskNone : List Text → Type 0
-AskNone words = (job : Job) → Asks words job → ⊥
+AskNone words = (job : Job) → Asks words job → IsServed job → ⊥
 
--- what words made the program do: the job that they ask for; or nothing, since they ask for none; or nothing, since there
--- was not the memory to read them
+-- what words made the program do: the job that they ask for; or nothing, since they ask for none of this call; or nothing,
+-- since there was not the memory to read them
 abbrev pub Did : (words : List Text) → (before after : Outside) → (told : Status) → (line : List ℕ) → Type 0
 Did words before after told line =
     ((job : Job) × Asks words job × Does job before after told line)
@@ -108,6 +115,7 @@ HasInput (Replay o) before = HasConference before
 HasInput (Check o) before = HasPackets before
 HasInput (Decode o) before = HasPackets before
 HasInput (Make o) before = ⊤
+HasInput (Live o) before = ⊥
 
 -- a job whose input is whole, and none of whose objects fails, is done, or wants memory
 abbrev pub IsComplete : (words : List Text) → (before after : Outside) → (faults now : ℕ) → Status → Type 0

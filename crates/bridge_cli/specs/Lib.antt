@@ -1,2 +1,4 @@
 pub mod Ends
+pub mod Lives
 pub mod Notes
+pub mod Opening

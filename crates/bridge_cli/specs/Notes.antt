@@ -1,11 +1,11 @@
 -- The line of notes: how a run ended, and what it counted, ended by LF. Numbers stand in decimal.
 use Rattle.std.specs.Prelude.{ℕ, ◌++◌, List, [], decimal, codes}
 use Rattle.bridge_cli.specs.declared.status.Status.{Status}
-use Rattle.bridge_cli.specs.declared.status.Status.TheVariants.{Done, Usage, ReadFault, WriteFault, Cut, BadRecord, Limit, NoMemory, NoteFault}
+use Rattle.bridge_cli.specs.declared.status.Status.TheVariants.{Done, Usage, ReadFault, WriteFault, Cut, BadRecord, Limit, OpenFault, NoMemory, NoteFault}
 use Rattle.bridge_replay.specs.declared.ends.ReplayEnd.{ReplayEnd}
 use Rattle.bridge_replay.specs.declared.ends.ReplayStop.{ReplayStop}
 use Rattle.bridge_replay.specs.declared.ends.ReplayStop.TheVariants as Stops
-use Rattle.bridge_replay.specs.declared.tally.Tally.{Tally}
+use Rattle.tick_picture.specs.declared.tally.Tally.{Tally}
 use Rattle.conf_make.specs.declared.maker.MakeEnd.{MakeEnd}
 use Rattle.conf_make.specs.declared.maker.MakeStop.{MakeStop}
 use Rattle.conf_make.specs.declared.maker.MakeStop.TheVariants as Makes
@@ -33,6 +33,7 @@ fault_line (Cut place) = codes "fault cut at " ++ decimal place ++ codes "\n"
 fault_line (BadRecord place why) =
     codes "fault record at " ++ decimal place ++ codes ": " ++ word_of why ++ codes "\n"
 fault_line Limit = codes "fault limit\n"
+fault_line (OpenFault lane) = codes "fault open " ++ decimal lane ++ codes "\n"
 fault_line NoMemory = codes "fault memory\n"
 fault_line NoteFault = []
 

@@ -1,21 +1,30 @@
 //! The program: it does the job that its words ask for, from standard input to standard output, and tells on standard error
-//! how it ended. Everything but the real input, output and arguments stands in `run`.
+//! how it ended. Everything but the real input, output, files and arguments stands in `run` and `live`.
 #![tactic(auto)]
 
+#[cfg(test)]
+mod apart_tests;
+mod live;
+#[cfg(test)]
+mod live_tests;
 mod notes;
+mod opening;
 mod run;
 mod status;
 #[cfg(test)]
 mod tests;
 
 use command_words::Command;
-use io_edge::{Failed, MemSink, ReadEdge, WriteEdge, put_all};
+use io_edge::{Failed, FileHouse, LineTicker, MemSink, ReadEdge, WriteEdge, put_all};
+use live::{LiveEnd, live};
 use notes::{failed, note};
 use run::run;
 use status::Status;
 use std::env;
 use std::io::{self, BufReader, BufWriter, ErrorKind};
 use std::process::ExitCode;
+use std::sync::Wait;
+use std::thread::Threads;
 
 /// The octets that standard input and standard output are read and written by.
 const BUFFER: usize = 65_536;
@@ -32,13 +41,15 @@ Usage: bridge_cli replay [--NAME=VALUE ..] < CONFERENCE > PACKETS
        bridge_cli check [--format=FORMAT] < PACKETS > REPORT
        bridge_cli decode [--format=FORMAT] < PACKETS > PLANES
        bridge_cli make [--NAME=VALUE ..] > CONFERENCE
+       bridge_cli live --lanes=FILE,.. --chair=FILE [--NAME=VALUE ..] < STEPS > PACKETS
        bridge_cli [COMMAND] --help | --version";
 
-const COMMANDS: [Command; 4] = [
+const COMMANDS: [Command; 5] = [
     Command::Replay,
     Command::Check,
     Command::Decode,
     Command::Make,
+    Command::Live,
 ];
 
 const EXAMPLE: &str = "\
@@ -50,11 +61,12 @@ const STATUS: &str = "\
 Status, with the line on standard error:
    0   done, and what was counted
    2   fault usage: the words ask for no job
-   3   fault read: the input failed
+   3   fault read: the input failed; of live, the steps on standard input
    4   fault write: the output failed
    5   fault cut at PLACE: the input ends too early
    6   fault record at PLACE: an entry of a conference file is at fault
-   7   fault limit: the input has more than 2^40 octets
+   7   fault limit: the input has more than 2^40 octets; of live, all turns are made
+   8   fault open LANE: the file of this lane cannot be opened, 0 the first; 16 is the chair's
    9   fault memory: there is not the memory to begin
   10   done, but the line could not be written";
 
@@ -62,7 +74,7 @@ const VERSION: &str = "bridge_cli 0.1.0";
 
 fn main(rt: HostRuntime) -> ExitCode {
     let status = match arguments(&rt) {
-        Ok(words) => serve(&rt, &words),
+        Ok(words) => serve(&rt, &rt, &words),
         Err(status) => tell(&rt, status),
     };
     if status == Status::Usage {
@@ -85,11 +97,12 @@ fn arguments(rt: &HostRuntime) -> Result<Vec<String>, Status> {
 }
 
 // Answers `--help`, alone or behind a command, and `--version`, and runs any other words.
-fn serve(rt: &HostRuntime, words: &[String]) -> Status {
+fn serve(rt: &HostRuntime, threads: &(impl Threads + Wait + Sync), words: &[String]) -> Status {
     match words {
         [word] if word.as_str() == "--help" => printed(help(rt)),
         [word] if word.as_str() == "--version" => printed(rt.println(VERSION)),
         [command, word] if word.as_str() == "--help" => help_of(rt, command.as_str()),
+        [command, ..] if command.as_str() == "live" => live_on_standard_streams(rt, threads, words),
         _ => run_on_standard_streams(rt, words),
     }
 }
@@ -145,6 +158,28 @@ fn run_on_standard_streams(rt: &HostRuntime, words: &[String]) -> Status {
     match output.flush() {
         Err(Failed) if status == Status::Done => tell(rt, Status::WriteFault),
         _ => hand_on(rt, status, notes.bytes()),
+    }
+}
+
+// Holds a live conference, whose ticker reads standard input. Each packet is handed on as it is written.
+fn live_on_standard_streams(
+    rt: &HostRuntime,
+    threads: &(impl Threads + Wait + Sync),
+    words: &[String],
+) -> Status {
+    let alloc = rt.alloc();
+    let Ok(reader) = BufReader::with_capacity(alloc, BUFFER, rt.reader()) else {
+        return tell(rt, Status::NoMemory);
+    };
+    let mut house = FileHouse::new(rt);
+    let ticker = LineTicker::new(reader);
+    let output = WriteEdge::new(io::writer(rt));
+    let mut notes = WriteEdge::new(rt.stderr());
+    match live(
+        threads, alloc, words, &mut house, ticker, output, &mut notes,
+    ) {
+        LiveEnd::Refused { status, .. } => status,
+        LiveEnd::Served { status, .. } => status,
     }
 }
 

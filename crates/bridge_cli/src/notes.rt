@@ -154,6 +154,7 @@ fn fault_line(status: Status) -> Line
         Status::Cut { place } => push_cut(&mut line, place),
         Status::BadRecord { place, why } => push_record(&mut line, place, why),
         Status::Limit => line.push_str("fault limit\n"),
+        Status::OpenFault { lane } => push_open(&mut line, lane),
         Status::NoMemory => line.push_str("fault memory\n"),
     }
     line
@@ -178,6 +179,16 @@ fn push_record(line: &mut Line, place: u64, why: EntryWhy)
     push_number(line, place);
     line.push_str(": ");
     line.push_str(word_of(why));
+    line.push_str("\n");
+}
+
+/// Appends the line of what could not be opened.
+fn push_open(line: &mut Line, lane: u8)
+    requires room { array_string_len line.old ≡ 0 }
+    ensures { line.new.bytes ≡ line.old.bytes ++ fault_line (Status.OpenFault lane) }
+{
+    line.push_str("fault open ");
+    push_number(line, u64::from(lane));
     line.push_str("\n");
 }
 

@@ -25,11 +25,11 @@ use std::alloc::Global;
 /// The most octets that are read, 2^40.
 const MOST_OCTETS: u64 = 1 << 40;
 
-/// Does the job that the words after the program's name ask for, and writes one line to `notes` that tells how it ended,
-/// with what it counted where it is done. `replay` reads a conference file from `input` and writes framed RTP packets to
-/// `output`; `check` and `decode` read framed RTP packets, and write a report of their pictures or the planes that are shown
-/// after each; `make` reads nothing and writes a conference file. Where the words ask for no job, or there is not the memory
-/// to begin, input and output stay as they are.
+/// Does the job that the words after the program's name ask for, and writes one line to `notes` that tells how it
+/// ended, with what it counted where it is done. `replay` reads a conference file from `input` and writes framed RTP
+/// packets to `output`; `check` and `decode` read framed RTP packets, and write a report of their pictures or the
+/// planes that are shown after each; `make` reads nothing and writes a conference file. Where the words ask for none of
+/// these, or there is not the memory to begin, input and output stay as they are.
 pub fn run<S: Source, K: Sink, N: Sink>(
     alloc: Global,
     words: &[String],
@@ -102,6 +102,7 @@ fn obey<S: Source, K: Sink>(alloc: Global, words: &[String], input: &mut S, outp
         Ok(Job::Check(options)) => serve_check(alloc, &options, input, output),
         Ok(Job::Decode(options)) => serve_decode(alloc, &options, input, output),
         Ok(Job::Make(options)) => serve_make(alloc, &options, output),
+        Ok(Job::Live(_options)) => failed(Status::Usage),
         Err(WordsFault::Usage) => failed(Status::Usage),
         Err(WordsFault::NoMemory) => failed(Status::NoMemory),
     }

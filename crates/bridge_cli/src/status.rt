@@ -2,8 +2,10 @@
 
 ghost use Rattle.std.specs.Prelude.{◌≡◌};
 ghost use Rattle.bridge_cli.specs.Ends.{number_of_status};
+ghost use Rattle.bridge_cli.specs.Lives.{status_of_mixer};
 ghost use Rattle.bridge_cli.specs.Notes.{status_of_make, status_of_replay, status_of_units};
 
+use bridge_live::MixStop;
 use bridge_replay::ReplayStop;
 use conf_file::EntryWhy;
 use conf_make::MakeStop;
@@ -12,7 +14,8 @@ use rtp_h261::UnitStop;
 /// How a run ends.
 #[derive(Clone, Copy, Debug, PartialEq, Eq)]
 pub enum Status {
-    /// The input was read to the end of what the job reads, and its answer was written.
+    /// The input was read to the end of what the job reads, and its answer was written. A live conference is done where its
+    /// ticker ended.
     Done,
     /// The words ask for no job.
     Usage,
@@ -24,8 +27,10 @@ pub enum Status {
     Cut { place: u64 },
     /// What begins at this octet of a conference file is no header or no entry.
     BadRecord { place: u64, why: EntryWhy },
-    /// As many octets were taken as may be, 2^40, and the job would need more.
+    /// As many octets were taken as may be, 2^40, and the job would need more; or a live conference has had all its turns.
     Limit,
+    /// What the lane of this number comes from could not be opened, or, at 16, what the chair comes from.
+    OpenFault { lane: u8 },
     /// The memory that is needed is not there.
     NoMemory,
     /// The job is done, and the line of notes could not be written.
@@ -45,6 +50,7 @@ impl Status {
             Status::Cut { .. } => 5,
             Status::BadRecord { .. } => 6,
             Status::Limit => 7,
+            Status::OpenFault { .. } => 8,
             Status::NoMemory => 9,
             Status::NoteFault => 10,
         }
@@ -76,6 +82,18 @@ impl Status {
             UnitStop::Cut { place } => Status::Cut { place },
             UnitStop::Limit => Status::Limit,
             UnitStop::NoMemory => Status::NoMemory,
+        }
+    }
+
+    /// The status that tells of a stop of the mixer of a live conference.
+    pub fn of_mixer(stop: MixStop) -> Status
+        ensures { result ≡ status_of_mixer stop }
+    {
+        match stop {
+            MixStop::Whole => Status::Done,
+            MixStop::Sink => Status::WriteFault,
+            MixStop::Ticker => Status::ReadFault,
+            MixStop::Over => Status::Limit,
         }
     }
 
