@@ -11,12 +11,12 @@ cp "$1" "$clone/crates/bridge_cli/out/bridge_cli"
 
 # The commands of a document, without those of other tools and of the gate.
 commands() {
-    sed -n 's/^    \(\.\/replay\.sh.*\|tail .*\|\$program .*\|program=.*\|examples\/picture\.sh .*\|examples\/[ch][a-z0-9_]*\.py .*\)$/\1/p' "$clone/$1"
+    sed -n 's/^    \(\.\/replay\.sh.*\|tail .*\|\$program .*\|program=.*\|examples\/picture\.sh .*\|examples\/live[a-z_]*\.[a-z]* .*\|examples\/[ch][a-z0-9_]*\.py .*\)$/\1/p' "$clone/$1"
 }
 commands README.md > "$room/readme"
 commands docs/GUIDE.md > "$room/guide"
 is "README has three of them" test "$(wc -l < "$room/readme")" -eq 3
-is "the guide has eight of them" test "$(wc -l < "$room/guide")" -eq 8
+is "the guide has ten of them" test "$(wc -l < "$room/guide")" -eq 10
 
 # is_written FILE DIGEST: a file, by a digest that another implementation gave
 is_written() {

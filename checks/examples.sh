@@ -88,6 +88,25 @@ lanes --step=0 "$bars"
 ended "conference_of_lanes.py with a step that is none" 1
 said "conference_of_lanes.py [--step=N] [--chair=FILE] LANE.. > CONFERENCE"
 
+# live, through FIFOs: what it writes is what its replay writes; and two lanes at their own pace
+try "$examples/live_and_replay.py" "$program" "$examples/four_faces.conf"
+ended "live_and_replay.py" 0
+said "the replay has the same octets"
+try_line 'PROGRAM=$1 "$2" live.rtp "$3" "$3"' "$program" "$examples/live.sh" "$bars"
+ended "live.sh" 0
+said " pictures 30 gaps 0 commands 2 refused 0 taken "
+try_line '"$1" check --format=cif < live.rtp' "$program"
+ended "its pictures" 0
+is "none is lost" grep -q " gaps 0$" "$room/err"
+try "$examples/live.sh" live.rtp
+ended "live.sh without a lane" 2
+said "A live conference of recorded lanes"
+try "$examples/send_lane.py" "$bars"
+ended "send_lane.py" 0
+wrote "$bars"
+try "$examples/send_lane.py" none.rtp
+ended "send_lane.py of a lane that is not there" 1
+
 # from planes to a picture: a grey one, and one that is not there
 head -c 152064 /dev/zero | tr '\000' '\200' > grey.yuv
 try_line '"$1" 1 < grey.yuv' "$examples/png_of_planes.py"

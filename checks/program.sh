@@ -76,6 +76,11 @@ is_usage "an option twice" '"$1" replay --seq=1 --seq=1 < "$2"' "$program" "$str
 is_usage "an option of another command" '"$1" check --mtu=1000 < "$2"' "$program" "$striped"
 is_usage "a format in capitals" '"$1" decode --format=CIF < "$2"' "$program" "$striped"
 is_usage "a lane too many" '"$1" make --lanes=17' "$program"
+is_usage "live without lanes" '"$1" live --chair=/dev/null' "$program"
+is_usage "live without a chair" '"$1" live --lanes=/dev/null' "$program"
+is_usage "a lane without a name" '"$1" live --lanes=/dev/null,,/dev/null --chair=/dev/null' "$program"
+is_usage "17 lanes" '"$1" live --lanes="$2" --chair=/dev/null' "$program" "$(printf '/dev/null,%.0s' $(seq 16))/dev/null"
+is_usage "no turns" '"$1" live --lanes=/dev/null --chair=/dev/null --turns=0' "$program"
 is_usage "two options" '"$1" --help --version' "$program"
 is_usage "an empty word" '"$1" ""' "$program"
 is_usage "a word that is not UTF-8" '"$1" "$2"' "$program" "$(printf 'replay\377')"
@@ -100,13 +105,13 @@ try "$program" --help
 ended "--help" 0
 said_nothing
 cp "$room/out" "$room/help"
-for number in 0 2 3 4 5 6 7 9 10; do
+for number in 0 2 3 4 5 6 7 8 9 10; do
     is "--help names status $number" grep -Eq "^ +$number  +[a-z]" "$room/help"
 done
-for option in mtu ssrc seq stamp format seed ticks lanes; do
+for option in mtu ssrc seq stamp format seed ticks lanes chair turns; do
     is "--help names the option $option" grep -q -e "--$option=" "$room/help"
 done
-for case in replay:mtu check:format decode:format make:ticks; do
+for case in replay:mtu check:format decode:format make:ticks live:turns; do
     command=${case%:*}
     is "--help names the command $command" grep -q "bridge_cli $command " "$room/help"
     try "$program" "$command" --help
@@ -162,6 +167,33 @@ fails "a frame is cut" 5 "fault cut at 1" 'printf "\0" | "$1" check' "$program"
 fails "no frames to decode" 0 "done pictures 0 gaps 0 octets 0" '"$1" decode < /dev/null' "$program"
 fails "decode of a directory" 3 "fault read" '"$1" decode < /' "$program"
 fails "make, output full" 4 "fault write" '"$1" make > /dev/full' "$program"
+
+# A live conference of one lane that sends nothing, but for the steps on standard input.
+silent="live --lanes=/dev/null --chair=/dev/null"
+fails "a live conference without steps" 0 \
+    "done ticks 0 pictures 0 gaps 0 commands 0 refused 0 taken 0 packets 0 octets 0" '"$1" $2' "$program" "$silent"
+try_line 'printf "1\n31" | "$1" $2' "$program" "$silent"
+ended "two steps" 0
+said_line "done ticks 2 pictures 0 gaps 0 commands 0 refused 0 taken 0 packets 2 octets 122"
+is "they are two pictures" test "$(wc -c < "$room/out")" -eq 122
+cp "$room/out" "$room/two"
+try_line 'printf "1\n32\n1\n" | "$1" $2' "$program" "$silent"
+ended "a step that is none" 3
+said_line "fault read"
+head -c 61 "$room/two" > "$room/one"
+wrote "$room/one"
+try_line 'printf "1\n1\n" | "$1" $2 --turns=1' "$program" "$silent"
+ended "turns too few" 7
+said_line "fault limit"
+wrote "$room/one"
+fails "live, output full" 4 "fault write" 'echo 1 | "$1" $2 > /dev/full' "$program" "$silent"
+fails "a lane that is not there" 8 "fault open 1" '"$1" live --lanes=/dev/null,none --chair=none' "$program"
+fails "a chair that is not there" 8 "fault open 16" '"$1" live --lanes=/dev/null --chair=none' "$program"
+head -c 100 "$top/examples/bars_lane.rtp" > "$room/cut_lane"
+fails "lanes that are cut or no files, and lines that say nothing" 0 \
+    "done ticks 0 pictures 0 gaps 2 commands 0 refused 0 taken 0 packets 0 octets 0" \
+    'sleep 2 | "$1" live --lanes="$2/cut_lane,/" --chair="$3"' \
+    "$program" "$room" "$top/README.md"
 
 # What is written is in the buffer until the flush at the end, which the device refuses; the line tells of that.
 fails "output is full" 4 "fault write" '"$1" replay < "$2" > /dev/full' "$program" "$striped"
