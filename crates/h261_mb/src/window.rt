@@ -124,7 +124,8 @@ impl Window {
     pub fn mvd(&mut self) -> Option<(i8, i8)>
         ensures word { (axis : Axis) → IfSome result (λ v.
             IsTaken (read (table_rows mvd_table (Mvd axis)) self.old.0) (Mvd axis v) self.old self.new) }
-        ensures range { IfSome result (λ v. (negsuc 29 ≤ℤ v.0) × (v.0 ≤ℤ pos 30) × (negsuc 29 ≤ℤ v.1) × (v.1 ≤ℤ pos 30)) }
+        ensures range { IfSome result (λ v.
+            (negsuc 29 ≤ℤ v.0) × (v.0 ≤ℤ pos 30) × (negsuc 29 ≤ℤ v.1) × (v.1 ≤ℤ pos 30)) }
     {
         let index = self.take_word(Table::Mvd)?;
         Some(DIFFERENCES[usize::from(index)])

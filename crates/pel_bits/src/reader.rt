@@ -69,7 +69,8 @@ impl<'a> Reader<'a> {
     #[inline]
     pub fn take(&mut self, width: u32) -> Option<u32>
         requires { width ≤ 32 }
-        ensures value { result ≡ (if nat_lt (length self.old.0) width then None else Some (number (take width self.old.0))) }
+        ensures value { result ≡
+            (if nat_lt (length self.old.0) width then None else Some (number (take width self.old.0))) }
         ensures after { self.new ≡ (if nat_lt (length self.old.0) width then self.old else skipped width self.old) }
     {
         if self.left < width {

@@ -32,7 +32,8 @@ pub fn list_laws()
     ensures free { (table : Table) → is_prefix_free (words table) ≡ true }
     ensures slots { (slot : Slot) → is_prefix_free (codes_of_rows (rows slot)) ≡ true }
     ensures whole_words { (slot : Slot) → ArePrefixFree (rows slot) }
-    ensures within { (slot : Slot) (bits : List Bool) (e : _) (n : ℕ) → read (rows slot) bits ≡ Good e n → n ≤ length bits }
+    ensures within { (slot : Slot) (bits : List Bool) (e : _) (n : ℕ) →
+        read (rows slot) bits ≡ Good e n → n ≤ length bits }
     ensures followed { (slot : Slot) (bits more : List Bool) (e : _) (n : ℕ) →
         read (rows slot) bits ≡ Good e n → read (rows slot) (bits ++ more) ≡ Good e n }
     ensures fields { (n w : ℕ) → model_field n w ≡ field n w }

@@ -85,7 +85,8 @@ pub fn mtype(r: &mut Reader<'_>) -> Result<MbKind, Why>
 /// where it stands for one. Cut where what is left is the front of a word, else NoCode.
 #[inline(always)]
 pub fn mvd(r: &mut Reader<'_>) -> Result<(i8, i8), Why>
-    ensures word { (axis : Axis) → TakesWord (Mvd axis) (read (table_rows mvd_table (Mvd axis)) r.old.0) result r.old r.new }
+    ensures word { (axis : Axis) →
+        TakesWord (Mvd axis) (read (table_rows mvd_table (Mvd axis)) r.old.0) result r.old r.new }
     ensures range { IfOk result (λ v. (negsuc 29 ≤ℤ v.0) × (v.0 ≤ℤ pos 30) × (negsuc 29 ≤ℤ v.1) × (v.1 ≤ℤ pos 30)) }
 {
     let index = take_word(Table::Mvd, r)?;
