@@ -8,8 +8,8 @@ use Rattle.std.specs.Int.{from_bool}
 use Rattle.std.specs.List.{flat_map, AllByRecursion}
 use Rattle.std.specs.Io.KnownBytes.{Consumes}
 use Rattle.chair_words.specs.declared.reader.LineWhy.{LineWhy}
-use Rattle.chair_words.specs.Line.{Says, FailsAt}
-use Rattle.chair_words.specs.Words.{Word, words}
+use Rattle.chair_words.specs.Line.{Says, HasFaultAt as FailsAt}
+use Rattle.chair_words.specs.Words.{Word, words_in as words}
 use Rattle.hall_core.specs.declared.machine.HallCall.TheVariants.{Order as AskOrder}
 use Rattle.hall_core.specs.declared.machine.HallReply.{HallReply}
 use Rattle.hall_core.specs.declared.machine.HallReply.TheVariants.{Spare, Counted, Ordered, Ticked, Finished, Ended}

@@ -2,8 +2,8 @@
 use Rattle.std.specs.Prelude.{⊤, ◌≡◌, ◌≢◌, ◌⊎◌, ℕ, ◌<◌, ◌≤◌, Bool, true, false, List, [], ◌∷◌, ◌++◌, length, flat_map}
 use Rattle.std.specs.List.{AllByRecursion}
 use Rattle.chair_words.specs.declared.reader.LineWhy.{LineWhy}
-use Rattle.chair_words.specs.Line.{longest_line, Says, FailsAt}
-use Rattle.chair_words.specs.Words.{words}
+use Rattle.chair_words.specs.Line.{longest_line, Says, HasFaultAt as FailsAt}
+use Rattle.chair_words.specs.Words.{words_in as words}
 use Rattle.pel_model.specs.declared.chair.Command.{Command}
 
 -- the octet that ends a line, LF

@@ -12,9 +12,10 @@ use Rattle.pel_model.specs.declared.chair.Command.TheVariants.{Place, Clear, Swa
 use Rattle.chair_words.specs.declared.reader.LineFault.{LineFault}
 use Rattle.chair_words.specs.declared.reader.LineWhy.{LineWhy}
 use Rattle.chair_words.specs.declared.reader.LineWhy.TheVariants.{Unknown, Missing, BadNumber, Extra}
-use Rattle.chair_words.specs.Words.{Word, words}
-use Rattle.chair_words.specs.Line.{Range, a_place, a_lane, name_of, numbers_of, asked_by, number_in, is_good, AreGood, Says, Begins, Fails, FailsAt}
-use Rattle.chair_words.specs.Reading.{Answers, TakesNumber, LacksNumber, TakesNumbers}
+use Rattle.chair_words.specs.Words.{Word, words_in}
+use Rattle.chair_words.specs.Line.{Range, a_place, a_lane, command_name, numbers_of, asked_by, number_spelt, is_good, AreGood, Says, BeginsCommand, Fails, HasFaultAt}
+use Rattle.chair_words.specs.Reading.{AnswersLine}
+use Rattle.chair_words.specs.Taking.{TakesNumber, LacksNumber, TakesNumbers}
 
 -- what a name asks, if it is a command's
 abbrev pub asked_in : List ℕ → Option (List Range)
@@ -26,7 +27,7 @@ asked_in name =
     (cond (bytes_eq name (codes "pin")) (Some (a_place ∷ []))
     (cond (bytes_eq name (codes "unpin")) (Some (a_place ∷ [])) None)))))
 
-pub asked_in-name_of : (c : Command) → asked_in (name_of c) ≡ Some (asked_by c)
+pub asked_in-name_of : (c : Command) → asked_in (command_name c) ≡ Some (asked_by c)
 asked_in-name_of (Place q c) = refl
 asked_in-name_of (Clear q) = refl
 asked_in-name_of (Swap p q) = refl
@@ -41,7 +42,7 @@ no_match name text differ =
       | false ↦ λ h. refl
     ] (bytes_eq-Decides name text).0
 
-pub asked_in-unknown : (name : List ℕ) → ((c : Command) → name ≢ name_of c) → asked_in name ≡ None
+pub asked_in-unknown : (name : List ℕ) → ((c : Command) → name ≢ command_name c) → asked_in name ≡ None
 asked_in-unknown name none =
     rw (
       no_match name (codes "place") (none (Place One 0)),
@@ -74,7 +75,7 @@ fault_of-good [] wanted (w ∷ ws) rest len good = absurd good
 fault_of-good (r ∷ rs) wanted [] rest len good = absurd good
 fault_of-good (r ∷ rs) wanted (w ∷ ws) rest len good = rw (good.0) (fault_of-good rs wanted ws rest len good.1)
 
-fault_in-begins : (ws : List Word) (wanted : List Range) (rest : List Word) (len : ℕ) → Begins ws wanted rest → fault_in ws len ≡ fault_of wanted rest len
+fault_in-begins : (ws : List Word) (wanted : List Range) (rest : List Word) (len : ℕ) → BeginsCommand ws wanted rest → fault_in ws len ≡ fault_of wanted rest len
 fault_in-begins ws wanted rest len b =
     let asked : asked_in b.name.text ≡ Some (b.had ++ wanted) =
     ap asked_in b.named ∙ asked_in-name_of b.command ∙ ap Some b.asked in
@@ -99,9 +100,9 @@ fault_in-fails ws len place Extra (word, rest, begins, here) =
     fault_in-begins ws [] (word ∷ rest) len begins ∙ ap (λ p. Some (p, Extra)) (sym here)
 
 -- a line that says a command has no fault
-pub fault_in-says : (line : List ℕ) (c : Command) (len : ℕ) → Says line c → fault_in (words line) len ≡ None
+pub fault_in-says : (line : List ℕ) (c : Command) (len : ℕ) → Says line c → fault_in (words_in line) len ≡ None
 fault_in-says line c len s =
-    fault_in-begins (words line) [] [] len (record {
+    fault_in-begins (words_in line) [] [] len (record {
       name = s.name;
       numbers = s.numbers;
       whole = s.whole ∙ ap (λ v. s.name ∷ v) (sym (append-nil s.numbers));
@@ -127,7 +128,7 @@ said_by name (n ∷ []) =
 said_by name (n ∷ m ∷ ns) =
     cond (bytes_eq name (codes "place")) (Some (Place (place_of n) m)) (Some (Swap (place_of n) (place_of m)))
 
-said_by-command : (c : Command) → said_by (name_of c) (numbers_of c) ≡ Some c
+said_by-command : (c : Command) → said_by (command_name c) (numbers_of c) ≡ Some c
 said_by-command (Place One c) = refl
 said_by-command (Place Two c) = refl
 said_by-command (Place Three c) = refl
@@ -178,30 +179,30 @@ one_command line c d s t =
     let same : s.name ∷ s.numbers ≡ t.name ∷ t.numbers = sym s.whole ∙ t.whole in
     let heads : s.name ≡ t.name = cc in
     let tails : s.numbers ≡ t.numbers = cc in
-    let names : name_of c ≡ name_of d = sym s.named ∙ ap (λ (w : Word). w.text) heads ∙ t.named in
+    let names : command_name c ≡ command_name d = sym s.named ∙ ap (λ (w : Word). w.text) heads ∙ t.named in
     let numbers : numbers_of c ≡ numbers_of d =
-    somes_same _ _ (sym s.values ∙ ap (map (λ (w : Word). number_in w.text)) tails ∙ t.values) in
+    somes_same _ _ (sym s.values ∙ ap (map (λ (w : Word). number_spelt w.text)) tails ∙ t.values) in
     let somes : Some c ≡ Some d =
     sym (said_by-command c) ∙ ap (λ n. said_by n (numbers_of c)) names
-    ∙ ap (said_by (name_of d)) numbers ∙ said_by-command d in
+    ∙ ap (said_by (command_name d)) numbers ∙ said_by-command d in
     cc
 
-pub one_fault : (line : List ℕ) (p q : ℕ) (v w : LineWhy) → FailsAt line p v → FailsAt line q w → (p ≡ q) × (v ≡ w)
+pub one_fault : (line : List ℕ) (p q : ℕ) (v w : LineWhy) → HasFaultAt line p v → HasFaultAt line q w → (p ≡ q) × (v ≡ w)
 one_fault line p q v w f g =
-    let same : ◌≡◌ {A = Option (ℕ × LineWhy)} (Some (p, v)) (Some (q, w)) = sym (fault_in-fails (words line) (length line) p v f) ∙ fault_in-fails (words line) (length line) q w g in
+    let same : ◌≡◌ {A = Option (ℕ × LineWhy)} (Some (p, v)) (Some (q, w)) = sym (fault_in-fails (words_in line) (length line) p v f) ∙ fault_in-fails (words_in line) (length line) q w g in
     let pair : (p, v) ≡ (q, w) = cc in
     (ap (λ (x : ℕ × LineWhy). x.0) pair, ap (λ (x : ℕ × LineWhy). x.1) pair)
 
-pub not_both : (line : List ℕ) (c : Command) (p : ℕ) (w : LineWhy) → Says line c → FailsAt line p w → ⊥
+pub not_both : (line : List ℕ) (c : Command) (p : ℕ) (w : LineWhy) → Says line c → HasFaultAt line p w → ⊥
 not_both line c p w s f =
     let same : ◌≡◌ {A = Option (ℕ × LineWhy)} None (Some (p, w)) =
-    sym (fault_in-says line c (length line) s) ∙ fault_in-fails (words line) (length line) p w f in
+    sym (fault_in-says line c (length line) s) ∙ fault_in-fails (words_in line) (length line) p w f in
     let apart : false ≡ true = cc in
     false≢true apart
 
 -- what is read where a number is asked is the line's fault, if it is none
 pub Fails-number : (name : Word) (numbers rest : List Word) (c : Command) (had : List Range) (range : Range) (wanted : List Range) (len place : ℕ) (why : LineWhy) →
-    name.text ≡ name_of c → asked_by c ≡ had ++ (range ∷ wanted) → AreGood had numbers → LacksNumber range rest len place why →
+    name.text ≡ command_name c → asked_by c ≡ had ++ (range ∷ wanted) → AreGood had numbers → LacksNumber range rest len place why →
     Fails (name ∷ (numbers ++ rest)) len place why
 Fails-number name numbers [] c had range wanted len place why named asked good (here, missing) =
     subst (Fails (name ∷ (numbers ++ [])) len place) (sym missing) (
@@ -242,11 +243,11 @@ Fails-number name numbers (w ∷ rest) c had range wanted len place why named as
     )
 
 -- an answer that the line has is the line's answer
-pub accepted : (line : List ℕ) (r : Result Command LineFault) → Answers line r → (c : Command) → Says line c → r ≡ Ok c
+pub accepted : (line : List ℕ) (r : Result Command LineFault) → AnswersLine line r → (c : Command) → Says line c → r ≡ Ok c
 accepted line (Ok d) a c s = ap Ok (one_command line d c a s)
 accepted line (Err e) a c s = absurd (not_both line c e.place e.why s a)
 
-pub refused : (line : List ℕ) (r : Result Command LineFault) → Answers line r → (place : ℕ) (why : LineWhy) → FailsAt line place why →
+pub refused : (line : List ℕ) (r : Result Command LineFault) → AnswersLine line r → (place : ℕ) (why : LineWhy) → HasFaultAt line place why →
     r ≡ Err (record { place = place; why = why })
 refused line (Ok d) a place why f = absurd (not_both line d place why a f)
 refused line (Err e) a place why f =
@@ -255,7 +256,7 @@ refused line (Err e) a place why f =
 
 -- what the reader answers where a number is wanting, and where none is
 pub first_wanting : (r : Result Command LineFault) (e : LineFault) (name : Word) (old new : List Word) (len : ℕ) (c : Command) (range : Range) (wanted : List Range) →
-    IsErrAnd r (λ y. y ≡ e) → name.text ≡ name_of c → asked_by c ≡ range ∷ wanted → LacksNumber range old len e.place e.why →
+    IsErrAnd r (λ y. y ≡ e) → name.text ≡ command_name c → asked_by c ≡ range ∷ wanted → LacksNumber range old len e.place e.why →
     MatchResult r (λ d. TakesNumbers name.text old new d) (λ f. Fails (name ∷ old) len f.place f.why)
 first_wanting (Ok d) e name old new len c range wanted failed named asked lacks = absurd failed
 first_wanting (Err f) e name old new len c range wanted failed named asked lacks =
@@ -263,7 +264,7 @@ first_wanting (Err f) e name old new len c range wanted failed named asked lacks
     (Fails-number name [] old c [] range wanted len e.place e.why named asked tt lacks)
 
 pub second_wanting : (r : Result Command LineFault) (e : LineFault) (name : Word) (old mid new : List Word) (len len' : ℕ) (c : Command) (first range : Range) (wanted : List Range) (n : ℕ) →
-    IsErrAnd r (λ y. y ≡ e) → name.text ≡ name_of c → asked_by c ≡ first ∷ range ∷ wanted → TakesNumber first old mid n → len' ≡ len →
+    IsErrAnd r (λ y. y ≡ e) → name.text ≡ command_name c → asked_by c ≡ first ∷ range ∷ wanted → TakesNumber first old mid n → len' ≡ len →
     LacksNumber range mid len' e.place e.why →
     MatchResult r (λ d. TakesNumbers name.text old new d) (λ f. Fails (name ∷ old) len f.place f.why)
 second_wanting (Ok d) e name old mid new len len' c first range wanted n failed named asked takes same lacks = absurd failed
@@ -274,7 +275,7 @@ second_wanting (Err f) e name old mid new len len' c first range wanted n failed
     (subst (λ l. LacksNumber range mid l e.place e.why) same lacks)))
 
 pub one_taken : (name : List ℕ) (old new : List Word) (c : Command) (range : Range) (n : ℕ) →
-    name ≡ name_of c → asked_by c ≡ range ∷ [] → numbers_of c ≡ n ∷ [] → TakesNumber range old new n → TakesNumbers name old new c
+    name ≡ command_name c → asked_by c ≡ range ∷ [] → numbers_of c ≡ n ∷ [] → TakesNumber range old new n → TakesNumbers name old new c
 one_taken name old new c range n named asked numbers takes = record {
   numbers = takes.word ∷ [];
   taken = takes.taken;
@@ -284,7 +285,7 @@ one_taken name old new c range n named asked numbers takes = record {
 }
 
 pub two_taken : (name : List ℕ) (old mid new : List Word) (c : Command) (first range : Range) (n m : ℕ) →
-    name ≡ name_of c → asked_by c ≡ first ∷ range ∷ [] → numbers_of c ≡ n ∷ m ∷ [] →
+    name ≡ command_name c → asked_by c ≡ first ∷ range ∷ [] → numbers_of c ≡ n ∷ m ∷ [] →
     TakesNumber first old mid n → TakesNumber range mid new m → TakesNumbers name old new c
 two_taken name old mid new c first range n m named asked numbers takes again = record {
   numbers = takes.word ∷ again.word ∷ [];
@@ -295,7 +296,7 @@ two_taken name old mid new c first range n m named asked numbers takes again = r
 }
 
 -- the whole line
-pub Says-taken : (line : List ℕ) (name : Word) (rest : List Word) (c : Command) → words line ≡ name ∷ rest → TakesNumbers name.text rest [] c → Says line c
+pub Says-taken : (line : List ℕ) (name : Word) (rest : List Word) (c : Command) → words_in line ≡ name ∷ rest → TakesNumbers name.text rest [] c → Says line c
 Says-taken line name rest c whole t = record {
   name = name;
   numbers = t.numbers;

@@ -4,8 +4,8 @@ use Rattle.std.specs.List.{prefix_len, slice_range}
 use Rattle.std.proofs.lemmas.Bool.Decides.{nat_tests}
 use Rattle.std.proofs.Math.ListN.{drop_of_length-le}
 use Rattle.std.proofs.lemmas.List.Sums.{prefix_len-drop_no}
-use Rattle.chair_words.specs.Words.{Word, is_blank, begins_at, word_at, word_of, words_from}
-use Rattle.chair_words.specs.Reading.{is_outside}
+use Rattle.chair_words.specs.Words.{Word, is_blank, begins_at, word_begun_at, word_from, words_from}
+use Rattle.chair_words.specs.Reading.{is_between_words}
 
 -- no word begins at byte i
 pub words_from-pass : (line : List ℕ) (i : ℕ) → i < length line → begins_at line i ≡ false → words_from line i ≡ words_from line (i + 1)
@@ -14,7 +14,7 @@ words_from-pass line i within no_word =
     rw (e, no_word) refl
 
 -- a word begins at byte i
-pub words_from-word : (line : List ℕ) (i : ℕ) → i < length line → begins_at line i ≡ true → words_from line i ≡ word_at line i ∷ words_from line (i + 1)
+pub words_from-word : (line : List ℕ) (i : ℕ) → i < length line → begins_at line i ≡ true → words_from line i ≡ word_begun_at line i ∷ words_from line (i + 1)
 words_from-word line i within word =
     let e : length line - i ≡ suc (length line - (i + 1)) = omega arith in
     rw (e, word) refl
@@ -41,7 +41,7 @@ outside-cases false false true = refl
 outside-cases false false false = refl
 
 -- behind a blank no word goes on
-pub outside-blank : (line : List ℕ) (i : ℕ) → is_blank (slice_index line i) ≡ true → IsTrue (is_outside line (i + 1))
+pub outside-blank : (line : List ℕ) (i : ℕ) → is_blank (slice_index line i) ≡ true → IsTrue (is_between_words line (i + 1))
 outside-blank line i blank =
     let before : i + 1 - 1 ≡ i = omega arith in
     let begins : begins_at line (i + 1) ≡ not (is_blank (slice_index line (i + 1))) && ((i + 1 == 0) || true) =
@@ -51,10 +51,10 @@ outside-blank line i blank =
 -- the word that began at `start` ends here
 pub word_at-ends : (line : List ℕ) (start end : ℕ) → start < end → end ≤ length line →
     prefix_len (λ b. not (is_blank b)) (drop start line) ≡ (end - start) + prefix_len (λ b. not (is_blank b)) (drop end line) →
-    prefix_len (λ b. not (is_blank b)) (drop end line) ≡ 0 → word_at line start ≡ word_of start (slice_range line start end)
+    prefix_len (λ b. not (is_blank b)) (drop end line) ≡ 0 → word_begun_at line start ≡ word_from start (slice_range line start end)
 word_at-ends line start end below within counted none =
     let len : prefix_len (λ b. not (is_blank b)) (drop start line) ≡ end - start = omega arith in
-    ap (λ n. word_of start (take n (drop start line))) len
+    ap (λ n. word_from start (take n (drop start line))) len
 
 -- a word stops at a blank, and at the line's end
 no_more : (line : List ℕ) (end : ℕ) → (end < length line → is_blank (slice_index line end) ≡ true) → prefix_len (λ b. not (is_blank b)) (drop end line) ≡ 0
@@ -73,7 +73,7 @@ pub words_from-ends : (line : List ℕ) (start end : ℕ) → start < length lin
     words_from line (start + 1) ≡ words_from line end →
     prefix_len (λ b. not (is_blank b)) (drop start line) ≡ (end - start) + prefix_len (λ b. not (is_blank b)) (drop end line) →
     (end < length line → is_blank (slice_index line end) ≡ true) →
-    words_from line start ≡ word_of start (slice_range line start end) ∷ words_from line end
+    words_from line start ≡ word_from start (slice_range line start end) ∷ words_from line end
 words_from-ends line start end inside begins below within same counted stops =
     words_from-word line start inside begins
     ∙ ap₂ (λ (w : Word) (ws : List Word). w ∷ ws)

@@ -6,8 +6,8 @@ use Rattle.pel_model.specs.declared.Quad.TheVariants.{One, Two, Three, Four}
 use Rattle.pel_model.specs.declared.chair.Command.{Command}
 use Rattle.pel_model.specs.declared.chair.Command.TheVariants.{Place, Clear, Swap, Speaker, Pin, Unpin}
 use Rattle.pel_model.specs.Regions.{number_of}
-use Rattle.chair_words.specs.Words.{Word, word_of, words}
-use Rattle.chair_words.specs.Line.{Says, a_place, a_lane, number_in, is_good, digits_of, has_sayable_lane, line_of}
+use Rattle.chair_words.specs.Words.{Word, word_from, words_in}
+use Rattle.chair_words.specs.Line.{Says, a_place, a_lane, number_spelt, is_good, digits_of, has_sayable_lane, line_saying}
 
 -- P holds of each number below n
 abbrev EachBelow : (ℕ → Type 0) → ℕ → Type 0
@@ -24,10 +24,10 @@ at_each P (suc n) h k below =
 
 -- the words of the numbers
 abbrev place_word : ℕ → Quad → Word
-place_word at q = word_of at (digits_of (number_of q))
+place_word at q = word_from at (digits_of (number_of q))
 
 abbrev lane_word : ℕ → ℕ → Word
-lane_word at c = word_of at (digits_of c)
+lane_word at c = word_from at (digits_of c)
 
 place_good : (q : Quad) → IsTrue (is_good a_place (place_word 0 q))
 place_good One = refl
@@ -35,7 +35,7 @@ place_good Two = refl
 place_good Three = refl
 place_good Four = refl
 
-place_spelled : (q : Quad) → number_in (digits_of (number_of q)) ≡ Some (number_of q)
+place_spelled : (q : Quad) → number_spelt (digits_of (number_of q)) ≡ Some (number_of q)
 place_spelled One = refl
 place_spelled Two = refl
 place_spelled Three = refl
@@ -45,26 +45,26 @@ lane_good : (c : ℕ) → c < 16 → IsTrue (is_good a_lane (lane_word 0 c))
 lane_good = at_each (λ c. IsTrue (is_good a_lane (lane_word 0 c))) 16
     ((((((((((((((((tt, refl), refl), refl), refl), refl), refl), refl), refl), refl), refl), refl), refl), refl), refl), refl), refl)
 
-lane_spelled : (c : ℕ) → c < 16 → number_in (digits_of c) ≡ Some c
-lane_spelled = at_each (λ c. number_in (digits_of c) ≡ Some c) 16
+lane_spelled : (c : ℕ) → c < 16 → number_spelt (digits_of c) ≡ Some c
+lane_spelled = at_each (λ c. number_spelt (digits_of c) ≡ Some c) 16
     ((((((((((((((((tt, refl), refl), refl), refl), refl), refl), refl), refl), refl), refl), refl), refl), refl), refl), refl), refl)
 
 -- the words of the lines
-words-place : (q : Quad) (c : ℕ) → c < 16 → words (line_of (Place q c)) ≡ word_of 0 (codes "place") ∷ place_word 6 q ∷ lane_word 8 c ∷ []
-words-place One = at_each (λ c. words (line_of (Place One c)) ≡ word_of 0 (codes "place") ∷ place_word 6 One ∷ lane_word 8 c ∷ []) 16
+words-place : (q : Quad) (c : ℕ) → c < 16 → words_in (line_saying (Place q c)) ≡ word_from 0 (codes "place") ∷ place_word 6 q ∷ lane_word 8 c ∷ []
+words-place One = at_each (λ c. words_in (line_saying (Place One c)) ≡ word_from 0 (codes "place") ∷ place_word 6 One ∷ lane_word 8 c ∷ []) 16
     ((((((((((((((((tt, refl), refl), refl), refl), refl), refl), refl), refl), refl), refl), refl), refl), refl), refl), refl), refl)
-words-place Two = at_each (λ c. words (line_of (Place Two c)) ≡ word_of 0 (codes "place") ∷ place_word 6 Two ∷ lane_word 8 c ∷ []) 16
+words-place Two = at_each (λ c. words_in (line_saying (Place Two c)) ≡ word_from 0 (codes "place") ∷ place_word 6 Two ∷ lane_word 8 c ∷ []) 16
     ((((((((((((((((tt, refl), refl), refl), refl), refl), refl), refl), refl), refl), refl), refl), refl), refl), refl), refl), refl)
-words-place Three = at_each (λ c. words (line_of (Place Three c)) ≡ word_of 0 (codes "place") ∷ place_word 6 Three ∷ lane_word 8 c ∷ []) 16
+words-place Three = at_each (λ c. words_in (line_saying (Place Three c)) ≡ word_from 0 (codes "place") ∷ place_word 6 Three ∷ lane_word 8 c ∷ []) 16
     ((((((((((((((((tt, refl), refl), refl), refl), refl), refl), refl), refl), refl), refl), refl), refl), refl), refl), refl), refl)
-words-place Four = at_each (λ c. words (line_of (Place Four c)) ≡ word_of 0 (codes "place") ∷ place_word 6 Four ∷ lane_word 8 c ∷ []) 16
-    ((((((((((((((((tt, refl), refl), refl), refl), refl), refl), refl), refl), refl), refl), refl), refl), refl), refl), refl), refl)
-
-words-speaker : (c : ℕ) → c < 16 → words (line_of (Speaker c)) ≡ word_of 0 (codes "speaker") ∷ lane_word 8 c ∷ []
-words-speaker = at_each (λ c. words (line_of (Speaker c)) ≡ word_of 0 (codes "speaker") ∷ lane_word 8 c ∷ []) 16
+words-place Four = at_each (λ c. words_in (line_saying (Place Four c)) ≡ word_from 0 (codes "place") ∷ place_word 6 Four ∷ lane_word 8 c ∷ []) 16
     ((((((((((((((((tt, refl), refl), refl), refl), refl), refl), refl), refl), refl), refl), refl), refl), refl), refl), refl), refl)
 
-words-swap : (p q : Quad) → words (line_of (Swap p q)) ≡ word_of 0 (codes "swap") ∷ place_word 5 p ∷ place_word 7 q ∷ []
+words-speaker : (c : ℕ) → c < 16 → words_in (line_saying (Speaker c)) ≡ word_from 0 (codes "speaker") ∷ lane_word 8 c ∷ []
+words-speaker = at_each (λ c. words_in (line_saying (Speaker c)) ≡ word_from 0 (codes "speaker") ∷ lane_word 8 c ∷ []) 16
+    ((((((((((((((((tt, refl), refl), refl), refl), refl), refl), refl), refl), refl), refl), refl), refl), refl), refl), refl), refl)
+
+words-swap : (p q : Quad) → words_in (line_saying (Swap p q)) ≡ word_from 0 (codes "swap") ∷ place_word 5 p ∷ place_word 7 q ∷ []
 words-swap One One = refl
 words-swap One Two = refl
 words-swap One Three = refl
@@ -82,29 +82,29 @@ words-swap Four Two = refl
 words-swap Four Three = refl
 words-swap Four Four = refl
 
-words-clear : (q : Quad) → words (line_of (Clear q)) ≡ word_of 0 (codes "clear") ∷ place_word 6 q ∷ []
+words-clear : (q : Quad) → words_in (line_saying (Clear q)) ≡ word_from 0 (codes "clear") ∷ place_word 6 q ∷ []
 words-clear One = refl
 words-clear Two = refl
 words-clear Three = refl
 words-clear Four = refl
 
-words-pin : (q : Quad) → words (line_of (Pin q)) ≡ word_of 0 (codes "pin") ∷ place_word 4 q ∷ []
+words-pin : (q : Quad) → words_in (line_saying (Pin q)) ≡ word_from 0 (codes "pin") ∷ place_word 4 q ∷ []
 words-pin One = refl
 words-pin Two = refl
 words-pin Three = refl
 words-pin Four = refl
 
-words-unpin : (q : Quad) → words (line_of (Unpin q)) ≡ word_of 0 (codes "unpin") ∷ place_word 6 q ∷ []
+words-unpin : (q : Quad) → words_in (line_saying (Unpin q)) ≡ word_from 0 (codes "unpin") ∷ place_word 6 q ∷ []
 words-unpin One = refl
 words-unpin Two = refl
 words-unpin Three = refl
 words-unpin Four = refl
 
-pub says_written : (c : Command) → IsTrue (has_sayable_lane c) → Says (line_of c) c
+pub says_written : (c : Command) → IsTrue (has_sayable_lane c) → Says (line_saying c) c
 says_written (Place q c) sayable =
     let below : c < 16 = grind (arith, nat_tests) in
     record {
-      name = word_of 0 (codes "place");
+      name = word_from 0 (codes "place");
       numbers = place_word 6 q ∷ lane_word 8 c ∷ [];
       whole = words-place q c below;
       named = refl;
@@ -112,7 +112,7 @@ says_written (Place q c) sayable =
       values = ap₂ (λ v w. v ∷ w ∷ []) (place_spelled q) (lane_spelled c below);
     }
 says_written (Swap p q) sayable = record {
-  name = word_of 0 (codes "swap");
+  name = word_from 0 (codes "swap");
   numbers = place_word 5 p ∷ place_word 7 q ∷ [];
   whole = words-swap p q;
   named = refl;
@@ -122,7 +122,7 @@ says_written (Swap p q) sayable = record {
 says_written (Speaker c) sayable =
     let below : c < 16 = grind (arith, nat_tests) in
     record {
-      name = word_of 0 (codes "speaker");
+      name = word_from 0 (codes "speaker");
       numbers = lane_word 8 c ∷ [];
       whole = words-speaker c below;
       named = refl;
@@ -130,7 +130,7 @@ says_written (Speaker c) sayable =
       values = ap (λ v. v ∷ []) (lane_spelled c below);
     }
 says_written (Clear q) sayable = record {
-  name = word_of 0 (codes "clear");
+  name = word_from 0 (codes "clear");
   numbers = place_word 6 q ∷ [];
   whole = words-clear q;
   named = refl;
@@ -138,7 +138,7 @@ says_written (Clear q) sayable = record {
   values = ap (λ v. v ∷ []) (place_spelled q);
 }
 says_written (Pin q) sayable = record {
-  name = word_of 0 (codes "pin");
+  name = word_from 0 (codes "pin");
   numbers = place_word 4 q ∷ [];
   whole = words-pin q;
   named = refl;
@@ -146,7 +146,7 @@ says_written (Pin q) sayable = record {
   values = ap (λ v. v ∷ []) (place_spelled q);
 }
 says_written (Unpin q) sayable = record {
-  name = word_of 0 (codes "unpin");
+  name = word_from 0 (codes "unpin");
   numbers = place_word 6 q ∷ [];
   whole = words-unpin q;
   named = refl;

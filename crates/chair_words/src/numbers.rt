@@ -1,7 +1,7 @@
 //! The numbers of a line.
 
 ghost use Rattle.std.specs.Prelude.{◌≡◌};
-ghost use Rattle.chair_words.specs.Line.{number_in};
+ghost use Rattle.chair_words.specs.Line.{number_spelt};
 ghost use Rattle.chair_words.specs.Reading.{digit_in};
 
 /// The value of a decimal digit.
@@ -17,7 +17,7 @@ fn digit(byte: u8) -> Option<u16>
 
 /// The number that one to three decimal digits spell.
 pub fn number_of(text: &[u8]) -> Option<u16>
-    ensures { result ≡ number_in text.now }
+    ensures { result ≡ number_spelt text.now }
 {
     match text {
         [ones] => digit(*ones),

@@ -1,12 +1,13 @@
 //! The command of a line.
 
-ghost use Rattle.std.specs.Prelude.{◌≡◌, ◌≢◌, ◌≤◌, ℕ, nat_lt, ◌∷◌, length, IfOk, IfErr, MatchOption, MatchResult};
+ghost use Rattle.std.specs.Prelude.{◌≡◌, ◌≢◌, ◌≤◌, ℕ, nat_lt, length, IfOk, IfErr, MatchOption};
 ghost use Rattle.pel_model.specs.Regions.{number_of};
 ghost use Rattle.pel_model.specs.declared.chair.Command.{Command};
 ghost use Rattle.chair_words.specs.declared.reader.LineWhy.{LineWhy};
-ghost use Rattle.chair_words.specs.Words.{word_of, words, words_from};
-ghost use Rattle.chair_words.specs.Line.{longest_line, Says, Fails, FailsAt, name_of, a_place, a_lane, from_to};
-ghost use Rattle.chair_words.specs.Reading.{Answers, TakesNumber, LacksNumber, TakesNumbers, text_of};
+ghost use Rattle.chair_words.specs.Words.{word_from, words_in};
+ghost use Rattle.chair_words.specs.Line.{longest_line, Says, HasFaultAt, command_name, a_place, a_lane, from_to};
+ghost use Rattle.chair_words.specs.Reading.{AnswersLine, text_of};
+ghost use Rattle.chair_words.specs.Taking.{ReadsNumber, ReadsCommand};
 
 use crate::numbers::number_of;
 use crate::words::{Word, Words, word_start};
@@ -48,7 +49,7 @@ enum Name {
 
 /// The name that the word is, if it is one.
 fn name_in(word: &[u8]) -> Option<Name>
-    ensures { MatchOption result ((c : Command) → word.now ≢ name_of c) (λ n. word.now ≡ text_of n) }
+    ensures { MatchOption result ((c : Command) → word.now ≢ command_name c) (λ n. word.now ≡ text_of n) }
 {
     if word == "place".as_bytes() {
         Some(Name::Place)
@@ -94,13 +95,7 @@ impl<'a> Words<'a> {
     /// The next word, as a number from low to high.
     fn number(&mut self, low: u16, high: u16) -> Result<u8, LineFault>
         requires { high ≤ 255 }
-        ensures line { self.new.line.now ≡ self.old.line.now }
-        ensures read { let old = words_from self.old.line.now self.old.at in
-            let new = words_from self.new.line.now self.new.at in
-            let range = from_to low high in
-            MatchResult result
-            (λ n. TakesNumber range old new n)
-            (λ e. LacksNumber range old (length self.old.line.now) e.place e.why) }
+        ensures { ReadsNumber (λ (n : ℕ). n) (from_to low high) self.old self.new result }
     {
         let Some(word) = self.next() else {
             return Err(self.missing());
@@ -113,12 +108,7 @@ impl<'a> Words<'a> {
 
     /// The next word, as a place.
     fn place(&mut self) -> Result<Quad, LineFault>
-        ensures line { self.new.line.now ≡ self.old.line.now }
-        ensures read { let old = words_from self.old.line.now self.old.at in
-            let new = words_from self.new.line.now self.new.at in
-            MatchResult result
-            (λ q. TakesNumber a_place old new (number_of q))
-            (λ e. LacksNumber a_place old (length self.old.line.now) e.place e.why) }
+        ensures { ReadsNumber number_of a_place self.old self.new result }
     {
         let quad = match self.number(1, 4)? {
             1 => Quad::One,
@@ -131,12 +121,7 @@ impl<'a> Words<'a> {
 
     /// The next word, as a lane.
     fn lane(&mut self) -> Result<u8, LineFault>
-        ensures line { self.new.line.now ≡ self.old.line.now }
-        ensures read { let old = words_from self.old.line.now self.old.at in
-            let new = words_from self.new.line.now self.new.at in
-            MatchResult result
-            (λ c. TakesNumber a_lane old new c)
-            (λ e. LacksNumber a_lane old (length self.old.line.now) e.place e.why) }
+        ensures { ReadsNumber (λ (n : ℕ). n) a_lane self.old self.new result }
     {
         self.number(0, 15)
     }
@@ -144,13 +129,7 @@ impl<'a> Words<'a> {
     /// The command of this name, with the next words as its numbers.
     fn command(&mut self, name: Word<'a>) -> Result<Command, LineFault>
         requires { name.start ≤ longest_line }
-        ensures line { self.new.line.now ≡ self.old.line.now }
-        ensures read { let old = words_from self.old.line.now self.old.at in
-            let new = words_from self.new.line.now self.new.at in
-            let first = word_of name.entry.start name.entry.text.now in
-            MatchResult result
-            (λ c. TakesNumbers name.entry.text.now old new c)
-            (λ e. Fails (first ∷ old) (length self.old.line.now) e.place e.why) }
+        ensures { ReadsCommand (word_from name.entry.start name.entry.text.now) self.old self.new result }
     {
         let Some(known) = name_in(name.text) else {
             return Err(name.fault(LineWhy::Unknown));
@@ -170,7 +149,7 @@ impl<'a> Words<'a> {
 /// The command that the line says, or its first fault.
 fn answer(line: &[u8]) -> Result<Command, LineFault>
     requires { length line.now ≤ longest_line }
-    ensures { Answers line.now result }
+    ensures { AnswersLine line.now result }
 {
     let mut words = Words::new(line);
     let Some(name) = words.next() else {
@@ -185,7 +164,7 @@ fn answer(line: &[u8]) -> Result<Command, LineFault>
 
 /// Whether the line has a word at all.
 pub fn has_words(line: &[u8]) -> bool
-    ensures { result ≡ nat_lt 0 (length (words line.now)) }
+    ensures { result ≡ nat_lt 0 (length (words_in line.now)) }
 {
     word_start(line, 0) < line.len()
 }
@@ -196,9 +175,9 @@ pub fn has_words(line: &[u8]) -> bool
 pub fn read_line(line: &[u8]) -> Result<Command, LineFault>
     requires { length line.now ≤ longest_line }
     ensures command { IfOk result (λ c. Says line.now c) }
-    ensures fault { IfErr result (λ e. FailsAt line.now e.place e.why) }
+    ensures fault { IfErr result (λ e. HasFaultAt line.now e.place e.why) }
     ensures accepts { (c : Command) → Says line.now c → result ≡ Ok c }
-    ensures refuses { (place : ℕ) (why : LineWhy) → FailsAt line.now place why
+    ensures refuses { (place : ℕ) (why : LineWhy) → HasFaultAt line.now place why
         → result ≡ Err (record { place = place; why = why }) }
 {
     answer(line)

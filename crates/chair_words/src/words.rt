@@ -2,8 +2,8 @@
 
 ghost use Rattle.std.specs.Prelude.{◌≡◌, ◌≤◌, ◌<◌, true, [], ◌∷◌, length, slice_range, IsTrue, IfSome, IfNone};
 ghost use Rattle.chair_words.specs.Line.{longest_line};
-ghost use Rattle.chair_words.specs.Words.{is_blank, begins_at, word_of, words_from};
-ghost use Rattle.chair_words.specs.Reading.{is_outside};
+ghost use Rattle.chair_words.specs.Words.{is_blank, begins_at, word_from, words_from};
+ghost use Rattle.chair_words.specs.Reading.{is_between_words};
 
 /// A word of a line, and where its first byte stands.
 #[derive(Clone, Copy)]
@@ -19,7 +19,7 @@ pub struct Words<'a> {
     pub at: usize,
     ghost short: { length line.now ≤ longest_line },
     ghost within: { at ≤ length line.now },
-    ghost outside: { IsTrue (is_outside line.now at) },
+    ghost outside: { IsTrue (is_between_words line.now at) },
 }
 
 /// Whether the byte parts words: space, tab or carriage return.
@@ -32,7 +32,7 @@ fn is_blank(byte: u8) -> bool
 /// The first byte from here on that is no blank, or the line's end.
 pub fn word_start(line: &[u8], from: usize) -> usize
     requires within { from ≤ length line.now }
-    requires outside { IsTrue (is_outside line.now from) }
+    requires outside { IsTrue (is_between_words line.now from) }
     ensures within { result ≤ length line.now }
     ensures begins { result < length line.now → begins_at line.now result ≡ true }
     ensures same { words_from line.now from ≡ words_from line.now result }
@@ -50,9 +50,9 @@ fn word_end(line: &[u8], start: usize) -> usize
     requires begins { begins_at line.now start ≡ true }
     ensures above { start < result }
     ensures within { result ≤ length line.now }
-    ensures outside { IsTrue (is_outside line.now result) }
+    ensures outside { IsTrue (is_between_words line.now result) }
     ensures word { words_from line.now start
-        ≡ word_of start (slice_range line.now start result) ∷ words_from line.now result }
+        ≡ word_from start (slice_range line.now start result) ∷ words_from line.now result }
 {
     let mut end = start + 1;
     while end < line.len() && !is_blank(line[end]) {
@@ -77,7 +77,7 @@ impl<'a> Words<'a> {
         ensures start { IfSome result (λ w. w.start ≤ longest_line) }
         ensures none { IfNone result (words_from self.old.line.now self.old.at ≡ []) }
         ensures some { IfSome result (λ w. words_from self.old.line.now self.old.at
-            ≡ word_of w.start w.text.now ∷ words_from self.new.line.now self.new.at) }
+            ≡ word_from w.start w.text.now ∷ words_from self.new.line.now self.new.at) }
     {
         let start = word_start(self.line, self.at);
         if start == self.line.len() {

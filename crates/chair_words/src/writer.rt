@@ -2,7 +2,7 @@
 
 ghost use Rattle.std.specs.Prelude.{◌≡◌, ◌≤◌, ◌<◌, ◌+◌, ◌∷◌, ◌++◌, IsTrue};
 ghost use Rattle.arrayvec.specs.ArrayString.{array_string_len};
-ghost use Rattle.chair_words.specs.Line.{Says, digits_of, has_sayable_lane, line_of};
+ghost use Rattle.chair_words.specs.Line.{Says, digits_of, has_sayable_lane, line_saying};
 
 use arrayvec::ArrayString;
 use pel_model::Command;
@@ -23,7 +23,7 @@ fn push_number(line: &mut ArrayString<16>, number: u8)
 /// The words of a command, with one space between.
 fn words_of(command: Command) -> ArrayString<16>
     requires { IsTrue (has_sayable_lane command) }
-    ensures { result.bytes ≡ line_of command }
+    ensures { result.bytes ≡ line_saying command }
 {
     let mut line = ArrayString::new();
     match command {
@@ -61,7 +61,7 @@ fn words_of(command: Command) -> ArrayString<16>
 /// command is at most 15.
 pub fn write_line(command: Command) -> ArrayString<16>
     requires { IsTrue (has_sayable_lane command) }
-    ensures words { result.bytes ≡ line_of command }
+    ensures words { result.bytes ≡ line_saying command }
     ensures reads_back { Says result.bytes command }
 {
     words_of(command)

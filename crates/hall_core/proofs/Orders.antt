@@ -6,7 +6,7 @@ use Rattle.pel_model.specs.declared.chair.Reply.{Reply}
 use Rattle.pel_model.specs.History.{Order, History, commands}
 use Rattle.pel_model.specs.Plan.{changed as is_changed}
 use Rattle.pel_model.specs.Takes.{last_taken}
-use Rattle.stage_plan.specs.Places.{PlanView, StandsFor as IsPlanOf}
+use Rattle.stage_plan.specs.Places.{PlanView, IsPlanOf}
 use Rattle.stage_plan.specs.PerPlace.{in_place}
 use Rattle.stage_plan.specs.declared.per_place.PerPlace.{PerPlace}
 use Rattle.hall_core.specs.declared.hall.Hall.TheInside.{Inside}

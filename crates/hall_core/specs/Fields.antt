@@ -6,7 +6,7 @@ use Rattle.h261_pic.specs.Coded.{Coding}
 use Rattle.hall_core.specs.declared.hall.Hall.TheInside.{Inside}
 use Rattle.lane_ring.specs.Ring.{LaneView}
 use Rattle.pel_model.specs.declared.chair.Command.{Command}
-use Rattle.stage_plan.specs.Places.{StandsFor as IsPlanOf}
+use Rattle.stage_plan.specs.Places.{IsPlanOf}
 use Rattle.hall_core.specs.Boxes.{ring_of, IsQcifLane}
 use Rattle.hall_core.specs.Hall.{HallView}
 

@@ -11,7 +11,7 @@ use Rattle.pel_model.specs.History.{Step, History, arrivals, commands, total_of,
 use Rattle.pel_model.specs.Legal.{Legal}
 use Rattle.pel_model.specs.Records.{Picture}
 use Rattle.pel_model.specs.Takes.{last_taken, held_pictures, choice}
-use Rattle.stage_plan.specs.Places.{StandsFor as IsPlanOf}
+use Rattle.stage_plan.specs.Places.{IsPlanOf}
 use Rattle.stage_plan.specs.PerPlace.{in_place}
 use Rattle.hall_core.specs.Hall.{RingView, HallView, lanes_of}
 

@@ -1,5 +1,5 @@
 -- Items seen as other items: their serials, and what may be shown, stay the same.
-use Rattle.std.proofs.Common.{◌≡◌, ℕ, ◌+◌, ◌-◌, Bool, true, false, cond, Option, Some, None, List, [], ◌∷◌, length, map, filter, find, drop, refl, sym, ap, ap₂, ◌∙◌}
+use Rattle.std.proofs.Common.{◌≡◌, ℕ, ◌+◌, ◌-◌, true, false, cond, Option, Some, None, List, [], ◌∷◌, length, map, filter, drop, refl, ap, ◌∙◌}
 use Rattle.std.proofs.lemmas.List.{length-map}
 use Rattle.std.specs.List.{drop-map}
 use Rattle.std.specs.Option.{option_map}

@@ -1,6 +1,6 @@
 //! A lane over two rings: the held items and the spare ones, eight together.
 
-ghost use Rattle.std.specs.Prelude.{◌≡◌, ℕ, ◌+◌, ◌^◌, ◌<◌, ◌==◌, List, [], ◌∷◌, ◌++◌, drop, length, slice_get, nat_lt, vec_len, IfOk, if◌then◌else◌};
+ghost use Rattle.std.specs.Prelude.{◌≡◌, ℕ, ◌+◌, ◌^◌, ◌<◌, ◌==◌, List, [], ◌∷◌, ◌++◌, length, vec_len, IfOk};
 ghost use Rattle.std.specs.List.{list_any, after_first};
 ghost use Rattle.circular_buffer.specs.Buffer.{buffer};
 ghost use Rattle.pel_model.specs.declared.held.Held.{Held as TheHeld};
@@ -58,7 +58,7 @@ fn may_follow<T>(held: &Held<T>, last: Option<u64>) -> bool
 }
 
 impl<T: Drop> Lane<T> {
-    ghost use Rattle.lane_ring.specs.Taking.{items_of, items_passed, former_item, slot_item, serial_of};
+    ghost use Rattle.lane_ring.specs.Taking.{spares_after, given_of, items_passed, former_item, slot_item, serial_of};
     ghost use Rattle.pel_model.specs.Lanes.{Arrival, Received, Missing};
     ghost use Rattle.lane_ring.specs.Arrivals.{HasArrivals};
 
@@ -98,9 +98,7 @@ impl<T: Drop> Lane<T> {
     /// Gives the next serial to nothing. The count has to be below 2^62.
     pub fn gap(&mut self)
         requires { self.old.count < 2 ^ 62 }
-        ensures held { self.new.held ≡ self.old.held }
-        ensures spares { self.new.spares ≡ self.old.spares }
-        ensures count { self.new.count ≡ self.old.count + 1 }
+        ensures counts { self.new ≡ record self.old { count = self.old.count + 1 } }
         ensures arrivals { (low : ℕ) (xs : List (Arrival T)) → HasArrivals self.old low xs →
             HasArrivals self.new low (xs ++ Missing ∷ []) }
     {
@@ -114,12 +112,8 @@ impl<T: Drop> Lane<T> {
         ensures held { self.new.held ≡ last_of lane_room (self.old.held
             ++ record { serial = self.old.count + 1; refresh = refresh; item = item } ∷ []) }
         ensures count { self.new.count ≡ self.old.count + 1 }
-        ensures spares { self.new.spares
-            ≡ (if nat_lt (length self.old.held) lane_room then drop 1 self.old.spares
-            else self.old.spares) }
-        ensures given { Some result
-            ≡ (if nat_lt (length self.old.held) lane_room then slice_get self.old.spares 0
-            else slice_get (items_of self.old.held) 0) }
+        ensures spares { self.new.spares ≡ spares_after self.old }
+        ensures given { Some result ≡ given_of self.old }
         ensures arrivals { (low : ℕ) (xs : List (Arrival T)) → HasArrivals self.old low xs →
             HasArrivals self.new low (xs ++ Received refresh item ∷ []) }
     {

@@ -14,7 +14,7 @@ use Rattle.pel_model.specs.declared.chair.Reply.TheVariants.{Done}
 use Rattle.pel_model.specs.Plan.{Stage, stage, ordered, answer, is_same_lane, places, is_place, is_standing, vacant_place, place_for_speaker, answer_at, carried_out, is_done, silence, is_same, is_lane, without, spoke_before, quietest_by, quietest_place}
 use Rattle.stage_plan.specs.declared.per_place.PerPlace.{PerPlace}
 use Rattle.stage_plan.specs.PerPlace.{in_place, with_place, in_all}
-use Rattle.stage_plan.specs.Places.{PlanView, lane_in, is_pinned, IsInOrder, IsPlan, StandsFor, IsUnmoved, rank_of}
+use Rattle.stage_plan.specs.Places.{PlanView, lane_in, is_pinned, IsInOrder, IsPlan, IsPlanOf, IsUnmoved, rank_of}
 use Rattle.stage_plan.specs.Steps.{is_lower, is_ranked_below, HasStage, Obeys, stage_of}
 use Rattle.stage_plan.specs.Ranks.{Raises}
 
@@ -186,13 +186,13 @@ in_all_is {A} f x one two three four =
     (ap₂ (λ (a b : A). (a, b)) one two) (ap₂ (λ (a b : A). (a, b)) three four)
 
 -- a plan that stands for commands has the stage that they leave
-has_of : (plan : PlanView) (commands : List Command) → StandsFor plan commands → HasStage plan (stage plan.lanes commands)
+has_of : (plan : PlanView) (commands : List Command) → IsPlanOf plan commands → HasStage plan (stage plan.lanes commands)
 has_of plan commands h = record { seats = h.seats; pins = h.pins; order = h.order }
 
 -- the plan after a command
 module _ (command : Command) (old mid : PlanView) (reply : Reply) (marks : PerPlace Bool) (obeys : Obeys command old mid reply)
     (marked : (q : Quad) → in_place marks q ≡ not (is_same_lane (lane_in mid q) (lane_in old q))) where
-  pub stands_after : (commands : List Command) → StandsFor old commands → StandsFor (record mid { changes = marks }) (command ∷ commands)
+  pub stands_after : (commands : List Command) → IsPlanOf old commands → IsPlanOf (record mid { changes = marks }) (command ∷ commands)
   stands_after commands h =
       let s = stage old.lanes commands in
       let same = stage_is old s (has_of old commands h) in
@@ -210,7 +210,7 @@ module _ (command : Command) (old mid : PlanView) (reply : Reply) (marks : PerPl
             (h.seats q ∙ ap (λ n. (stage n commands).lane_in q) (sym obeys.lanes));
       }
 
-  pub reply_is : (commands : List Command) → StandsFor old commands → reply ≡ answer old.lanes commands command
+  pub reply_is : (commands : List Command) → IsPlanOf old commands → reply ≡ answer old.lanes commands command
   reply_is commands h =
       let s = stage old.lanes commands in
       obeys.answered s.speakers h.order

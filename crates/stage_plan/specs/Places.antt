@@ -49,7 +49,7 @@ IsInOrder plan spoke =
     (c d : ℕ) → c < 16 → d < 16 → nat_lt (rank_of plan c) (rank_of plan d) ≡ nat_lt (silence spoke d) (silence spoke c)
 
 -- the plan stands for these commands, the newest first
-pub record StandsFor (plan : PlanView) (commands : List Command) : Type 0 where
+pub record IsPlanOf (plan : PlanView) (commands : List Command) : Type 0 where
   pub seats : (q : Quad) → lane_in plan q ≡ at plan.lanes commands q
   pub pins : (q : Quad) → is_pinned plan q ≡ pinned plan.lanes commands q
   pub order : IsInOrder plan (speakers plan.lanes commands)

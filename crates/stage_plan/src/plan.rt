@@ -108,7 +108,7 @@ impl Plan {
     ghost use Rattle.pel_model.specs.declared.chair.Command.TheVariants.{Place, Clear, Swap, Speaker, Pin, Unpin};
     ghost use Rattle.pel_model.specs.declared.chair.Reply.TheVariants.{Done};
     ghost use Rattle.pel_model.specs.Plan.{at, changed, is_standing, vacant_place, quietest_by, has_quieter, carried_out, is_done};
-    ghost use Rattle.stage_plan.specs.Places.{lane_in, is_pinned, IsInOrder, IsUnmoved, StandsFor};
+    ghost use Rattle.stage_plan.specs.Places.{lane_in, is_pinned, IsInOrder, IsUnmoved, IsPlanOf};
     ghost use Rattle.stage_plan.specs.Steps.{is_ranked_below, stage_of, Obeys};
 
     /// The plan of a conference of so many lanes, 1 to 16: all places are empty, and none is pinned.
@@ -116,7 +116,7 @@ impl Plan {
         requires low { 1 ≤ lanes }
         requires high { lanes ≤ 16 }
         ensures lanes { result.lanes ≡ lanes }
-        ensures stands { StandsFor result [] }
+        ensures stands { IsPlanOf result [] }
     {
         Plan {
             lanes,
@@ -130,7 +130,7 @@ impl Plan {
     /// The lane that stands in a place.
     pub fn at(&self, place: Quad) -> Option<u8>
         ensures lane { result ≡ lane_in self.now place }
-        ensures stands { (H : List Command) → StandsFor self.now H
+        ensures stands { (H : List Command) → IsPlanOf self.now H
             → result ≡ at self.now.lanes H place }
     {
         self.seats.of(place)
@@ -140,7 +140,7 @@ impl Plan {
     /// and in a new plan.
     pub fn changed(&self) -> [bool; 4]
         ensures changes { result ≡ map (in_place self.now.changes) places }
-        ensures stands { (H : List Command) → StandsFor self.now H
+        ensures stands { (H : List Command) → IsPlanOf self.now H
             → result ≡ map (changed self.now.lanes H) places }
     {
         [
@@ -342,10 +342,10 @@ impl Plan {
     /// are pinned.
     pub fn apply(&mut self, command: Command) -> Reply
         ensures lanes { self.new.lanes ≡ self.old.lanes }
-        ensures reply { (H : List Command) → StandsFor self.old H
+        ensures reply { (H : List Command) → IsPlanOf self.old H
             → result ≡ answer self.old.lanes H command }
-        ensures stands { (H : List Command) → StandsFor self.old H
-            → StandsFor self.new (command ∷ H) }
+        ensures stands { (H : List Command) → IsPlanOf self.old H
+            → IsPlanOf self.new (command ∷ H) }
         ensures refused { is_done result ≡ false → IsUnmoved self.old self.new
             × (self.new.changes ≡ in_all false) }
     {
