@@ -1,3 +1,4 @@
-mod HouseLemmas
+pub mod AllowanceLemmas
+mod DirectoryLemmas
 mod ReadLemmas
 mod WriteLemmas

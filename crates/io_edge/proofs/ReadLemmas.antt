@@ -1,9 +1,7 @@
--- What a read gives and what it leaves, and what several reads or writes do together.
-use Rattle.std.proofs.Common.{◌≡◌, ℕ, ◌+◌, ◌-◌, ◌<◌, ◌≤◌, List, [], ◌++◌, Option, min, length, take, drop, sym, ap, subst, ◌∙◌, arith, drop-drop, length-take-le}
+-- What a read gives and what it leaves, and what several reads do together.
+use Rattle.std.proofs.Common.{◌≡◌, ℕ, ◌+◌, ◌-◌, ◌<◌, ◌≤◌, List, [], ◌++◌, min, length, take, drop, sym, ap, ◌∙◌, arith, drop-drop, length-take-le}
 use Rattle.std.proofs.Math.Seq.{take-append_seam, take-append-add}
 use Rattle.std.proofs.lemmas.List.{take-append-drop, take-append-le, drop_all}
-use Rattle.std.specs.Io.KnownBytes.{Consumes}
-use Rattle.std.proofs.KnownBytes.{Consumes-trans}
 use borrow.Rule.Slice.PartMut.{put_mid, post_of}
 
 -- the octets read stand at the front of the buffer, and they and what is left are what was left before
@@ -19,14 +17,13 @@ pub nothing_left : (bytes : List ℕ) (at n room piece : ℕ) → 0 < room → 0
     → drop (at + n) bytes ≡ []
 nothing_left bytes at n room piece some any is none = drop_all (at + n) bytes (omega arith)
 
--- count octets stood at the front of the slice, and n more were read behind them
-pub read_behind : (a b c : Option (List ℕ)) (xs part : List ℕ) (count k n : ℕ) → count ≤ length xs → n ≤ length part
-    → Consumes a b (take count xs) → Consumes b c (take n part) → Consumes a c (take (count + n) (put_mid count k xs part))
-read_behind a b c xs part count k n within fits before read =
+-- count octets stood at the front of a slice, and n more were put behind them
+pub front_grows : (xs part : List ℕ) (count k n : ℕ) → count ≤ length xs → n ≤ length part
+    → take count xs ++ take n part ≡ take (count + n) (put_mid count k xs part)
+front_grows xs part count k n within fits =
     let front = take count xs in
     let behind = post_of count k xs in
-    let both : take (count + n) (put_mid count k xs part) ≡ front ++ take n part =
-    ap (λ m. take (m + n) (put_mid count k xs part)) (sym (length-take-le count xs within))
+    sym
+    (ap (λ m. take (m + n) (put_mid count k xs part)) (sym (length-take-le count xs within))
     ∙ take-append-add front (part ++ behind) n
-    ∙ ap (λ ys. front ++ ys) (take-append-le n part behind fits) in
-    subst (Consumes a c) (sym both) (Consumes-trans a b c front (take n part) before read)
+    ∙ ap (λ ys. front ++ ys) (take-append-le n part behind fits))

@@ -1,7 +1,10 @@
+pub mod Allowance
+pub mod Asking
+pub mod Calls
 pub mod Causes
+pub mod Directory
 pub mod Edge
-pub mod House
 pub mod Memory
 pub mod Outside
-pub mod Steps
+pub mod Ticks
 pub mod Whole

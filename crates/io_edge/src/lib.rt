@@ -3,21 +3,23 @@
 //! memory, of which everything is told and which fail on demand, and objects over `std::io`, of which nothing is.
 #![tactic(auto)]
 
+mod allowance;
 mod edges;
-mod houses;
-mod lines;
+mod line_ticker;
 mod memory;
-mod outside;
-mod ticks;
+mod openers;
+mod standard;
+mod tickers;
 mod whole;
 
+pub use allowance::{Allowance, Pause, Shortfall};
 pub use edges::{Failed, Sink, Source};
-pub use houses::{FileHouse, MemHouse, Opener};
-pub use lines::LineTicker;
+pub use line_ticker::LineTicker;
 pub use memory::{MemSink, MemSource};
-pub use outside::{ReadEdge, WriteEdge};
-pub use ticks::{MemTicker, Ticker};
-pub use whole::{FillStop, Filled, fill, put_all};
+pub use openers::{FileHouse, MemHouse, Opener};
+pub use standard::{ReadEdge, WriteEdge};
+pub use tickers::{MemTicker, Ticker};
+pub use whole::put_all;
 
 #[cfg(test)]
 mod tests;

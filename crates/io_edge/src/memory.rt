@@ -1,9 +1,7 @@
 //! A source and a sink in memory. They fail the calls that they were told to, so that faults can be tried out.
-ghost use Rattle.std.specs.Prelude.{◌≡◌, ◌+◌, ◌-◌, ◌^◌, ◌<◌, ◌≤◌, ◌↔◌, ◌⊎◌, ◌++◌, [], Some, min, length, take, drop, vec_len, vec_capacity, Contains, IsErr, IfOk, OnOk, OnErr};
-ghost use Rattle.std.specs.Io.{ReadsAtMost};
-ghost use Rattle.std.specs.Io.KnownBytes.{ReadConsumes, WriteAppends};
-ghost use Rattle.io_edge.specs.Causes.{HasCause};
-ghost use Rattle.io_edge.specs.Memory.{call_after, fault_after};
+ghost use Rattle.std.specs.Prelude.{◌≡◌, ◌<◌, [], length, IfOk};
+ghost use Rattle.io_edge.specs.Calls.{ReadsPiece, WritesPiece};
+ghost use Rattle.io_edge.specs.Memory.{GivesPiece, TakesPiece, source_tells, sink_tells};
 
 use super::{Failed, Sink, Source};
 use pel_bits::NoMemory;
@@ -70,25 +68,14 @@ impl MemSource {
 }
 
 impl Source for MemSource {
-    ghost left = { λ s. Some s.left };
-
-    ghost faults = { λ s. s.faults };
+    ghost tells = { source_tells };
 
     /// Fails exactly the listed calls. Another call gives as many octets as it may, the buffer can take and are
     /// left.
     fn read(&mut self, buf: &mut [u8]) -> Result<usize, Failed>
         requires { 0 < length buf.old }
-        ensures bound { ReadsAtMost result buf.new }
-        ensures bytes { ReadConsumes (Some self.old.left) (Some self.new.left) result buf.new }
-        ensures cause { HasCause self.old.faults self.new.faults result }
-        ensures fails { IsErr result ↔ Contains self.old.fails (call_after self.old.calls) }
-        ensures count { IfOk result (λ n. n ≡ min (min (length buf.old) self.old.piece)
-            (length self.old.left)) }
-        ensures given { IfOk result (λ n. buf.new ≡ take n self.old.left ++ drop n buf.old) }
-        ensures after { IfOk result (λ n. self.new ≡ record self.old
-            { calls = call_after self.old.calls; left = drop n self.old.left }) }
-        ensures err { OnErr result (self.new ≡ record self.old
-            { calls = call_after self.old.calls; faults = fault_after self.old.faults }) }
+        ensures read { ReadsPiece (source_tells self.old) (source_tells self.new) buf.new result }
+        ensures piece { GivesPiece self.old self.new buf.old buf.new result }
     {
         self.calls = self.calls.saturating_add(1);
         if self.fails.contains(&self.calls) {
@@ -171,27 +158,14 @@ impl MemSink {
 }
 
 impl Sink for MemSink {
-    ghost written = { λ s. Some s.written };
-
-    ghost faults = { λ s. s.faults };
+    ghost tells = { sink_tells };
 
     /// Fails exactly the listed calls and those that find it full. Another call takes as many octets as it may and
     /// there is room for.
     fn write(&mut self, piece: &[u8]) -> Result<usize, Failed>
         requires { 0 < length piece.now }
-        ensures bound { IfOk result (λ n. (0 < n) × (n ≤ length piece.now)) }
-        ensures bytes { WriteAppends (Some self.old.written) (Some self.new.written) result
-            piece.now }
-        ensures cause { HasCause self.old.faults self.new.faults result }
-        ensures fails { IsErr result ↔
-            (Contains self.old.fails (call_after self.old.calls)
-            ⊎ (self.old.room ≤ length self.old.written)) }
-        ensures count { IfOk result (λ n. n ≡ min (min (length piece.now) self.old.piece)
-            (self.old.room - length self.old.written)) }
-        ensures after { IfOk result (λ n. self.new ≡ record self.old
-            { calls = call_after self.old.calls; written = self.old.written ++ take n piece.now }) }
-        ensures err { OnErr result (self.new ≡ record self.old
-            { calls = call_after self.old.calls; faults = fault_after self.old.faults }) }
+        ensures write { WritesPiece (sink_tells self.old) (sink_tells self.new) piece.now result }
+        ensures piece { TakesPiece self.old self.new piece.now result }
     {
         self.calls = self.calls.saturating_add(1);
         let free = self.room - self.bytes.len();

@@ -1,7 +1,7 @@
 //! What the objects do in a row of calls, with the answers counted by hand.
 use super::{
-    Failed, FileHouse, FillStop, LineTicker, MemHouse, MemSink, MemSource, MemTicker, Opener,
-    ReadEdge, Sink, Source, Ticker, WriteEdge, fill, put_all,
+    Allowance, Failed, FileHouse, LineTicker, MemHouse, MemSink, MemSource, MemTicker, Opener,
+    Pause, ReadEdge, Shortfall, Sink, Source, Ticker, WriteEdge, put_all,
 };
 use std::io;
 use std::io::{ErrorKind, Read, Write};
@@ -24,36 +24,59 @@ fn a_source_gives_pieces_and_fails_the_listed_calls(rt: HostRuntime) -> Result<(
 }
 
 #[test]
-fn filling_stops_at_the_first_reason(rt: HostRuntime) -> Result<(), Fail> {
+fn fetching_stops_at_the_first_reason(rt: HostRuntime) -> Result<(), Fail> {
     let alloc = rt.alloc();
-    // piece, the call that fails, room; how many octets of the four asked for, and why no more
+    // piece, the call that fails, budget; how many octets of the four asked for, and why no more
     let rows = [
-        (1, 9, 9, 4, FillStop::Full),
-        (3, 9, 4, 4, FillStop::Full),
-        (3, 9, 3, 3, FillStop::Limited),
-        (3, 1, 0, 0, FillStop::Limited),
-        (3, 2, 9, 3, FillStop::Failing),
-        (3, 1, 9, 0, FillStop::Failing),
+        (1, 9, 9, 4, None),
+        (3, 9, 4, 4, None),
+        (3, 9, 3, 3, Some(Pause::Limit)),
+        (3, 1, 0, 0, Some(Pause::Limit)),
+        (3, 2, 9, 3, Some(Pause::Fault)),
+        (3, 1, 9, 0, Some(Pause::Fault)),
     ];
-    for (piece, fails, room, count, stop) in rows {
+    for (piece, fails, budget, count, pause) in rows {
         let bytes = vec![in alloc; 1, 2, 3, 4, 5]?;
         let fails = vec![in alloc; fails]?;
         let mut source = MemSource::new(bytes, fails, piece);
+        let mut allowance = Allowance::new(budget);
         let mut buf = [0; 4];
-        let filled = fill(&mut source, &mut buf, room);
+        let short = allowance.fetch(&mut source, &mut buf).err();
         assert_eq!(rt;
-            (filled.count, filled.stop),
-            (count, stop),
-            "piece {piece}, room {room}"
+            short,
+            pause.map(|pause| Shortfall { count, pause }),
+            "piece {piece}, budget {budget}"
         );
-        assert_eq!(rt; source.left().len() + count, 5);
+        assert_eq!(rt;
+            (allowance.taken(), source.left().len() + count),
+            (count as u64, 5)
+        );
     }
-    let bytes = vec![in alloc; 7, 8]?;
-    let mut source = MemSource::new(bytes, Vec::new(alloc), 9);
+    Ok(())
+}
+
+#[test]
+fn octets_come_one_by_one(rt: HostRuntime) -> Result<(), Fail> {
+    let alloc = rt.alloc();
+    let bytes = vec![in alloc; 7, 8, 9]?;
+    let fails = vec![in alloc; 2]?;
+    let mut source = MemSource::new(bytes, fails, 9);
+    let mut allowance = Allowance::new(2);
+    let wants = [Ok(7), Err(Pause::Fault), Ok(8), Err(Pause::Limit)];
+    for want in wants {
+        assert_eq!(rt; allowance.octet(&mut source), want);
+    }
+    let mut rest = Allowance::new(9);
     let mut buf = [0; 4];
-    let filled = fill(&mut source, &mut buf, 9);
-    assert_eq!(rt; (filled.count, filled.stop), (2, FillStop::AtEnd));
-    assert_eq!(rt; buf, [7, 8, 0, 0]);
+    let short = rest.fetch(&mut source, &mut buf).err();
+    assert_eq!(rt;
+        short,
+        Some(Shortfall {
+            count: 1,
+            pause: Pause::End
+        })
+    );
+    assert_eq!(rt; buf, [9, 0, 0, 0]);
     Ok(())
 }
 

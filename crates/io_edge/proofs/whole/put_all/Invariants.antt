@@ -10,6 +10,6 @@ abbrev pub invariant-loop-count : goal.invariant-loop-count
 invariant-loop-count g l =
     record {
       within : l.count ≤ length l.fn.piece;
-      bytes : Appends (g.K.Sink.written l.fn.sink) (g.K.Sink.written l.sink) (take l.count l.fn.piece);
-      kept : g.K.Sink.faults l.sink ≡ g.K.Sink.faults l.fn.sink;
+      bytes : Appends (g.K.Sink.tells l.fn.sink).written (g.K.Sink.tells l.sink).written (take l.count l.fn.piece);
+      kept : (g.K.Sink.tells l.sink).faults ≡ (g.K.Sink.tells l.fn.sink).faults;
     }

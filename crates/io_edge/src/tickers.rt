@@ -1,27 +1,24 @@
 //! The steps of a conference's ticks: what an object that gives them promises, and one in memory, which fails the calls
 //! that it was told to.
-ghost use Rattle.std.specs.Prelude.{ℕ, ◌≡◌, ◌+◌, ◌-◌, ◌^◌, ◌<◌, ◌≤◌, ◌↔◌, List, Option, None, Some, min, length, drop, vec_len, All, Contains, IfOk, IfSome, IsErr, OnErr};
-ghost use Rattle.io_edge.specs.Causes.{HasCause};
-ghost use Rattle.io_edge.specs.Memory.{call_after, fault_after};
-ghost use Rattle.io_edge.specs.Steps.{GivesStep, IsStep};
+ghost use Rattle.std.specs.Prelude.{ℕ, ◌≡◌, All};
+ghost use Rattle.io_edge.specs.Calls.{GivesNextStep};
+ghost use Rattle.io_edge.specs.Memory.{GivesListed, ticker_tells};
+ghost use Rattle.io_edge.specs.Outside.{Input};
+ghost use Rattle.io_edge.specs.Ticks.{IsStep};
 
 use super::Failed;
 use std::marker::Model;
 
 /// The steps of ticks come from here, in picture times of 1,001 / 30,000 seconds.
 pub trait Ticker {
-    // The steps that calls will give from here on, where they are told.
-    ghost steps: { Self → Option (List ℕ) } = { λ _. None };
-
-    // How many of its calls failed. The count stays at its last value, 2 ^ 64 - 1.
-    ghost faults: { Self → ℕ };
+    // The steps that calls will give from here on, where they are told, and how many of its calls failed. That count stays
+    // at its last value, 2 ^ 64 - 1.
+    ghost tells: { Self → Input };
 
     /// The next step, from 1 to 31, or None where none is left. A call that fails leaves the steps, and raises the count
     /// of faults; no other call changes it.
     fn next(&mut self) -> Result<Option<u8>, Failed>
-        ensures range { IfOk result (λ given. IfSome given IsStep) }
-        ensures step { GivesStep (steps self.old) (steps self.new) result }
-        ensures cause { HasCause (faults self.old) (faults self.new) result };
+        ensures { GivesNextStep (tells self.old) (tells self.new) result };
 }
 
 /// Steps in memory. Its calls are numbered from 1.
@@ -37,7 +34,7 @@ pub struct MemTicker {
 impl Model for MemTicker {
     ghost use Rattle.std.specs.Prelude.{◌≤◌, vec_len, drop, All};
     ghost use Rattle.io_edge.specs.Memory.{TickerState};
-    ghost use Rattle.io_edge.specs.Steps.{IsStep};
+    ghost use Rattle.io_edge.specs.Ticks.{IsStep};
 
     ghost Value = { TickerState };
 
@@ -68,20 +65,12 @@ impl MemTicker {
 }
 
 impl Ticker for MemTicker {
-    ghost steps = { λ s. Some s.steps };
-
-    ghost faults = { λ s. s.faults };
+    ghost tells = { ticker_tells };
 
     /// Fails exactly the listed calls. Another call gives the next step.
     fn next(&mut self) -> Result<Option<u8>, Failed>
-        ensures range { IfOk result (λ given. IfSome given IsStep) }
-        ensures step { GivesStep (Some self.old.steps) (Some self.new.steps) result }
-        ensures cause { HasCause self.old.faults self.new.faults result }
-        ensures fails { IsErr result ↔ Contains self.old.fails (call_after self.old.calls) }
-        ensures after { IfOk result (λ _. self.new ≡ record self.old
-            { calls = call_after self.old.calls; steps = self.new.steps }) }
-        ensures err { OnErr result (self.new ≡ record self.old
-            { calls = call_after self.old.calls; faults = fault_after self.old.faults }) }
+        ensures step { GivesNextStep (ticker_tells self.old) (ticker_tells self.new) result }
+        ensures listed { GivesListed self.old self.new result }
     {
         self.calls = self.calls.saturating_add(1);
         if self.fails.contains(&self.calls) {

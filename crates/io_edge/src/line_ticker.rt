@@ -1,7 +1,7 @@
 //! The steps of ticks as lines of a reader, as a user or a timer writes them on standard input.
-ghost use Rattle.std.specs.Prelude.{◌≡◌, ◌+◌, ◌-◌, ◌^◌, ◌<◌, ◌≤◌, min, IfOk, IsErr};
-ghost use Rattle.io_edge.specs.Causes.{HasCause, Rose};
-ghost use Rattle.io_edge.specs.Steps.{IsStep};
+ghost use Rattle.std.specs.Prelude.{◌≡◌, ◌≤◌, None, IfOk, IsErr};
+ghost use Rattle.io_edge.specs.Causes.{HasCause};
+ghost use Rattle.io_edge.specs.Ticks.{IsStep};
 
 use super::{Failed, Ticker};
 use std::io::Read;
@@ -64,18 +64,11 @@ impl<R: Read> LineTicker<R> {
         ensures range { IfOk result IsStep }
         ensures cause { HasCause self.old.faults self.new.faults result }
     {
-        match self.octet()? {
-            None | Some(b'\n') if first > 0 => Ok(first),
-            Some(second @ b'0'..=b'9') => self.step_of(10 * first + (second - b'0')),
-            _other => self.fail(),
-        }
-    }
-
-    // The step of a line of two digits with this value, which have been read.
-    fn step_of(&mut self, value: u8) -> Result<u8, Failed>
-        ensures range { IfOk result IsStep }
-        ensures cause { HasCause self.old.faults self.new.faults result }
-    {
+        let value = match self.octet()? {
+            None | Some(b'\n') if first > 0 => return Ok(first),
+            Some(second @ b'0'..=b'9') => 10 * first + (second - b'0'),
+            _other => return self.fail(),
+        };
         if value == 0 || value > 31 {
             return self.fail();
         }
@@ -87,7 +80,7 @@ impl<R: Read> LineTicker<R> {
 }
 
 impl<R: Read> Ticker for LineTicker<R> {
-    ghost faults = { λ s. s.faults };
+    ghost tells = { λ s. record { left = None; faults = s.faults } };
 
     fn next(&mut self) -> Result<Option<u8>, Failed> {
         match self.octet()? {

@@ -1,8 +1,7 @@
 //! The edge to `std::io`: a reader as a source, a writer as a sink, with a count of their errors. Of the octets they
 //! tell what the reader or the writer tells, which is nothing at a terminal, a pipe or a file.
-ghost use Rattle.std.specs.Prelude.{◌≡◌, ◌<◌, ◌≤◌, length, IfOk};
-ghost use Rattle.std.specs.Io.{ReadsAtMost};
-ghost use Rattle.std.specs.Io.KnownBytes.{Keeps, ReadConsumes, WriteAppends};
+ghost use Rattle.std.specs.Prelude.{◌≡◌, ◌<◌, length};
+ghost use Rattle.std.specs.Io.KnownBytes.{Keeps};
 ghost use Rattle.io_edge.specs.Causes.{HasCause};
 
 use super::{Failed, Sink, Source};
@@ -40,9 +39,7 @@ impl<R: Read> ReadEdge<R> {
 }
 
 impl<R: Read> Source for ReadEdge<R> {
-    ghost left = { λ s. R.remaining s.inner };
-
-    ghost faults = { λ s. s.faults };
+    ghost tells = { λ s. record { left = R.remaining s.inner; faults = s.faults } };
 
     fn read(&mut self, buf: &mut [u8]) -> Result<usize, Failed> {
         match self.reader.read(buf) {
@@ -100,9 +97,7 @@ impl<W: Write> WriteEdge<W> {
 }
 
 impl<W: Write> Sink for WriteEdge<W> {
-    ghost written = { λ s. W.contents s.inner };
-
-    ghost faults = { λ s. s.faults };
+    ghost tells = { λ s. record { written = W.contents s.inner; faults = s.faults } };
 
     fn write(&mut self, piece: &[u8]) -> Result<usize, Failed> {
         match self.writer.write(piece) {

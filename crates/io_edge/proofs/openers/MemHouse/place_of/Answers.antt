@@ -1,8 +1,8 @@
 -- One source more has another name; and none has it where none before the end has it.
 use Rattle.std.proofs.Common.{rules, ◌≡◌, ◌≢◌, ◌<◌, ◌≤◌, length, get_or, ap, sym, subst, string_bytes, ◌∙◌, true≢false}
 use Rattle.std.proofs.lemmas.Slice.Eq.{bytes_eq-Decides}
-use Rattle.io_edge.proofs.HouseLemmas.{none_more, none_at_all}
-use Rattle.io_edge.proofs.houses.MemHouse.place_of.Goals as goal
+use Rattle.io_edge.proofs.DirectoryLemmas.{none_more, none_at_all}
+use Rattle.io_edge.proofs.openers.MemHouse.place_of.Goals as goal
 
 pub loop-at-preserved : goal.loop-at-preserved
 loop-at-preserved c =

@@ -1,10 +1,10 @@
 //! Sources that are opened by name: what an object that opens them promises, one in memory, and one over the files of the
 //! system.
-ghost use Rattle.std.specs.Prelude.{ℕ, ◌≡◌, ◌≢◌, ◌+◌, ◌-◌, ◌^◌, ◌<◌, ◌≤◌, List, Option, None, Some, [], min, length, take, slice_index_or, String, string_bytes, IfSome, IfNone, OnErr};
+ghost use Rattle.std.specs.Prelude.{ℕ, ◌≡◌, ◌≢◌, ◌+◌, ◌<◌, None, length, take, slice_index_or, String, string_bytes, IfSome, IfNone, OnErr};
 ghost use Rattle.std.specs.declared.alloc.Global.{Global};
-ghost use Rattle.io_edge.specs.Causes.{HasCause};
-ghost use Rattle.io_edge.specs.House.{NamedOctets, Reaches, HasNone};
-ghost use Rattle.io_edge.specs.Memory.{SourceState, named, fault_after};
+ghost use Rattle.io_edge.specs.Calls.{OpensSource};
+ghost use Rattle.io_edge.specs.Directory.{Directory, HasNone};
+ghost use Rattle.io_edge.specs.Memory.{SourceState, entries_of, fault_after, house_tells, source_tells};
 
 use super::{Failed, MemSource, ReadEdge, Source};
 use std::fs::{File, Files};
@@ -14,17 +14,14 @@ use std::marker::Model;
 pub trait Opener {
     type Src: Source;
 
-    // The names that it knows, each with the octets behind it, where they are told.
-    ghost house: { Self → Option (List NamedOctets) } = { λ _. None };
+    // The names that it knows, each with the octets behind it, where they are told, and how many of its calls failed. That
+    // count stays at its last value, 2 ^ 64 - 1.
+    ghost tells: { Self → Directory };
 
-    // How many of its calls failed. The count stays at its last value, 2 ^ 64 - 1.
-    ghost faults: { Self → ℕ };
-
-    /// The source of the first entry of this name, which leaves the house. A call that fails leaves the house, and raises
-    /// the count of faults; no other call changes it.
+    /// The source of the first entry of this name, which leaves the directory. A call that fails leaves the directory, and
+    /// raises the count of faults; no other call changes it.
     fn reach(&mut self, name: &str) -> Result<Self::Src, Failed>
-        ensures entry { Reaches Self.Src.left (house self.old) (house self.new) name.now result }
-        ensures cause { HasCause (faults self.old) (faults self.new) result };
+        ensures { OpensSource Self.Src.tells (tells self.old) (tells self.new) name.now result };
 }
 
 /// Sources in memory, each of which is given once.
@@ -54,8 +51,8 @@ impl MemHouse {
     fn place_of(&self, name: &str) -> Option<usize>
         ensures found { IfSome result (λ at. (at < length self.now.sources)
             × ((d : String Global × SourceState) → string_bytes (slice_index_or self.now.sources at d).0 ≡ name.now)
-            × HasNone name.now (named (take at self.now.sources))) }
-        ensures none { IfNone result (HasNone name.now (named self.now.sources)) }
+            × HasNone name.now (entries_of (take at self.now.sources))) }
+        ensures none { IfNone result (HasNone name.now (entries_of self.now.sources)) }
     {
         for at in 0..self.sources.len() {
             if self.sources[at].0.as_str() == name {
@@ -69,15 +66,12 @@ impl MemHouse {
 impl Opener for MemHouse {
     type Src = MemSource;
 
-    ghost house = { λ h. Some (named h.sources) };
-
-    ghost faults = { λ h. h.faults };
+    ghost tells = { house_tells };
 
     /// Fails exactly where it has no source of this name.
     fn reach(&mut self, name: &str) -> Result<MemSource, Failed>
-        ensures entry { Reaches (λ (s : SourceState). Some s.left) (Some (named self.old.sources))
-            (Some (named self.new.sources)) name.now result }
-        ensures cause { HasCause self.old.faults self.new.faults result }
+        ensures opened { OpensSource source_tells (house_tells self.old) (house_tells self.new)
+            name.now result }
         ensures err { OnErr result (self.new ≡ record self.old
             { faults = fault_after self.old.faults }) }
     {
@@ -123,7 +117,7 @@ impl<'a, R: Files> FileHouse<'a, R> {
 impl<'a, R: Files> Opener for FileHouse<'a, R> {
     type Src = ReadEdge<R::File>;
 
-    ghost faults = { λ h. h.faults };
+    ghost tells = { λ h. record { names = None; faults = h.faults } };
 
     fn reach(&mut self, name: &str) -> Result<ReadEdge<R::File>, Failed> {
         match File::open(self.files, name) {
