@@ -1,17 +1,20 @@
 -- What the calls of a reader, one after another, make of a file, and that a file says one thing.
-use Rattle.std.proofs.Common.{◌≡◌, ◌⊎◌, ⊎_elim, ℕ, ◌+◌, ◌-◌, ◌<◌, List, [], ◌∷◌, ◌++◌, Option, None, Some, Result, Ok, Err, inl, inr, length, take, drop, slice_index, refl, sym, ap, ap₂, subst, ◌∙◌, arith, length-append, append-nil, append_assoc}
+use Rattle.std.proofs.Common.{◌≡◌, ◌⊎◌, ⊎_elim, ℕ, ◌+◌, ◌<◌, List, [], ◌∷◌, ◌++◌, Some, Result, Ok, Err, inl, inr, length, take, drop, slice_index, refl, sym, ap, ap₂, subst, ◌∙◌, arith, length-append, append-nil, append_assoc}
 use Rattle.std.specs.List.{AllZip, AllByRecursion, concat}
+use Rattle.std.specs.Io.KnownBytes.{IsAtEnd}
 use Rattle.std.proofs.Math.Seq.{take-append_seam, drop-append_seam}
 use Rattle.std.proofs.lemmas.List.{take-append-le}
 use Rattle.std.proofs.lemmas.List.Folds.{concat-append}
+use Rattle.io_edge.specs.Outside.{Input}
+use Rattle.io_edge.proofs.AllowanceLemmas.{rest-of}
 use Rattle.conf_file.specs.declared.answers.EntryWhy.{EntryWhy}
 use Rattle.conf_file.specs.declared.answers.EntryWhy.TheVariants.{Header, Kind, Lane, Step, Order}
 use Rattle.conf_file.specs.declared.answers.EntryEnd.{EntryEnd}
 use Rattle.conf_file.specs.declared.answers.EntryEnd.TheVariants.{Bad, Cut, Fault, Limit}
 use Rattle.conf_file.specs.Header.{header_of, header_size, IsNoHeader}
-use Rattle.conf_file.specs.Entries.{Content, Packet, Chair, Tick, End, C, Spells, IsWrong, IsPartial}
+use Rattle.conf_file.specs.Entries.{Content, Packet, Chair, Tick, End, C, SpellsEntry, IsWrong, IsPartEntry}
 use Rattle.conf_file.specs.Reading.{ReaderState, CallsStart, ReadsEntry}
-use Rattle.conf_file.specs.File.{Stop, Whole, WrongAt, CutAt, Begins, GoesOn, Stops, Entries, Conference, WrongHeader, CutHeader, IsFile, HasRead, AfterStart, AfterNext, LawOfReading, LawOfOneReading, IsDecided, LawOfFronts}
+use Rattle.conf_file.specs.File.{Stop, Whole, WrongAt, CutAt, BeginsWith, IsNotEnd, Stops, Entries, Conference, WrongHeader, CutHeader, IsFile, HasRead, AfterStart, AfterNext, LawOfReading, LawOfOneReading, IsDecided, LawOfFileFronts}
 use Rattle.conf_file.proofs.FrontLemmas.{Owns, Blames, front_of, one_entry, not_wrong, one_reason, entry_in_front, fault_in_front, part_in_front}
 
 -- one more at the end of two lists
@@ -22,14 +25,14 @@ zip_more R [] (f ∷ es) x e all one = absurd all
 zip_more R (y ∷ xs) [] x e all one = absurd all
 zip_more R (y ∷ xs) (f ∷ es) x e all one = (all.0, zip_more R xs es x e all.1 one)
 
-each_more : (xs : List Content) (x : Content) → AllByRecursion GoesOn xs → GoesOn x → AllByRecursion GoesOn (xs ++ x ∷ [])
+each_more : (xs : List Content) (x : Content) → AllByRecursion IsNotEnd xs → IsNotEnd x → AllByRecursion IsNotEnd (xs ++ x ∷ [])
 each_more [] x all one = (one, tt)
 each_more (y ∷ xs) x all one = (all.0, each_more xs x all.1 one)
 
 -- an entry is read behind these
 begins_more : (lanes first : ℕ) (octets : List ℕ) (list : List Content) (at : ℕ) (left : List ℕ) (content : Content) (took more : List ℕ) (now : ℕ)
-    → Begins lanes first octets list at left → left ≡ took ++ more → Spells lanes content took → now ≡ at + length took
-    → Begins lanes first octets (list ++ content ∷ []) now more
+    → BeginsWith lanes first octets list at left → left ≡ took ++ more → SpellsEntry lanes content took → now ≡ at + length took
+    → BeginsWith lanes first octets (list ++ content ∷ []) now more
 begins_more lanes first octets list at left content took more now b taken spelled counted =
     let joined : concat (b.entries ++ took ∷ []) ≡ concat b.entries ++ took =
     concat-append b.entries (took ∷ []) ∙ ap (λ xs. concat b.entries ++ xs) (append-nil took) in
@@ -38,12 +41,12 @@ begins_more lanes first octets list at left content took more now b taken spelle
       cut =
           b.cut ∙ ap (λ xs. concat b.entries ++ xs) taken ∙ sym (append_assoc (concat b.entries) took more)
           ∙ ap (λ xs. xs ++ more) (sym joined);
-      spelled = zip_more (Spells lanes) list b.entries content took b.spelled spelled;
+      spelled = zip_more (SpellsEntry lanes) list b.entries content took b.spelled spelled;
       counted = omega (arith, counted, b.counted, ap length joined, length-append (concat b.entries) took);
     }
 
 read_more : (file : List ℕ) (lanes : ℕ) (list : List Content) (at : ℕ) (left : List ℕ) (content : Content) (took more : List ℕ) (now : ℕ)
-    → HasRead file lanes list at left → left ≡ took ++ more → Spells lanes content took → now ≡ at + length took → GoesOn content
+    → HasRead file lanes list at left → left ≡ took ++ more → SpellsEntry lanes content took → now ≡ at + length took → IsNotEnd content
     → HasRead file lanes (list ++ content ∷ []) now more
 read_more file lanes list at left content took more now r taken spelled counted going =
     record {
@@ -76,7 +79,7 @@ taken_of file lanes list at left took more now r taken counted =
 
 -- a file of them alone is cut there
 cut_there : (file : List ℕ) (lanes : ℕ) (list : List Content) (at : ℕ) (left took more : List ℕ) (now : ℕ) → HasRead file lanes list at left
-    → left ≡ took ++ more → now ≡ at + length took → IsPartial lanes took → IsFile (take now file) (Conference lanes list (CutAt now))
+    → left ≡ took ++ more → now ≡ at + length took → IsPartEntry lanes took → IsFile (take now file) (Conference lanes list (CutAt now))
 cut_there file lanes list at left took more now r taken counted part = (
   concat r.begins.entries ++ took,
   taken_of file lanes list at left took more now r taken counted,
@@ -89,114 +92,121 @@ cut_there file lanes list at left took more now r taken counted part = (
   },
 )
 
--- a call for the next entry
-next_reads : (file : List ℕ) (lanes : ℕ) (list : List Content) (left : List ℕ) (rest : Option (List ℕ)) (before now : ℕ) (old new : ReaderState)
-    (result : Result Content EntryEnd) → HasRead file lanes list old.taken left
-    → ReadsEntry lanes (Some left) rest before now old new result → AfterNext file lanes list rest new result
-next_reads file lanes list left None before now old new result r h = absurd h.takes.takes.bytes
-next_reads file lanes list left (Some ys) before now old new (Ok (Packet lane packet)) r h =
-    (ys, refl, read_more file lanes list old.taken left (Packet lane packet) h.takes.took ys new.taken r h.takes.takes.bytes h.takes.answer.0 h.takes.takes.taken (λ e. cc))
-next_reads file lanes list left (Some ys) before now old new (Ok (Chair command)) r h =
-    (ys, refl, read_more file lanes list old.taken left (Chair command) h.takes.took ys new.taken r h.takes.takes.bytes h.takes.answer.0 h.takes.takes.taken (λ e. cc))
-next_reads file lanes list left (Some ys) before now old new (Ok (Tick step)) r h =
-    (ys, refl, read_more file lanes list old.taken left (Tick step) h.takes.took ys new.taken r h.takes.takes.bytes h.takes.answer.0 h.takes.takes.taken (λ e. cc))
-next_reads file lanes list left (Some ys) before now old new (Ok End) r h = (
+-- a call for the next entry, which left these octets
+next_so : (file : List ℕ) (lanes : ℕ) (list : List Content) (left ys : List ℕ) (before after : Input) (old new : ReaderState)
+    (result : Result Content EntryEnd) → HasRead file lanes list old.allowance.taken left
+    → (h : ReadsEntry lanes before after old new result) → after.left ≡ Some ys → left ≡ h.takes.took ++ ys → AfterNext file lanes list after.left new.allowance result
+next_so file lanes list left ys before after old new (Ok (Packet lane packet)) r h now cut =
+    (ys, now, read_more file lanes list old.allowance.taken left (Packet lane packet) h.takes.took ys new.allowance.taken r cut h.takes.answer.0 h.takes.takes.taken (λ e. cc))
+next_so file lanes list left ys before after old new (Ok (Chair command)) r h now cut =
+    (ys, now, read_more file lanes list old.allowance.taken left (Chair command) h.takes.took ys new.allowance.taken r cut h.takes.answer.0 h.takes.takes.taken (λ e. cc))
+next_so file lanes list left ys before after old new (Ok (Tick step)) r h now cut =
+    (ys, now, read_more file lanes list old.allowance.taken left (Tick step) h.takes.took ys new.allowance.taken r cut h.takes.answer.0 h.takes.takes.taken (λ e. cc))
+next_so file lanes list left ys before after old new (Ok End) r h now cut = (
   r.octets,
   r.header,
   r.lanes_fit,
   record {
-    at = new.taken;
+    at = new.allowance.taken;
     left = ys;
-    begins = begins_more lanes header_size r.octets list old.taken left End h.takes.took ys new.taken r.begins h.takes.takes.bytes h.takes.answer.0 h.takes.takes.taken;
+    begins = begins_more lanes header_size r.octets list old.allowance.taken left End h.takes.took ys new.allowance.taken r.begins cut h.takes.answer.0 h.takes.takes.taken;
     stops = (list, refl, r.going_on);
   },
 )
-next_reads file lanes list left (Some ys) before now old new (Err (Bad place why)) r h =
+next_so file lanes list left ys before after old new (Err (Bad place why)) r h now cut =
     let wrong = h.takes.answer.1 in (
       r.octets,
       r.header,
       r.lanes_fit,
       record {
-        at = old.taken;
+        at = old.allowance.taken;
         left = left;
         begins = r.begins;
         stops = (
           r.going_on,
           h.takes.answer.0,
-          (
-            wrong.0 ++ ys,
-            subst (λ xs. IsWrong lanes why xs (wrong.0 ++ ys)) (sym h.takes.takes.bytes) (wrong_more lanes why h.takes.took wrong.0 ys wrong.1),
-          ),
+          (wrong.0 ++ ys, subst (λ xs. IsWrong lanes why xs (wrong.0 ++ ys)) (sym cut) (wrong_more lanes why h.takes.took wrong.0 ys wrong.1)),
         );
       },
     )
-next_reads file lanes list left (Some ys) before now old new (Err (Cut place)) r h =
-    let all : left ≡ h.takes.took = h.takes.takes.bytes ∙ ap (λ xs. h.takes.took ++ xs) h.takes.answer.1.1 ∙ append-nil h.takes.took in (
+next_so file lanes list left ys before after old new (Err (Cut place)) r h now cut =
+    let none : ys ≡ [] = subst IsAtEnd now h.takes.answer.1.1.0 in
+    let all : left ≡ h.takes.took = cut ∙ ap (λ xs. h.takes.took ++ xs) none ∙ append-nil h.takes.took in (
       r.octets,
       r.header,
       r.lanes_fit,
       record {
-        at = old.taken;
+        at = old.allowance.taken;
         left = left;
         begins = r.begins;
-        stops = (r.going_on, omega (arith, h.takes.answer.1.0, h.takes.takes.taken, ap length all), subst (IsPartial lanes) (sym all) h.takes.answer.0);
+        stops = (r.going_on, omega (arith, h.takes.answer.1.0, h.takes.takes.taken, ap length all), subst (IsPartEntry lanes) (sym all) h.takes.answer.0);
       },
     )
-next_reads file lanes list left (Some ys) before now old new (Err Limit) r h =
-    (h.takes.answer.1.0 ∙ sym h.budget, cut_there file lanes list old.taken left h.takes.took ys new.taken r h.takes.takes.bytes h.takes.takes.taken h.takes.answer.0)
-next_reads file lanes list left (Some ys) before now old new (Err Fault) r h =
-    cut_there file lanes list old.taken left h.takes.took ys new.taken r h.takes.takes.bytes h.takes.takes.taken h.takes.answer.0
+next_so file lanes list left ys before after old new (Err Limit) r h now cut =
+    (h.takes.answer.1.0, cut_there file lanes list old.allowance.taken left h.takes.took ys new.allowance.taken r cut h.takes.takes.taken h.takes.answer.0)
+next_so file lanes list left ys before after old new (Err Fault) r h now cut =
+    cut_there file lanes list old.allowance.taken left h.takes.took ys new.allowance.taken r cut h.takes.takes.taken h.takes.answer.0
 
--- the call for the header
-starts_reading : (file : List ℕ) (rest : Option (List ℕ)) (before now : ℕ) (old new : ReaderState) (result : Result ℕ EntryEnd) → old.taken ≡ 0
-    → CallsStart (Some file) rest before now old new result → AfterStart file rest new result
-starts_reading file None before now old new result fresh h = absurd h.header.takes.bytes
-starts_reading file (Some ys) before now old new (Ok lanes) fresh h = (
+next_reads : (file : List ℕ) (lanes : ℕ) (list : List Content) (left : List ℕ) (before after : Input) (old new : ReaderState)
+    (result : Result Content EntryEnd) → before.left ≡ Some left → HasRead file lanes list old.allowance.taken left
+    → ReadsEntry lanes before after old new result → AfterNext file lanes list after.left new.allowance result
+next_reads file lanes list left before after old new result told r h =
+    let left_over = rest-of before after old.allowance new.allowance h.takes.took left told h.takes.takes in
+    next_so file lanes list left left_over.0 before after old new result r h left_over.1 left_over.2
+
+-- the call for the header, which left these octets
+start_so : (file ys : List ℕ) (before after : Input) (old new : ReaderState) (result : Result ℕ EntryEnd) → old.allowance.taken ≡ 0
+    → (h : CallsStart before after old new result) → after.left ≡ Some ys → file ≡ h.header.took ++ ys → AfterStart file after.left new.allowance result
+start_so file ys before after old new (Ok lanes) fresh h now cut = (
   ys,
-  refl,
+  now,
   record {
     octets = ys;
-    header = h.header.takes.bytes ∙ ap (λ xs. xs ++ ys) h.header.answer.0;
+    header = cut ∙ ap (λ xs. xs ++ ys) h.header.answer.0;
     lanes_fit = h.header.answer.1;
     begins = record { entries = []; cut = refl; spelled = tt; counted = omega (arith, fresh, h.header.takes.taken, ap length h.header.answer.0) };
     going_on = tt;
   },
 )
-starts_reading file (Some ys) before now old new (Err (Bad place why)) fresh h =
+start_so file ys before after old new (Err (Bad place why)) fresh h now cut =
     let took = h.header.took in
-    let front : take header_size file ≡ took = ap₂ take (sym h.header.answer.2) h.header.takes.bytes ∙ take-append_seam took ys in (
+    let front : take header_size file ≡ took = ap₂ take (sym h.header.answer.2) cut ∙ take-append_seam took ys in (
       h.header.answer.0,
       h.header.answer.1,
-      (
-        omega (arith, h.header.answer.2, ap length h.header.takes.bytes, length-append took ys),
-        subst IsNoHeader (sym front) h.header.answer.3,
-      ),
+      (omega (arith, h.header.answer.2, ap length cut, length-append took ys), subst IsNoHeader (sym front) h.header.answer.3),
     )
-starts_reading file (Some ys) before now old new (Err (Cut place)) fresh h =
+start_so file ys before after old new (Err (Cut place)) fresh h now cut =
     let took = h.header.took in
-    let all : file ≡ took = h.header.takes.bytes ∙ ap (λ xs. took ++ xs) h.header.answer.1.1 ∙ append-nil took in
+    let none : ys ≡ [] = subst IsAtEnd now h.header.answer.1.1.0 in
+    let all : file ≡ took = cut ∙ ap (λ xs. took ++ xs) none ∙ append-nil took in
     (omega (arith, fresh, h.header.answer.1.0, h.header.takes.taken, ap length all), omega (arith, h.header.answer.0, ap length all))
-starts_reading file (Some ys) before now old new (Err Limit) fresh h =
+start_so file ys before after old new (Err Limit) fresh h now cut =
     let took = h.header.took in
-    let size : new.taken ≡ length took = omega (arith, fresh, h.header.takes.taken) in
-    let front : take new.taken file ≡ took = ap₂ take size h.header.takes.bytes ∙ take-append_seam took ys in
-    (h.header.answer.1.0 ∙ sym h.budget, (omega (arith, size, ap length front), omega (arith, h.header.answer.0, ap length front)))
-starts_reading file (Some ys) before now old new (Err Fault) fresh h =
+    let size : new.allowance.taken ≡ length took = omega (arith, fresh, h.header.takes.taken) in
+    let front : take new.allowance.taken file ≡ took = ap₂ take size cut ∙ take-append_seam took ys in
+    (h.header.answer.1.0, (omega (arith, size, ap length front), omega (arith, h.header.answer.0, ap length front)))
+start_so file ys before after old new (Err Fault) fresh h now cut =
     let took = h.header.took in
-    let size : new.taken ≡ length took = omega (arith, fresh, h.header.takes.taken) in
-    let front : take new.taken file ≡ took = ap₂ take size h.header.takes.bytes ∙ take-append_seam took ys in
+    let size : new.allowance.taken ≡ length took = omega (arith, fresh, h.header.takes.taken) in
+    let front : take new.allowance.taken file ≡ took = ap₂ take size cut ∙ take-append_seam took ys in
     (omega (arith, size, ap length front), omega (arith, h.header.answer.0, ap length front))
 
+starts_reading : (file : List ℕ) (before after : Input) (old new : ReaderState) (result : Result ℕ EntryEnd) → before.left ≡ Some file
+    → old.allowance.taken ≡ 0 → CallsStart before after old new result → AfterStart file after.left new.allowance result
+starts_reading file before after old new result told fresh h =
+    let left_over = rest-of before after old.allowance new.allowance h.header.took file told h.header.takes in
+    start_so file left_over.0 before after old new result fresh h left_over.1 left_over.2
+
 -- an entry has octets
-some_octets : (lanes : ℕ) (content : Content) (octets : List ℕ) → Spells lanes content octets → 0 < length octets
+some_octets : (lanes : ℕ) (content : Content) (octets : List ℕ) → SpellsEntry lanes content octets → 0 < length octets
 some_octets lanes (Packet lane packet) octets s = omega (arith, ap length s.0)
 some_octets lanes (Chair command) octets s = omega (arith, ap length s.1)
 some_octets lanes (Tick step) octets s = omega (arith, ap length s.0)
 some_octets lanes End octets s = omega (arith, ap length s)
 
-entry_moves : (lanes : ℕ) (source rest : Option (List ℕ)) (before now : ℕ) (old new : ReaderState) (content : Content)
-    → ReadsEntry lanes source rest before now old new (Ok content) → old.taken < new.taken
-entry_moves lanes source rest before now old new content r =
+entry_moves : (lanes : ℕ) (before after : Input) (old new : ReaderState) (content : Content)
+    → ReadsEntry lanes before after old new (Ok content) → old.allowance.taken < new.allowance.taken
+entry_moves lanes before after old new content r =
     omega (arith, r.takes.takes.taken, some_octets lanes content r.takes.took r.takes.answer.0)
 
 pub entries_are_read : LawOfReading
@@ -206,25 +216,25 @@ entries_are_read = record { starts = starts_reading; goes_on = next_reads; moves
 no_end : (before : List Content) → [] ≡ before ++ End ∷ [] → ⊥
 no_end before h = omega (arith, ap length h, length-append before (End ∷ []))
 
-end_or_not : (x : Content) → (x ≡ End) ⊎ GoesOn x
+end_or_not : (x : Content) → (x ≡ End) ⊎ IsNotEnd x
 end_or_not (Packet lane packet) = inr (λ e. cc)
 end_or_not (Chair command) = inr (λ e. cc)
 end_or_not (Tick step) = inr (λ e. cc)
 end_or_not End = inl refl
 
 -- behind an entry that is not the end
-tail_of_whole : (before : List Content) (x : Content) (xs : List Content) → x ∷ xs ≡ before ++ End ∷ [] → AllByRecursion GoesOn before → GoesOn x
-    → (more : List Content) × (xs ≡ more ++ End ∷ []) × AllByRecursion GoesOn more
+tail_of_whole : (before : List Content) (x : Content) (xs : List Content) → x ∷ xs ≡ before ++ End ∷ [] → AllByRecursion IsNotEnd before → IsNotEnd x
+    → (more : List Content) × (xs ≡ more ++ End ∷ []) × AllByRecursion IsNotEnd more
 tail_of_whole [] x xs h all going = absurd (going cc)
 tail_of_whole (b ∷ before) x xs h all going = (before, cc, all.1)
 
-tail_stops : (lanes : ℕ) (s : Stop) (x : Content) (xs : List Content) (at : ℕ) (left : List ℕ) → GoesOn x → Stops lanes s (x ∷ xs) at left → Stops lanes s xs at left
+tail_stops : (lanes : ℕ) (s : Stop) (x : Content) (xs : List Content) (at : ℕ) (left : List ℕ) → IsNotEnd x → Stops lanes s (x ∷ xs) at left → Stops lanes s xs at left
 tail_stops lanes Whole x xs at left going h = tail_of_whole h.0 x xs h.1 h.2 going
 tail_stops lanes (WrongAt place why) x xs at left going h = (h.0.1, h.1, h.2)
 tail_stops lanes (CutAt place) x xs at left going h = (h.0.1, h.1, h.2)
 
 -- the end is the last
-end_of_whole : (before : List Content) (x : Content) (xs : List Content) → x ∷ xs ≡ before ++ End ∷ [] → AllByRecursion GoesOn before → x ≡ End → xs ≡ []
+end_of_whole : (before : List Content) (x : Content) (xs : List Content) → x ∷ xs ≡ before ++ End ∷ [] → AllByRecursion IsNotEnd before → x ≡ End → xs ≡ []
 end_of_whole [] x xs h all is = cc
 end_of_whole (b ∷ before) x xs h all is = let same : b ≡ End = cc in absurd (all.0 same)
 
@@ -250,14 +260,14 @@ same_stop lanes (CutAt p) (WrongAt q w) at left h k = absurd (subst (λ f. Blame
 same_stop lanes (CutAt p) (CutAt q) at left h k = ap CutAt (h.1 ∙ sym k.1)
 
 -- the entry that octets begin with, whatever entries follow
-front_owned : (lanes : ℕ) (x : Content) (e : List ℕ) (es : List (List ℕ)) (left octets : List ℕ) → Spells lanes x e → octets ≡ (e ++ concat es) ++ left
+front_owned : (lanes : ℕ) (x : Content) (e : List ℕ) (es : List (List ℕ)) (left octets : List ℕ) → SpellsEntry lanes x e → octets ≡ (e ++ concat es) ++ left
     → Owns (front_of lanes octets) x e
 front_owned lanes x e es left octets spelled whole =
     subst (λ xs. Owns (front_of lanes xs) x e) (sym (whole ∙ append_assoc e (concat es) left)) (entry_in_front lanes x e (concat es ++ left) spelled)
 
 -- the same octets are cut into the same entries
 one_cut : (lanes first : ℕ) (xs ys : List Content) (es fs : List (List ℕ)) (octets left left' : List ℕ) (a b : ℕ) (s t : Stop)
-    → octets ≡ concat es ++ left → octets ≡ concat fs ++ left' → AllZip (Spells lanes) xs es → AllZip (Spells lanes) ys fs
+    → octets ≡ concat es ++ left → octets ≡ concat fs ++ left' → AllZip (SpellsEntry lanes) xs es → AllZip (SpellsEntry lanes) ys fs
     → a ≡ first + length (concat es) → b ≡ first + length (concat fs) → Stops lanes s xs a left → Stops lanes t ys b left' → (xs ≡ ys) × (s ≡ t)
 one_cut lanes first [] [] [] [] octets left left' a b s t p q z w m n h k =
     let same : left' ≡ left = sym q ∙ p in
@@ -284,10 +294,10 @@ one_cut lanes first (x ∷ xs) (y ∷ ys) (e ∷ es) (f ∷ fs) octets left left
     let mine = end_stops lanes s x xs a left is h in
     let yours = end_stops lanes t y ys b left' (sym both.0 ∙ is) k in
     (ap₂ ◌∷◌ both.0 (mine.0 ∙ sym yours.0), mine.1 ∙ sym yours.1))
-    (λ (going : GoesOn x).
+    (λ (going : IsNotEnd x).
     let more = one_cut lanes (first + length e) xs ys es fs behind left left' a b s t rest rest' z.1 w.1
     (omega (arith, m, length-append e (concat es))) (omega (arith, n, length-append f (concat fs), ap length both.1))
-    (tail_stops lanes s x xs a left going h) (tail_stops lanes t y ys b left' (subst GoesOn both.0 going) k) in
+    (tail_stops lanes s x xs a left going h) (tail_stops lanes t y ys b left' (subst IsNotEnd both.0 going) k) in
     (ap₂ ◌∷◌ both.0 more.0, more.1))
     (end_or_not x)
 
@@ -322,7 +332,7 @@ stops_more lanes Whole list at left more d h = h
 stops_more lanes (WrongAt place why) list at left more d h = (h.0, h.1, (h.2.0 ++ more, wrong_more lanes why left h.2.0 more h.2.1))
 stops_more lanes (CutAt place) list at left more d h = absurd d
 
-pub fronts_decide : LawOfFronts
+pub fronts_decide : LawOfFileFronts
 fronts_decide front more (Conference lanes list s) d h =
     let e = h.3 in
     let cut : h.0 ++ more ≡ concat e.begins.entries ++ (e.left ++ more) =

@@ -4,12 +4,12 @@ use Rattle.std.proofs.Math.Seq.{take-append_seam}
 use Rattle.std.proofs.lemmas.Bool.Decides.{nat_tests}
 use Rattle.byteorder.specs.Endian.{big_bytes}
 use Rattle.pel_model.specs.declared.chair.Command.{Command}
-use Rattle.chair_words.specs.Line.{Says, FailsAt}
+use Rattle.chair_words.specs.Line.{Says, HasFaultAt}
 use Rattle.chair_words.specs.declared.reader.LineFault.{LineFault}
 use Rattle.chair_words.proofs.LineLemmas.{one_command, one_fault, not_both}
 use Rattle.conf_file.specs.declared.answers.EntryWhy.{EntryWhy}
 use Rattle.conf_file.specs.declared.answers.EntryWhy.TheVariants.{Header, Kind, Lane, Step, Order}
-use Rattle.conf_file.specs.Entries.{Content, Packet, Chair, Tick, End, P, C, T, E, Spells, IsWrong, IsPartOfPacket, IsPartOfOrder, IsPartial}
+use Rattle.conf_file.specs.Entries.{Content, Packet, Chair, Tick, End, P, C, T, E, SpellsEntry, IsWrong, IsPartOfPacket, IsPartOfOrder, IsPartEntry}
 
 -- what the octets begin with, where a line is not looked into
 pub data Front : Type 0 where
@@ -66,7 +66,7 @@ Blames NoKind why = why ≡ Kind
 Blames NoLane why = why ≡ Lane
 Blames NoStep why = why ≡ Step
 Blames (HasPacket lane packet) why = ⊥
-Blames (HasLine line) why = (fault : LineFault) × (why ≡ Order fault) × FailsAt line fault.place fault.why
+Blames (HasLine line) why = (fault : LineFault) × (why ≡ Order fault) × HasFaultAt line fault.place fault.why
 Blames (HasStep step) why = ⊥
 Blames HasEnd why = ⊥
 
@@ -105,7 +105,7 @@ one_reason (HasStep step) v w p q = absurd p
 one_reason HasEnd v w p q = absurd p
 
 -- octets that begin with an entry
-pub entry_in_front : (lanes : ℕ) (content : Content) (entry rest : List ℕ) → Spells lanes content entry → Owns (front_of lanes (entry ++ rest)) content entry
+pub entry_in_front : (lanes : ℕ) (content : Content) (entry rest : List ℕ) → SpellsEntry lanes content entry → Owns (front_of lanes (entry ++ rest)) content entry
 entry_in_front lanes (Packet lane packet) entry rest s =
     let octets = packet ++ rest in
     let whole : entry ++ rest ≡ P ∷ lane ∷ (length packet / 256 % 256) ∷ (length packet % 256) ∷ octets = ap (λ xs. xs ++ rest) s.0 in
@@ -181,7 +181,7 @@ part_of_order (size ∷ line) h =
     let short : nat_le size (length line) ≡ false = grind (arith, nat_tests) in
     rw short refl
 
-pub part_in_front : (lanes : ℕ) (octets : List ℕ) → IsPartial lanes octets → front_of lanes octets ≡ Short
+pub part_in_front : (lanes : ℕ) (octets : List ℕ) → IsPartEntry lanes octets → front_of lanes octets ≡ Short
 part_in_front lanes [] h = refl
 part_in_front lanes (kind ∷ octets) h = ⊎_elim (λ (p : (kind ≡ P) × IsPartOfPacket lanes octets).
     ap (λ k. front_of lanes (k ∷ octets)) p.0 ∙ part_of_packet lanes octets p.1)

@@ -2,7 +2,7 @@
 use Rattle.std.proofs.Common.{◌≡◌, ℕ, List, [], ◌∷◌, ◌++◌, inl, inr, slice_index, codes, refl, ap, arith}
 use Rattle.pel_model.specs.declared.Quad.TheVariants.{One}
 use Rattle.pel_model.specs.declared.chair.Command.TheVariants.{Place}
-use Rattle.chair_words.specs.Words.{word_of}
+use Rattle.chair_words.specs.Words.{word_from}
 use Rattle.chair_words.specs.Line.{a_place, a_lane}
 use Rattle.chair_words.specs.declared.reader.LineFault.{LineFault}
 use Rattle.chair_words.specs.declared.reader.LineWhy.TheVariants.{BadNumber}
@@ -171,10 +171,10 @@ bad_line = (
           (
             a_place,
             a_lane ∷ [],
-            word_of 6 (codes "9"),
+            word_from 6 (codes "9"),
             [],
             record {
-              name = word_of 0 (codes "place");
+              name = word_from 0 (codes "place");
               numbers = [];
               whole = refl;
               command = Place One 0;

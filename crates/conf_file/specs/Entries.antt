@@ -3,13 +3,10 @@
 use Rattle.std.specs.Prelude.{◌≡◌, ◌≢◌, ◌⊎◌, ℕ, ◌+◌, ◌*◌, ◌^◌, ◌<◌, ◌≤◌, List, [], ◌∷◌, ◌++◌, length}
 use Rattle.byteorder.specs.Endian.{big_bytes}
 use Rattle.pel_model.specs.declared.chair.Command.{Command}
-use Rattle.chair_words.specs.Line.{Says, FailsAt}
+use Rattle.chair_words.specs.Line.{Says, HasFaultAt}
+use Rattle.io_edge.specs.Ticks.{IsStep}
 use Rattle.conf_file.specs.declared.answers.EntryWhy.{EntryWhy}
 use Rattle.conf_file.specs.declared.answers.EntryWhy.TheVariants.{Header, Kind, Lane, Step, Order}
-
--- the most octets of a packet: its length has 16 bits
-abbrev pub longest_packet : ℕ
-longest_packet = 65535
 
 -- what an entry says: a packet of a lane, a command of the chair, a tick of so many steps, or the end
 pub data Content : Type 0 where
@@ -31,20 +28,16 @@ T = 84
 abbrev pub E : ℕ
 E = 69
 
--- a tick goes 1 to 31 steps
-abbrev pub IsStep : ℕ → Type 0
-IsStep step = (1 ≤ step) × (step ≤ 31)
-
 -- In a conference of so many lanes, these octets are the entry: P, the lane and the packet behind its length, 16 bits in
--- network order; C and the line behind its length, 8 bits; T and the step; E.
-abbrev pub Spells : ℕ → Content → List ℕ → Type 0
-Spells lanes (Packet lane packet) octets =
+-- network order; C and the line behind its length, 8 bits; T and the step, 1 to 31; E.
+abbrev pub SpellsEntry : ℕ → Content → List ℕ → Type 0
+SpellsEntry lanes (Packet lane packet) octets =
     (octets ≡ P ∷ lane ∷ (big_bytes 2 (length packet) ++ packet)) × (lane < lanes)
     × (length packet < 2 ^ 16)
-Spells lanes (Chair command) octets =
+SpellsEntry lanes (Chair command) octets =
     (line : List ℕ) × (octets ≡ C ∷ length line ∷ line) × (length line < 2 ^ 8) × Says line command
-Spells lanes (Tick step) octets = (octets ≡ T ∷ step ∷ []) × IsStep step
-Spells lanes End octets = octets ≡ E ∷ []
+SpellsEntry lanes (Tick step) octets = (octets ≡ T ∷ step ∷ []) × IsStep step
+SpellsEntry lanes End octets = octets ≡ E ∷ []
 
 -- no entry begins with the octet
 abbrev pub IsNoKind : ℕ → Type 0
@@ -59,7 +52,7 @@ IsWrong lanes Lane octets rest = (lane : ℕ) × (octets ≡ P ∷ lane ∷ rest
 IsWrong lanes Step octets rest = (step : ℕ) × (octets ≡ T ∷ step ∷ rest) × (IsStep step → ⊥)
 IsWrong lanes (Order fault) octets rest =
     (line : List ℕ) × (octets ≡ C ∷ length line ∷ (line ++ rest)) × (length line < 2 ^ 8)
-    × FailsAt line fault.place fault.why
+    × HasFaultAt line fault.place fault.why
 
 -- what stands behind P is less than a packet, and its lane is none at fault
 abbrev pub IsPartOfPacket : ℕ → List ℕ → Type 0
@@ -75,8 +68,8 @@ IsPartOfOrder [] = Unit {0}
 IsPartOfOrder (size ∷ line) = length line < size
 
 -- less than an entry, and no field of it at fault
-abbrev pub IsPartial : ℕ → List ℕ → Type 0
-IsPartial lanes [] = Unit {0}
-IsPartial lanes (kind ∷ octets) =
+abbrev pub IsPartEntry : ℕ → List ℕ → Type 0
+IsPartEntry lanes [] = Unit {0}
+IsPartEntry lanes (kind ∷ octets) =
     ((kind ≡ P) × IsPartOfPacket lanes octets)
     ⊎ (((kind ≡ C) × IsPartOfOrder octets) ⊎ ((kind ≡ T) × (octets ≡ [])))

@@ -1,12 +1,14 @@
 -- A conference file: a header, then whole entries one behind the other, and what ends them.
 use Rattle.std.specs.Prelude.{◌≡◌, ◌≢◌, ◌⊎◌, ℕ, ◌+◌, ◌-◌, ◌<◌, ◌≤◌, List, [], ◌∷◌, ◌++◌, length, take, Option, Some, Result, Ok, Err}
 use Rattle.std.specs.List.{AllZip, AllByRecursion, concat}
+use Rattle.io_edge.specs.Outside.{Input}
+use Rattle.io_edge.specs.Allowance.{AllowanceState}
 use Rattle.conf_file.specs.declared.answers.EntryWhy.{EntryWhy}
 use Rattle.conf_file.specs.declared.answers.EntryWhy.TheVariants.{Header}
 use Rattle.conf_file.specs.declared.answers.EntryEnd.{EntryEnd}
 use Rattle.conf_file.specs.declared.answers.EntryEnd.TheVariants.{Bad, Cut, Fault, Limit}
 use Rattle.conf_file.specs.Header.{header_of, header_size, HasLanes, IsNoHeader}
-use Rattle.conf_file.specs.Entries.{Content, Packet, Chair, Tick, End, Spells, IsWrong, IsPartial}
+use Rattle.conf_file.specs.Entries.{Content, Packet, Chair, Tick, End, SpellsEntry, IsWrong, IsPartEntry}
 use Rattle.conf_file.specs.Reading.{ReaderState, CallsStart, ReadsEntry}
 
 -- what ends the entries: the entry that is the end, octets that are none, or the end of the file
@@ -17,35 +19,35 @@ pub data Stop : Type 0 where
 
 -- The octets begin with these whole entries, each behind the one before it, and these are left. So many octets of the
 -- file stand before the first of them, and before what is left.
-pub record Begins (lanes first : ℕ) (octets : List ℕ) (list : List Content) (at : ℕ) (left : List ℕ)
+pub record BeginsWith (lanes first : ℕ) (octets : List ℕ) (list : List Content) (at : ℕ) (left : List ℕ)
     : Type 0 where
   pub entries : List (List ℕ)
   pub cut : octets ≡ concat entries ++ left
-  pub spelled : AllZip (Spells lanes) list entries
+  pub spelled : AllZip (SpellsEntry lanes) list entries
   pub counted : at ≡ first + length (concat entries)
 
 -- an entry that is not the end
-abbrev pub GoesOn : Content → Type 0
-GoesOn content = content ≢ End
+abbrev pub IsNotEnd : Content → Type 0
+IsNotEnd content = content ≢ End
 
 -- how the file ends behind these whole entries, where so many of its octets stand before what is left
 abbrev pub Stops : ℕ → Stop → List Content → ℕ → List ℕ → Type 0
 -- the last entry is the end, and what is left is not read
 Stops lanes Whole list at left = (before : List Content) × (list ≡ before ++ End ∷ [])
-    × AllByRecursion GoesOn before
+    × AllByRecursion IsNotEnd before
 -- no entry begins there
-Stops lanes (WrongAt place why) list at left = AllByRecursion GoesOn list × (place ≡ at)
+Stops lanes (WrongAt place why) list at left = AllByRecursion IsNotEnd list × (place ≡ at)
     × ((rest : List ℕ) × IsWrong lanes why left rest)
 -- the file ends before an entry does
-Stops lanes (CutAt place) list at left = AllByRecursion GoesOn list × (place ≡ at + length left)
-    × IsPartial lanes left
+Stops lanes (CutAt place) list at left = AllByRecursion IsNotEnd list × (place ≡ at + length left)
+    × IsPartEntry lanes left
 
 -- the octets behind so many others are cut into these entries and end so
 pub record Entries (lanes first : ℕ) (octets : List ℕ) (list : List Content) (stop : Stop) : Type 0
   where
     pub at : ℕ
     pub left : List ℕ
-    pub begins : Begins lanes first octets list at left
+    pub begins : BeginsWith lanes first octets list at left
     pub stops : Stops lanes stop list at left
 
 -- what a file says: the number of lanes, the entries and what ends them; or that it has no header
@@ -72,92 +74,78 @@ pub record HasRead (file : List ℕ) (lanes : ℕ) (list : List Content) (taken 
   pub octets : List ℕ
   pub header : file ≡ header_of lanes ++ octets
   pub lanes_fit : HasLanes lanes
-  pub begins : Begins lanes header_size octets list taken left
-  pub going_on : AllByRecursion GoesOn list
+  pub begins : BeginsWith lanes header_size octets list taken left
+  pub going_on : AllByRecursion IsNotEnd list
 
 -- the file where the call for the header gave this
-abbrev pub AfterStart : List ℕ → Option (List ℕ) → ReaderState → Result ℕ EntryEnd → Type 0
-AfterStart file rest new (Ok lanes) = (left : List ℕ) × (rest ≡ Some left)
-    × HasRead file lanes [] new.taken left
-AfterStart file rest new (Err (Bad place why)) = (place ≡ 0) × (why ≡ Header)
-    × IsFile file WrongHeader
+abbrev pub AfterStart : List ℕ → Option (List ℕ) → AllowanceState → Result ℕ EntryEnd → Type 0
+AfterStart file rest new (Ok lanes) =
+    (left : List ℕ) × (rest ≡ Some left) × HasRead file lanes [] new.taken left
+AfterStart file rest new (Err (Bad place why)) = (place ≡ 0) × (why ≡ Header) × IsFile file WrongHeader
 AfterStart file rest new (Err (Cut place)) = IsFile file (CutHeader place)
 -- what was taken is less than a header
-AfterStart file rest new (Err Limit) = (new.taken ≡ new.budget)
-    × IsFile (take new.taken file) (CutHeader new.taken)
+AfterStart file rest new (Err Limit) =
+    (new.taken ≡ new.budget) × IsFile (take new.taken file) (CutHeader new.taken)
 AfterStart file rest new (Err Fault) = IsFile (take new.taken file) (CutHeader new.taken)
 
 -- the file where a call for the next entry behind these gave this
-abbrev pub AfterNext : List ℕ → ℕ → List Content → Option (List ℕ) → ReaderState
-    → Result Content EntryEnd → Type 0
-AfterNext file lanes list rest new (Ok End) =
-    IsFile file (Conference lanes (list ++ End ∷ []) Whole)
+abbrev pub AfterNext : List ℕ → ℕ → List Content → Option (List ℕ) → AllowanceState → Result Content EntryEnd → Type 0
+AfterNext file lanes list rest new (Ok End) = IsFile file (Conference lanes (list ++ End ∷ []) Whole)
 AfterNext file lanes list rest new (Ok (Packet lane packet)) =
-    (left : List ℕ) × (rest ≡ Some left)
-    × HasRead file lanes (list ++ Packet lane packet ∷ []) new.taken left
+    (left : List ℕ) × (rest ≡ Some left) × HasRead file lanes (list ++ Packet lane packet ∷ []) new.taken left
 AfterNext file lanes list rest new (Ok (Chair command)) =
-    (left : List ℕ) × (rest ≡ Some left)
-    × HasRead file lanes (list ++ Chair command ∷ []) new.taken left
+    (left : List ℕ) × (rest ≡ Some left) × HasRead file lanes (list ++ Chair command ∷ []) new.taken left
 AfterNext file lanes list rest new (Ok (Tick step)) =
-    (left : List ℕ) × (rest ≡ Some left)
-    × HasRead file lanes (list ++ Tick step ∷ []) new.taken left
-AfterNext file lanes list rest new (Err (Bad place why)) =
-    IsFile file (Conference lanes list (WrongAt place why))
-AfterNext file lanes list rest new (Err (Cut place)) =
-    IsFile file (Conference lanes list (CutAt place))
+    (left : List ℕ) × (rest ≡ Some left) × HasRead file lanes (list ++ Tick step ∷ []) new.taken left
+AfterNext file lanes list rest new (Err (Bad place why)) = IsFile file (Conference lanes list (WrongAt place why))
+AfterNext file lanes list rest new (Err (Cut place)) = IsFile file (Conference lanes list (CutAt place))
 -- what was taken, as a file of its own, is cut there
 AfterNext file lanes list rest new (Err Limit) =
-    (new.taken ≡ new.budget) × IsFile (take new.taken file)
-    (Conference lanes list (CutAt new.taken))
-AfterNext file lanes list rest new (Err Fault) =
-    IsFile (take new.taken file) (Conference lanes list (CutAt new.taken))
+    (new.taken ≡ new.budget) × IsFile (take new.taken file) (Conference lanes list (CutAt new.taken))
+AfterNext file lanes list rest new (Err Fault) = IsFile (take new.taken file) (Conference lanes list (CutAt new.taken))
 
 -- Where the source tells its octets, a reader gives what they say as a file, entry by entry.
 pub record LawOfReading : Type 0 where
   pub starts :
-      (file : List ℕ) (rest : Option (List ℕ)) (before now : ℕ) (old new : ReaderState)
-      (result : Result ℕ EntryEnd) → old.taken ≡ 0
-      → CallsStart (Some file) rest before now old new result → AfterStart file rest new result
+      (file : List ℕ) (before after : Input) (old new : ReaderState) (result : Result ℕ EntryEnd)
+      → before.left ≡ Some file → old.allowance.taken ≡ 0 → CallsStart before after old new result
+      → AfterStart file after.left new.allowance result
   pub goes_on :
-      (file : List ℕ) (lanes : ℕ) (list : List Content) (left : List ℕ) (rest : Option (List ℕ))
-      (before now : ℕ) (old new : ReaderState)
-      (result : Result Content EntryEnd) → HasRead file lanes list old.taken left
-      → ReadsEntry lanes (Some left) rest before now old new result
-      → AfterNext file lanes list rest new result
+      (file : List ℕ) (lanes : ℕ) (list : List Content) (left : List ℕ) (before after : Input) (old new : ReaderState)
+      (result : Result Content EntryEnd) → before.left ≡ Some left
+      → HasRead file lanes list old.allowance.taken left → ReadsEntry lanes before after old new result
+      → AfterNext file lanes list after.left new.allowance result
   -- whatever the source tells, an entry takes octets
   pub moves :
-      (lanes : ℕ) (source rest : Option (List ℕ)) (before now : ℕ) (old new : ReaderState)
-      (content : Content) → ReadsEntry lanes source rest before now old new (Ok content)
-      → old.taken < new.taken
+      (lanes : ℕ) (before after : Input) (old new : ReaderState) (content : Content)
+      → ReadsEntry lanes before after old new (Ok content) → old.allowance.taken < new.allowance.taken
 
--- what the next call answers that meets no fault of its source, where these octets are left, so many were taken, and the
--- budget is this
-abbrev pub IsNext : ℕ → List ℕ → ℕ → ℕ → Result Content EntryEnd → Type 0
+-- what the next call answers that meets no fault of its source, where these octets are left and this is the allowance
+abbrev pub IsNextAnswer : ℕ → List ℕ → AllowanceState → Result Content EntryEnd → Type 0
 -- an entry that the budget lets be taken whole
-IsNext lanes left taken budget (Ok content) =
-    (entry : List ℕ) × (rest : List ℕ) × (left ≡ entry ++ rest) × Spells lanes content entry
-    × (taken + length entry ≤ budget)
+IsNextAnswer lanes left a (Ok content) =
+    (entry : List ℕ) × (rest : List ℕ) × (left ≡ entry ++ rest) × SpellsEntry lanes content entry
+    × (a.taken + length entry ≤ a.budget)
 -- octets within the budget with which no entry begins
-IsNext lanes left taken budget (Err (Bad place why)) =
-    (place ≡ taken) × ((rest : List ℕ) × IsWrong lanes why (take (budget - taken) left) rest)
+IsNextAnswer lanes left a (Err (Bad place why)) =
+    (place ≡ a.taken) × ((rest : List ℕ) × IsWrong lanes why (take (a.budget - a.taken) left) rest)
 -- the end of the octets before an entry and before the budget
-IsNext lanes left taken budget (Err (Cut place)) = (place ≡ taken + length left)
-    × (taken + length left < budget) × IsPartial lanes left
+IsNextAnswer lanes left a (Err (Cut place)) =
+    (place ≡ a.taken + length left) × (a.taken + length left < a.budget) × IsPartEntry lanes left
 -- less than an entry within the budget, where the octets do not end before it
-IsNext lanes left taken budget (Err Limit) = (budget ≤ taken + length left)
-    × IsPartial lanes (take (budget - taken) left)
-IsNext lanes left taken budget (Err Fault) = ⊥
+IsNextAnswer lanes left a (Err Limit) =
+    (a.budget ≤ a.taken + length left) × IsPartEntry lanes (take (a.budget - a.taken) left)
+IsNextAnswer lanes left a (Err Fault) = ⊥
 
 -- Where the source tells its octets, they and the budget fix what a call answers, unless the source fails.
-pub record LawOfAnswers : Type 0 where
+pub record LawOfNextAnswers : Type 0 where
   pub told :
-      (lanes : ℕ) (left : List ℕ) (rest : Option (List ℕ)) (before now : ℕ) (old new : ReaderState)
-      (result : Result Content EntryEnd)
-      → ReadsEntry lanes (Some left) rest before now old new result → (result ≡ Err Fault)
-      ⊎ IsNext lanes left old.taken old.budget result
+      (lanes : ℕ) (left : List ℕ) (before after : Input) (old new : ReaderState) (result : Result Content EntryEnd)
+      → before.left ≡ Some left → ReadsEntry lanes before after old new result
+      → (result ≡ Err Fault) ⊎ IsNextAnswer lanes left old.allowance result
   pub one_answer :
-      (lanes : ℕ) (left : List ℕ) (taken budget : ℕ) (x y : Result Content EntryEnd)
-      → IsNext lanes left taken budget x → IsNext lanes left taken budget y → x ≡ y
+      (lanes : ℕ) (left : List ℕ) (a : AllowanceState) (x y : Result Content EntryEnd)
+      → IsNextAnswer lanes left a x → IsNextAnswer lanes left a y → x ≡ y
 
 -- the octets decide what the file says, whatever follows them
 abbrev pub IsDecided : Said → Type 0
@@ -168,6 +156,6 @@ IsDecided WrongHeader = Unit {0}
 IsDecided (CutHeader place) = ⊥
 
 -- what the front of a file decides, the file says
-abbrev pub LawOfFronts : Type 0
-LawOfFronts = (front more : List ℕ) (said : Said) → IsDecided said → IsFile front said
+abbrev pub LawOfFileFronts : Type 0
+LawOfFileFronts = (front more : List ℕ) (said : Said) → IsDecided said → IsFile front said
     → IsFile (front ++ more) said

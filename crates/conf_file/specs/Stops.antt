@@ -1,58 +1,54 @@
 -- Inner contracts alone use this; nothing here has to be believed.
--- What a stop of filling means to a reader, and what an entry that was found has in the buffer.
-use Rattle.std.specs.Prelude.{◌≡◌, ℕ, ◌^◌, ◌<◌, ◌≤◌, Option, List, [], ◌∷◌, take, length, Result, Ok, Err}
-use Rattle.io_edge.specs.declared.whole.FillStop.{FillStop}
-use Rattle.io_edge.specs.declared.whole.FillStop.TheVariants.{Full, Limited, AtEnd, Failing}
+-- What a pause of the allowance means to a reader, and what an entry that was found has in the buffer.
+use Rattle.std.specs.Prelude.{◌≡◌, ℕ, ◌^◌, ◌<◌, ◌≤◌, List, [], ◌∷◌, take, length, Result, Ok, Err}
+use Rattle.byteorder.specs.Endian.{big_bytes}
+use Rattle.io_edge.specs.Outside.{Input}
+use Rattle.io_edge.specs.Allowance.{AllowanceState, TakesOctets}
+use Rattle.io_edge.specs.declared.allowance.Pause.{Pause}
+use Rattle.io_edge.specs.declared.allowance.Pause.TheVariants as pause
 use Rattle.conf_file.specs.declared.entries.Found.{Found}
 use Rattle.conf_file.specs.declared.entries.Found.TheVariants as found
 use Rattle.conf_file.specs.declared.answers.EntryEnd.{EntryEnd}
 use Rattle.conf_file.specs.declared.answers.EntryEnd.TheVariants.{Cut, Fault, Limit}
-use Rattle.byteorder.specs.Endian.{big_bytes}
 use Rattle.conf_file.specs.Entries.{Content, Packet, Chair, Tick, End, P}
-use Rattle.conf_file.specs.Reading.{Takes, TakesBehind, Stopped}
+use Rattle.conf_file.specs.Reading.{TakesBehind, GaveNoMore}
 
--- the end for a stop, by the octets taken in all
-abbrev pub end_for : FillStop → ℕ → Result Unit EntryEnd
-end_for Full taken = Ok tt
-end_for Limited taken = Err Limit
-end_for AtEnd taken = Err (Cut taken)
-end_for Failing taken = Err Fault
+-- the end for a pause, by the octets taken in all
+abbrev pub entry_end : Pause → ℕ → EntryEnd
+entry_end pause.Limit taken = Limit
+entry_end pause.End taken = Cut taken
+entry_end pause.Fault taken = Fault
 
 -- the slice was filled, or its front was and why not all
-abbrev pub Fetches : Result Unit EntryEnd → List ℕ → (source rest : Option (List ℕ))
-    → (before now taken_before taken_now budget : ℕ) → Type 0
-Fetches (Ok _) slice source rest before now taken_before taken_now budget =
-    Takes source rest taken_before taken_now budget slice × (now ≡ before)
-Fetches (Err end) slice source rest before now taken_before taken_now budget =
-    (count : ℕ) × (count < length slice)
-    × Takes source rest taken_before taken_now budget (take count slice)
-    × Stopped end rest taken_now budget before now
-
--- the entry that was found, of which the packet stands at the front of the buffer
-abbrev pub in_buffer : List ℕ → Result Found EntryEnd → Result Content EntryEnd
-in_buffer buffer (Ok (found.Packet lane size)) = Ok (Packet lane (take size buffer))
-in_buffer buffer (Ok (found.Order command)) = Ok (Chair command)
-in_buffer buffer (Ok (found.Step step)) = Ok (Tick step)
-in_buffer buffer (Ok found.End) = Ok End
-in_buffer buffer (Err end) = Err end
+abbrev pub FetchesField : Result Unit EntryEnd → (before after : Input) → (old new : AllowanceState) → (slice : List ℕ)
+    → Type 0
+FetchesField (Ok _) before after old new slice = TakesOctets before after old new slice × (after.faults ≡ before.faults)
+FetchesField (Err end) before after old new slice =
+    (count : ℕ) × (count < length slice) × TakesOctets before after old new (take count slice)
+    × GaveNoMore end before after new
 
 -- one octet was taken, or none and why
-abbrev pub TakesOctet : Result ℕ EntryEnd → (source rest : Option (List ℕ))
-    → (before now taken_before taken_now budget : ℕ) → Type 0
-TakesOctet (Ok octet) source rest before now taken_before taken_now budget =
-    Takes source rest taken_before taken_now budget (octet ∷ []) × (now ≡ before)
-TakesOctet (Err end) source rest before now taken_before taken_now budget =
-    Takes source rest taken_before taken_now budget []
-    × Stopped end rest taken_now budget before now
+abbrev pub TakesField : Result ℕ EntryEnd → (before after : Input) → (old new : AllowanceState) → Type 0
+TakesField (Ok octet) before after old new =
+    TakesOctets before after old new (octet ∷ []) × (after.faults ≡ before.faults)
+TakesField (Err end) before after old new = TakesOctets before after old new [] × GaveNoMore end before after new
 
 -- the lane and the length of a packet were taken, or why not
-abbrev pub TakesHead : Result (ℕ × ℕ) EntryEnd → (lanes : ℕ) → (source rest : Option (List ℕ))
-    → (before now first taken_before taken_now budget : ℕ) → Type 0
-TakesHead (Ok head) lanes source rest before now first taken_before taken_now budget =
-    Takes source rest taken_before taken_now budget (head.0 ∷ big_bytes 2 head.1) × (head.0 < lanes)
-    × (head.1 < 2 ^ 16) × (now ≡ before)
-TakesHead (Err end) lanes source rest before now first taken_before taken_now budget =
-    TakesBehind (P ∷ []) lanes source rest before now first taken_before taken_now budget (Err end)
+abbrev pub TakesHead : Result (ℕ × ℕ) EntryEnd → (lanes first : ℕ) → (before after : Input)
+    → (old new : AllowanceState) → Type 0
+TakesHead (Ok head) lanes first before after old new =
+    TakesOctets before after old new (head.0 ∷ big_bytes 2 head.1) × (head.0 < lanes) × (head.1 < 2 ^ 16)
+    × (after.faults ≡ before.faults)
+TakesHead (Err end) lanes first before after old new =
+    TakesBehind (P ∷ []) lanes first before after old new (Err end)
+
+-- the entry that was found, of which the packet stands at the front of the buffer
+abbrev pub entry_in_buffer : List ℕ → Result Found EntryEnd → Result Content EntryEnd
+entry_in_buffer buffer (Ok (found.Packet lane size)) = Ok (Packet lane (take size buffer))
+entry_in_buffer buffer (Ok (found.Order command)) = Ok (Chair command)
+entry_in_buffer buffer (Ok (found.Step step)) = Ok (Tick step)
+entry_in_buffer buffer (Ok found.End) = Ok End
+entry_in_buffer buffer (Err end) = Err end
 
 -- the packet that was found stands in the buffer
 abbrev pub FitsIn : List ℕ → Result Found EntryEnd → Type 0
@@ -62,5 +58,8 @@ FitsIn buffer (Ok (found.Step step)) = Unit {0}
 FitsIn buffer (Ok found.End) = Unit {0}
 FitsIn buffer (Err end) = Unit {0}
 
-abbrev pub IsNoPacket : Result Found EntryEnd → Type 0
-IsNoPacket result = (buffer : List ℕ) → FitsIn buffer result
+-- an entry was found, or the rest of one behind those of its octets that were taken before
+pub record Finds (front : List ℕ) (lanes first : ℕ) (before after : Input) (old new : AllowanceState)
+    (buffer : List ℕ) (result : Result Found EntryEnd) : Type 0 where
+  pub fits : FitsIn buffer result
+  pub takes : TakesBehind front lanes first before after old new (entry_in_buffer buffer result)

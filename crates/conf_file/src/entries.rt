@@ -1,19 +1,14 @@
 //! One entry from a source: its first octet, and then what that says must follow.
-ghost use Rattle.std.specs.Prelude.{◌≡◌, ℕ, ◌≤◌, ◌<◌, ◌^◌, List, ◌∷◌, [], length};
-ghost use Rattle.byteorder.specs.Endian.{big_bytes};
-ghost use Rattle.io_edge.specs.Causes.{StaysCounted};
-ghost use Rattle.conf_file.specs.Entries.{P, C, T, longest_packet};
-ghost use Rattle.conf_file.specs.Reading.{TakesBehind};
-ghost use Rattle.conf_file.specs.Stops.{TakesHead, in_buffer, FitsIn, IsNoPacket};
+ghost use Rattle.std.specs.Prelude.{◌≡◌, ℕ, List, ◌∷◌, [], length};
+ghost use Rattle.rtp_wire.specs.Frames.{longest_packet};
+ghost use Rattle.conf_file.specs.Entries.{P, C, T};
+ghost use Rattle.conf_file.specs.Stops.{TakesHead, Finds};
 
 use crate::answers::{EntryEnd, EntryWhy};
-use crate::fields::{fetch, go_on, read_octet};
-use byteorder::{BigEndian, ByteOrder};
+use crate::fields::{end_at, fetch, read_octet};
 use chair_words::{Command, read_line};
-use io_edge::{Source, fill};
-
-/// The octets of the longest packet that an entry can carry: its length has 16 bits.
-pub const LONGEST_PACKET: usize = 65535;
+use io_edge::{Allowance, Source};
+use rtp_wire::packet_length;
 
 /// An entry that was found, with the number of octets that its packet has in the buffer.
 #[derive(Debug, Clone, Copy)]
@@ -28,25 +23,19 @@ pub enum Found {
 pub fn read_entry<S: Source>(
     source: &mut S,
     packet: &mut [u8],
-    taken: &mut u64,
-    budget: u64,
+    allowance: &mut Allowance,
     lanes: u8,
 ) -> Result<Found, EntryEnd>
-    requires room { length packet.old ≡ longest_packet }
-    requires within { taken.old ≤ budget }
-    ensures later { S.faults source.old ≤ S.faults source.new }
-    ensures counted { StaysCounted (S.faults source.old) (S.faults source.new) }
-    ensures size { FitsIn packet.new result }
-    ensures entry { TakesBehind [] lanes (S.left source.old) (S.left source.new)
-        (S.faults source.old) (S.faults source.new)
-        taken.old taken.old taken.new budget (in_buffer packet.new result) }
+    requires { length packet.old ≡ longest_packet }
+    ensures { Finds [] lanes allowance.old.taken (S.tells source.old) (S.tells source.new)
+        allowance.old allowance.new packet.new result }
 {
-    let place = *taken;
-    let kind = read_octet(source, taken, budget)?;
+    let place = allowance.taken();
+    let kind = read_octet(source, allowance)?;
     match kind {
-        b'P' => read_packet(source, packet, place, taken, budget, lanes),
-        b'C' => read_order(source, packet, place, taken, budget),
-        b'T' => read_step(source, place, taken, budget),
+        b'P' => read_packet(source, packet, place, allowance, lanes),
+        b'C' => read_order(source, packet, place, allowance),
+        b'T' => read_step(source, place, allowance),
         b'E' => Ok(Found::End),
         _ => Err(EntryEnd::Bad {
             place,
@@ -59,36 +48,23 @@ pub fn read_entry<S: Source>(
 fn read_head<S: Source>(
     source: &mut S,
     place: u64,
-    taken: &mut u64,
-    budget: u64,
+    allowance: &mut Allowance,
     lanes: u8,
 ) -> Result<(u8, usize), EntryEnd>
-    requires within { taken.old ≤ budget }
-    ensures later { S.faults source.old ≤ S.faults source.new }
-    ensures counted { StaysCounted (S.faults source.old) (S.faults source.new) }
-    ensures head { TakesHead result lanes (S.left source.old) (S.left source.new)
-        (S.faults source.old) (S.faults source.new) place taken.old taken.new budget }
+    ensures { TakesHead result lanes place (S.tells source.old) (S.tells source.new) allowance.old allowance.new }
 {
     let mut head = [0; 3];
-    let filled = fill(source, &mut head, budget - *taken);
-    *taken += filled.count as u64;
-    if 0 < filled.count && lanes <= head[0] {
-        return Err(EntryEnd::Bad {
+    match allowance.fetch(source, &mut head) {
+        Ok(()) if head[0] < lanes => Ok((head[0], packet_length(&head[1..]))),
+        Err(short) if short.count == 0 || head[0] < lanes => Err(end_at(
+            short.pause,
+            allowance.taken(),
+        )),
+        _ => Err(EntryEnd::Bad {
             place,
             why: EntryWhy::Lane,
-        });
+        }),
     }
-    go_on(filled.stop, *taken)?;
-    Ok((head[0], packet_length(&head[1..])))
-}
-
-/// The length of the packet behind these two octets.
-fn packet_length(head: &[u8]) -> usize
-    requires { length head.now ≡ 2 }
-    ensures fits { result < 2 ^ 16 }
-    ensures spelled { big_bytes 2 result ≡ head.now }
-{
-    BigEndian::read_u16(head) as usize
 }
 
 /// Takes a packet behind P.
@@ -96,21 +72,15 @@ fn read_packet<S: Source>(
     source: &mut S,
     packet: &mut [u8],
     place: u64,
-    taken: &mut u64,
-    budget: u64,
+    allowance: &mut Allowance,
     lanes: u8,
 ) -> Result<Found, EntryEnd>
-    requires room { length packet.old ≡ longest_packet }
-    requires within { taken.old ≤ budget }
-    ensures later { S.faults source.old ≤ S.faults source.new }
-    ensures counted { StaysCounted (S.faults source.old) (S.faults source.new) }
-    ensures size { FitsIn packet.new result }
-    ensures entry { TakesBehind (P ∷ []) lanes (S.left source.old) (S.left source.new)
-        (S.faults source.old) (S.faults source.new)
-        place taken.old taken.new budget (in_buffer packet.new result) }
+    requires { length packet.old ≡ longest_packet }
+    ensures { Finds (P ∷ []) lanes place (S.tells source.old) (S.tells source.new)
+        allowance.old allowance.new packet.new result }
 {
-    let (lane, size) = read_head(source, place, taken, budget, lanes)?;
-    fetch(source, &mut packet[..size], taken, budget)?;
+    let (lane, size) = read_head(source, place, allowance, lanes)?;
+    fetch(source, &mut packet[..size], allowance)?;
     Ok(Found::Packet { lane, size })
 }
 
@@ -119,21 +89,15 @@ fn read_order<S: Source>(
     source: &mut S,
     buffer: &mut [u8],
     place: u64,
-    taken: &mut u64,
-    budget: u64,
+    allowance: &mut Allowance,
 ) -> Result<Found, EntryEnd>
-    requires room { length buffer.old ≡ longest_packet }
-    requires within { taken.old ≤ budget }
-    ensures later { S.faults source.old ≤ S.faults source.new }
-    ensures counted { StaysCounted (S.faults source.old) (S.faults source.new) }
-    ensures size { FitsIn buffer.new result }
-    ensures entry { (lanes : ℕ) → TakesBehind (C ∷ []) lanes (S.left source.old) (S.left source.new)
-        (S.faults source.old) (S.faults source.new)
-        place taken.old taken.new budget (in_buffer buffer.new result) }
+    requires { length buffer.old ≡ longest_packet }
+    ensures { (lanes : ℕ) → Finds (C ∷ []) lanes place (S.tells source.old) (S.tells source.new)
+        allowance.old allowance.new buffer.new result }
 {
-    let size = read_octet(source, taken, budget)? as usize;
+    let size = read_octet(source, allowance)? as usize;
     let line = &mut buffer[..size];
-    fetch(source, line, taken, budget)?;
+    fetch(source, line, allowance)?;
     match read_line(line) {
         Ok(command) => Ok(Found::Order(command)),
         Err(fault) => Err(EntryEnd::Bad {
@@ -147,19 +111,12 @@ fn read_order<S: Source>(
 fn read_step<S: Source>(
     source: &mut S,
     place: u64,
-    taken: &mut u64,
-    budget: u64,
+    allowance: &mut Allowance,
 ) -> Result<Found, EntryEnd>
-    requires within { taken.old ≤ budget }
-    ensures later { S.faults source.old ≤ S.faults source.new }
-    ensures counted { StaysCounted (S.faults source.old) (S.faults source.new) }
-    ensures step { IsNoPacket result }
-    ensures entry { (lanes : ℕ) (buffer : List ℕ)
-        → TakesBehind (T ∷ []) lanes (S.left source.old) (S.left source.new) (S.faults source.old)
-        (S.faults source.new)
-        place taken.old taken.new budget (in_buffer buffer result) }
+    ensures { (lanes : ℕ) (buffer : List ℕ) → Finds (T ∷ []) lanes place (S.tells source.old) (S.tells source.new)
+        allowance.old allowance.new buffer result }
 {
-    match read_octet(source, taken, budget)? {
+    match read_octet(source, allowance)? {
         step @ 1..=31 => Ok(Found::Step(step)),
         _ => Err(EntryEnd::Bad {
             place,

@@ -1,50 +1,41 @@
-//! Fields of a header or an entry: octets that are known to follow are asked for at once, within the budget.
-ghost use Rattle.std.specs.Prelude.{◌≡◌, ◌≤◌};
-ghost use Rattle.io_edge.specs.Causes.{StaysCounted};
-ghost use Rattle.conf_file.specs.Stops.{Fetches, TakesOctet, end_for};
+//! Fields of a header or an entry: octets that are known to follow are asked for at once, within the allowance.
+ghost use Rattle.std.specs.Prelude.{◌≡◌};
+ghost use Rattle.conf_file.specs.Stops.{FetchesField, TakesField, entry_end};
 
 use crate::answers::EntryEnd;
-use io_edge::{FillStop, Source, fill};
+use io_edge::{Allowance, Pause, Source};
 
 /// Fills `out` from the source, or tells why it could not.
 pub fn fetch<S: Source>(
     source: &mut S,
     out: &mut [u8],
-    taken: &mut u64,
-    budget: u64,
+    allowance: &mut Allowance,
 ) -> Result<(), EntryEnd>
-    requires within { taken.old ≤ budget }
-    ensures later { S.faults source.old ≤ S.faults source.new }
-    ensures counted { StaysCounted (S.faults source.old) (S.faults source.new) }
-    ensures fetched { Fetches result out.new (S.left source.old) (S.left source.new)
-        (S.faults source.old) (S.faults source.new) taken.old taken.new budget }
+    ensures { FetchesField result (S.tells source.old) (S.tells source.new) allowance.old allowance.new out.new }
 {
-    let filled = fill(source, out, budget - *taken);
-    *taken += filled.count as u64;
-    go_on(filled.stop, *taken)
-}
-
-/// Goes on where all was filled, and else tells the end.
-pub fn go_on(stop: FillStop, taken: u64) -> Result<(), EntryEnd>
-    ensures { result ≡ end_for stop taken }
-{
-    match stop {
-        FillStop::Full => Ok(()),
-        FillStop::Limited => Err(EntryEnd::Limit),
-        FillStop::AtEnd => Err(EntryEnd::Cut { place: taken }),
-        FillStop::Failing => Err(EntryEnd::Fault),
+    match allowance.fetch(source, out) {
+        Ok(()) => Ok(()),
+        Err(short) => Err(end_at(short.pause, allowance.taken())),
     }
 }
 
 /// Takes one octet.
-pub fn read_octet<S: Source>(source: &mut S, taken: &mut u64, budget: u64) -> Result<u8, EntryEnd>
-    requires within { taken.old ≤ budget }
-    ensures later { S.faults source.old ≤ S.faults source.new }
-    ensures counted { StaysCounted (S.faults source.old) (S.faults source.new) }
-    ensures octet { TakesOctet result (S.left source.old) (S.left source.new) (S.faults source.old)
-        (S.faults source.new) taken.old taken.new budget }
+pub fn read_octet<S: Source>(source: &mut S, allowance: &mut Allowance) -> Result<u8, EntryEnd>
+    ensures { TakesField result (S.tells source.old) (S.tells source.new) allowance.old allowance.new }
 {
-    let mut octet = [0; 1];
-    fetch(source, &mut octet, taken, budget)?;
-    Ok(octet[0])
+    match allowance.octet(source) {
+        Ok(octet) => Ok(octet),
+        Err(pause) => Err(end_at(pause, allowance.taken())),
+    }
+}
+
+/// The end for a pause after so many octets in all.
+pub fn end_at(pause: Pause, taken: u64) -> EntryEnd
+    ensures { result ≡ entry_end pause taken }
+{
+    match pause {
+        Pause::Limit => EntryEnd::Limit,
+        Pause::End => EntryEnd::Cut { place: taken },
+        Pause::Fault => EntryEnd::Fault,
+    }
 }

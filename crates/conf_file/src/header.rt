@@ -1,12 +1,11 @@
 //! The header of a conference file.
-ghost use Rattle.std.specs.Prelude.{◌≡◌, ◌≤◌, length, MatchOption};
-ghost use Rattle.io_edge.specs.Causes.{StaysCounted};
+ghost use Rattle.std.specs.Prelude.{◌≡◌, length, MatchOption};
 ghost use Rattle.conf_file.specs.Header.{header_of, header_size, HasLanes, IsNoHeader};
-ghost use Rattle.conf_file.specs.Reading.{TakesHeader};
+ghost use Rattle.conf_file.specs.Reading.{TakesFileHeader};
 
 use crate::answers::{EntryEnd, EntryWhy};
 use crate::fields::fetch;
-use io_edge::Source;
+use io_edge::{Allowance, Source};
 
 /// What a conference file begins with.
 const MAGIC: &str = "H261CONF";
@@ -18,15 +17,11 @@ const VERSION: u8 = 1;
 const MOST_LANES: u8 = 16;
 
 /// Takes the header, and gives the number of lanes.
-pub fn read_header<S: Source>(source: &mut S, taken: &mut u64, budget: u64) -> Result<u8, EntryEnd>
-    requires within { taken.old ≤ budget }
-    ensures later { S.faults source.old ≤ S.faults source.new }
-    ensures counted { StaysCounted (S.faults source.old) (S.faults source.new) }
-    ensures header { TakesHeader (S.left source.old) (S.left source.new) (S.faults source.old)
-        (S.faults source.new) taken.old taken.new budget result }
+pub fn read_header<S: Source>(source: &mut S, allowance: &mut Allowance) -> Result<u8, EntryEnd>
+    ensures { TakesFileHeader (S.tells source.old) (S.tells source.new) allowance.old allowance.new result }
 {
     let mut header = [0; 10];
-    fetch(source, &mut header, taken, budget)?;
+    fetch(source, &mut header, allowance)?;
     lanes_in(&header).ok_or(EntryEnd::Bad {
         place: 0,
         why: EntryWhy::Header,

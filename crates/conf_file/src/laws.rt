@@ -1,5 +1,5 @@
 //! Laws of conference files, each the contract of a function with nothing in its body.
-ghost use Rattle.conf_file.specs.File.{LawOfAnswers, LawOfFronts, LawOfOneReading, LawOfReading};
+ghost use Rattle.conf_file.specs.File.{LawOfFileFronts, LawOfNextAnswers, LawOfOneReading, LawOfReading};
 
 /// What a reader gives, call by call, is what its source says as a conference file.
 pub fn files_are_read()
@@ -13,10 +13,10 @@ pub fn one_reading()
 
 /// What the front of a file decides does not change with what follows it.
 pub fn fronts_decide()
-    ensures { LawOfFronts }
+    ensures { LawOfFileFronts }
 {}
 
 /// What `next` answers is fixed where its source tells its octets and does not fail.
 pub fn answers_of_a_reader()
-    ensures { LawOfAnswers }
+    ensures { LawOfNextAnswers }
 {}

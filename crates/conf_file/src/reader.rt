@@ -1,16 +1,18 @@
 //! The header and then the entries, one after another, from a source within a budget of octets.
-ghost use Rattle.std.specs.Prelude.{◌≡◌, ◌≤◌, None, IfOk, is_some, true};
+ghost use Rattle.std.specs.Prelude.{◌≡◌, None, IfOk, is_some, true};
 ghost use Rattle.std.specs.Borrow.{sem};
 ghost use Rattle.std.specs.Io.BufRead.{Rests};
-ghost use Rattle.io_edge.specs.Causes.{StaysCounted};
-ghost use Rattle.conf_file.specs.Reading.{CallsStart, CallsNext, shown};
+ghost use Rattle.io_edge.specs.Allowance.{unused};
+ghost use Rattle.io_edge.specs.Causes.{Went};
+ghost use Rattle.conf_file.specs.Reading.{CallsStart, CallsEntry, entry_shown};
 ghost use Rattle.conf_file.specs.contracts.reader.EntryReader.{the_row};
 
 use crate::answers::{Entry, EntryEnd};
-use crate::entries::{Found, LONGEST_PACKET, read_entry};
+use crate::entries::{Found, read_entry};
 use crate::header::read_header;
-use io_edge::Source;
+use io_edge::{Allowance, Source};
 use pel_bits::NoMemory;
+use rtp_wire::LONGEST_PACKET;
 use std::alloc::Global;
 use std::marker::Model;
 
@@ -18,53 +20,47 @@ use std::marker::Model;
 #[derive(Drop)]
 pub struct EntryReader {
     packet: Vec<u8>,
-    taken: u64,
-    budget: u64,
+    allowance: Allowance,
     lanes: Option<u8>,
 }
 
 impl Model for EntryReader {
-    ghost use Rattle.std.specs.Prelude.{◌≡◌, ◌≤◌, vec_len};
-    ghost use Rattle.conf_file.specs.Entries.{longest_packet};
+    ghost use Rattle.std.specs.Prelude.{◌≡◌, vec_len};
+    ghost use Rattle.rtp_wire.specs.Frames.{longest_packet};
     ghost use Rattle.conf_file.specs.Reading.{ReaderState};
 
     ghost Value = { ReaderState };
 
-    ghost view = { λ a. record { taken = a.taken; budget = a.budget; lanes = a.lanes } };
+    ghost view = { λ a. record { allowance = a.allowance; lanes = a.lanes } };
 
-    ghost invariant = { λ a. (vec_len a.packet ≡ longest_packet) × (a.taken ≤ a.budget) };
+    ghost invariant = { λ a. vec_len a.packet ≡ longest_packet };
 }
 
 impl EntryReader {
     /// A reader that may take `budget` octets, the header included. It takes all its memory here.
     pub fn reserve(alloc: Global, budget: u64) -> Result<EntryReader, NoMemory>
-        ensures { IfOk result (λ reader. reader ≡ record
-            { taken = 0; budget = budget; lanes = None }) }
+        ensures { IfOk result (λ reader. reader ≡ record { allowance = unused budget; lanes = None }) }
     {
         Ok(EntryReader {
             packet: vec![in alloc; 0; LONGEST_PACKET]?,
-            taken: 0,
-            budget,
+            allowance: Allowance::new(budget),
             lanes: None,
         })
     }
 
     /// The octets taken so far, the header included.
     pub fn taken(&self) -> u64
-        ensures { result ≡ self.now.taken }
+        ensures { result ≡ self.now.allowance.taken }
     {
-        self.taken
+        self.allowance.taken()
     }
 
     /// Takes the header, and gives the number of lanes. It is judged once all of its octets are there.
     pub fn start<S: Source>(&mut self, source: &mut S) -> Result<u8, EntryEnd>
-        requires { self.old.taken ≡ 0 }
-        ensures header { CallsStart (S.left source.old) (S.left source.new) (S.faults source.old)
-            (S.faults source.new) self.old self.new result }
-        ensures later { S.faults source.old ≤ S.faults source.new }
-        ensures counted { StaysCounted (S.faults source.old) (S.faults source.new) }
+        requires { self.old.allowance.taken ≡ 0 }
+        ensures header { CallsStart (S.tells source.old) (S.tells source.new) self.old self.new result }
     {
-        let started = read_header(source, &mut self.taken, self.budget);
+        let started = read_header(source, &mut self.allowance);
         self.lanes = started.ok();
         started
     }
@@ -80,16 +76,14 @@ impl EntryReader {
     pub fn next<S: Source>(&mut self, source: &mut S) -> Result<Entry<'_>, EntryEnd>
         requires { is_some self.old.lanes ≡ true }
         ensures* after { sem 𝓛 (Rests the_row self.entry (λ new.
-            CallsNext (S.left source.old) (S.left source.new) (S.faults source.old)
-            (S.faults source.new) self.old new (shown result))) }
-        ensures later { S.faults source.old ≤ S.faults source.new }
-        ensures counted { StaysCounted (S.faults source.old) (S.faults source.new) }
+            CallsEntry (S.tells source.old) (S.tells source.new) self.old new (entry_shown result))) }
+        ensures went { Went (S.tells source.old).faults (S.tells source.new).faults }
     {
         let Some(lanes) = self.lanes else {
             unreachable!();
         };
         let packet = self.packet.as_mut_slice();
-        match read_entry(source, packet, &mut self.taken, self.budget, lanes) {
+        match read_entry(source, packet, &mut self.allowance, lanes) {
             Ok(Found::Packet { lane, size }) => Ok(Entry::Packet {
                 lane,
                 bytes: &self.packet.as_slice()[..size],
