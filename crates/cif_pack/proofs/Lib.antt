@@ -9,4 +9,5 @@ pub mod TextEnds
 pub mod CutLaws
 pub mod PacketLaws
 pub mod ListLaws
+pub mod Totals
 mod Worked

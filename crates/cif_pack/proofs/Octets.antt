@@ -5,7 +5,7 @@ use Rattle.pel_bits.specs.Bits.{bits, field}
 use Rattle.pel_bits.specs.Reading.{zeros}
 use Rattle.pel_bits.proofs.Fields.{field-add, field-mod, field-join, field-zero, field-shift, take-field, drop-field, number-field, number-fits}
 use Rattle.cif_pack.specs.declared.atoms.Context.{Context}
-use Rattle.cif_pack.specs.Payload.{packed, header_bits, in_five_bits}
+use Rattle.cif_pack.specs.Payload.{bits_packed, payload_header, low_five_bits}
 
 front_value : (x n : ℕ) → n < 8 → x < 256 → x * 2 ^ n % 256 / 2 ^ n ≡ x % 2 ^ (8 - n)
 front_value x zero h k = omega (arith, k)
@@ -72,8 +72,8 @@ five : ℕ → List Bool
 five n = field n 5
 
 pub header-word : (sbit ebit : ℕ) (c : Context) → sbit < 8 → ebit < 8
-    → field (((((((sbit * 8 + ebit) * 4 + 1) * 16 + c.gobn % 16) * 32 + c.mbap % 32) * 32 + c.quant % 32) * 32 + in_five_bits c.across) * 32 + in_five_bits c.down) 32
-    ≡ header_bits sbit ebit false true c
+    → field (((((((sbit * 8 + ebit) * 4 + 1) * 16 + c.gobn % 16) * 32 + c.mbap % 32) * 32 + c.quant % 32) * 32 + low_five_bits c.across) * 32 + low_five_bits c.down) 32
+    ≡ payload_header sbit ebit false true c
 unfolding field
 header-word sbit ebit c s e =
     let a = sbit * 8 + ebit in
@@ -81,25 +81,25 @@ header-word sbit ebit c s e =
     let g = b * 16 + c.gobn % 16 in
     let m = g * 32 + c.mbap % 32 in
     let q = m * 32 + c.quant % 32 in
-    let h = q * 32 + in_five_bits c.across in
+    let h = q * 32 + low_five_bits c.across in
     let f0 : field a 6 ≡ field sbit 3 ++ field ebit 3 = field-join sbit ebit 3 3 e in
     let f1 : field b 8 ≡ field a 6 ++ false ∷ true ∷ [] = field-join a 1 6 2 (omega arith) in
     let f2 : field g 12 ≡ field b 8 ++ field c.gobn 4 = field-join b (c.gobn % 16) 8 4 (omega arith) ∙ ap (λ t. field b 8 ++ t) (field-mod c.gobn 0 4) in
     let f3 : field m 17 ≡ field g 12 ++ field c.mbap 5 = field-join g (c.mbap % 32) 12 5 (omega arith) ∙ ap (λ t. field g 12 ++ t) (field-mod c.mbap 0 5) in
     let f4 : field q 22 ≡ field m 17 ++ field c.quant 5 = field-join m (c.quant % 32) 17 5 (omega arith) ∙ ap (λ t. field m 17 ++ t) (field-mod c.quant 0 5) in
-    let f5 : field h 27 ≡ field q 22 ++ field (in_five_bits c.across) 5 = field-join q (in_five_bits c.across) 22 5 (five_below c.across) in
-    let f6 : field (h * 32 + in_five_bits c.down) 32 ≡ field h 27 ++ field (in_five_bits c.down) 5 = field-join h (in_five_bits c.down) 27 5 (five_below c.down) in
-    f6 ∙ ap (λ t. t ++ field (in_five_bits c.down) 5) (f5 ∙ ap (λ t. t ++ field (in_five_bits c.across) 5)
+    let f5 : field h 27 ≡ field q 22 ++ field (low_five_bits c.across) 5 = field-join q (low_five_bits c.across) 22 5 (five_below c.across) in
+    let f6 : field (h * 32 + low_five_bits c.down) 32 ≡ field h 27 ++ field (low_five_bits c.down) 5 = field-join h (low_five_bits c.down) 27 5 (five_below c.down) in
+    f6 ∙ ap (λ t. t ++ field (low_five_bits c.down) 5) (f5 ∙ ap (λ t. t ++ field (low_five_bits c.across) 5)
     (f4 ∙ ap (λ t. t ++ field c.quant 5) (f3 ∙ ap (λ t. t ++ field c.mbap 5) (f2 ∙ ap (λ t. t ++ field c.gobn 4) (f1 ∙ ap (λ t. t ++ false ∷ true ∷ []) f0)))))
   where
-    five_below : (z : ℤ) → in_five_bits z < 2 ^ 5
+    five_below : (z : ℤ) → low_five_bits z < 2 ^ 5
     five_below (pos n) = omega arith
     five_below (negsuc n) = omega arith
 
 -- the same of numbers that are these
 pub header-word-of : (a b g m q h v sbit ebit : ℕ) (c : Context) → sbit < 8 → ebit < 8 → a ≡ sbit → b ≡ ebit
-    → g ≡ c.gobn % 16 → m ≡ c.mbap % 32 → q ≡ c.quant % 32 → h ≡ in_five_bits c.across → v ≡ in_five_bits c.down
-    → field (((((((a * 8 + b) * 4 + 1) * 16 + g) * 32 + m) * 32 + q) * 32 + h) * 32 + v) 32 ≡ header_bits sbit ebit false true c
+    → g ≡ c.gobn % 16 → m ≡ c.mbap % 32 → q ≡ c.quant % 32 → h ≡ low_five_bits c.across → v ≡ low_five_bits c.down
+    → field (((((((a * 8 + b) * 4 + 1) * 16 + g) * 32 + m) * 32 + q) * 32 + h) * 32 + v) 32 ≡ payload_header sbit ebit false true c
 header-word-of a b g m q h v sbit ebit c s e a_is b_is g_is m_is q_is h_is v_is =
     ap (λ k. field k 32) (same a b g m q h v sbit ebit _ _ _ _ _ a_is b_is g_is m_is q_is h_is v_is) ∙ header-word sbit ebit c s e
   where
@@ -109,24 +109,24 @@ header-word-of a b g m q h v sbit ebit c s e a_is b_is g_is m_is q_is h_is v_is 
 
 -- ---- packed
 
-pub packed-octet : (n : ℕ) (rest : List Bool) → packed (field n 8 ++ rest) ≡ n % 256 ∷ packed rest
-unfolding packed field
-packed-octet n rest = ap (λ k. k ∷ packed rest) (number-field n 8)
+pub packed-octet : (n : ℕ) (rest : List Bool) → bits_packed (field n 8 ++ rest) ≡ n % 256 ∷ bits_packed rest
+unfolding bits_packed field
+packed-octet n rest = ap (λ k. k ∷ bits_packed rest) (number-field n 8)
 
-pub packed-bits : (octets : List ℕ) → ((i : ℕ) → slice_index octets i < 256) → packed (bits octets) ≡ octets
-unfolding field packed
+pub packed-bits : (octets : List ℕ) → ((i : ℕ) → slice_index octets i < 256) → bits_packed (bits octets) ≡ octets
+unfolding field bits_packed
 packed-bits [] small = refl
 packed-bits (x ∷ xs) small =
     ap₂ (λ (n : ℕ) (ns : List ℕ). n ∷ ns) (number-fits x 8 (small 0)) (packed-bits xs (λ i. small (suc i)))
 
-packed-two : (n : ℕ) (rest : List Bool) → packed (field n 16 ++ rest) ≡ n / 256 % 256 ∷ n % 256 ∷ packed rest
+packed-two : (n : ℕ) (rest : List Bool) → bits_packed (field n 16 ++ rest) ≡ n / 256 % 256 ∷ n % 256 ∷ bits_packed rest
 packed-two n rest =
-    ap (λ t. packed (t ++ rest)) (field-add n 8 8) ∙ ap packed (append_assoc (field (n / 256) 8) (field n 8) rest)
+    ap (λ t. bits_packed (t ++ rest)) (field-add n 8 8) ∙ ap bits_packed (append_assoc (field (n / 256) 8) (field n 8) rest)
     ∙ packed-octet (n / 256) (field n 8 ++ rest) ∙ ap (λ t. n / 256 % 256 ∷ t) (packed-octet n rest)
 
-pub packed-word : (n : ℕ) → packed (field n 32) ≡ big_bytes 4 n
-unfolding packed
+pub packed-word : (n : ℕ) → bits_packed (field n 32) ≡ big_bytes 4 n
+unfolding bits_packed
 packed-word n =
-    ap packed (field-add n 16 16 ∙ ap (λ t. field (n / 65536) 16 ++ t) (sym (append-nil (field n 16))))
+    ap bits_packed (field-add n 16 16 ∙ ap (λ t. field (n / 65536) 16 ++ t) (sym (append-nil (field n 16))))
     ∙ packed-two (n / 65536) (field n 16 ++ []) ∙ ap (λ t. n / 65536 / 256 % 256 ∷ n / 65536 % 256 ∷ t) (packed-two n [])
     ∙ ap₂ (λ (a : ℕ) (b : ℕ). a ∷ b ∷ n / 256 % 256 ∷ n % 256 ∷ []) (omega arith) (omega arith)

@@ -10,8 +10,8 @@ use Rattle.cif_pack.specs.declared.atoms.Context.{Context}
 use Rattle.cif_pack.specs.declared.packer.Settings.{Settings}
 use Rattle.cif_pack.specs.Atoms.{atom_ends}
 use Rattle.cif_pack.specs.Cuts.{octets_between, AreCuts, cuts}
-use Rattle.cif_pack.specs.Packets.{packet, packets_to, packets, stamp_at, number_of}
-use Rattle.cif_pack.specs.Payload.{packed, header_bits, payload, sbit_of, ebit_of, no_context}
+use Rattle.cif_pack.specs.Packets.{packet_between, packets_to, packets, stamp_at, sequence_after}
+use Rattle.cif_pack.specs.Payload.{bits_packed, payload_header, payload_between, sbit_of, ebit_of, no_context}
 use Rattle.cif_pack.proofs.AtomsRise.{atoms-rise}
 use Rattle.cif_pack.proofs.CutLaws.{within, cuts-are-furthest}
 use Rattle.cif_pack.proofs.Frames.{length-packed, length-part-octets, header-and-payload}
@@ -26,7 +26,7 @@ use Rattle.pel_model.specs.Text.{text}
 use Rattle.pel_model.specs.Valid.{IsValid}
 use Rattle.rtp_wire.specs.Rtp.{Fields, octets_of, plain, fields_of}
 
-length-header : (s e : ℕ) (c : Context) → length (header_bits s e false true c) ≡ 32
+length-header : (s e : ℕ) (c : Context) → length (payload_header s e false true c) ≡ 32
 unfolding field
 length-header s e c = refl
 
@@ -36,17 +36,17 @@ length-plain : (f : Fields) (octets : List ℕ) → length (octets_of (plain (re
 length-plain f octets =
     ap length (header-and-payload f octets) ∙ length-append (octets_of (plain (record f { payload = [] }))) octets
 
-pub length-payload : (text : List Bool) (from to : ℕ) (c : Context) → from < to → to ≤ length text → length (payload text from to c) ≡ 4 + octets_between from to
+pub length-payload : (text : List Bool) (from to : ℕ) (c : Context) → from < to → to ≤ length text → length (payload_between text from to c) ≡ 4 + octets_between from to
 length-payload text from to c some inside =
-    let head = packed (header_bits (sbit_of from) (ebit_of to) false true c) in
-    let part = packed (zeros (sbit_of from) ++ (take (to - from) (drop from text) ++ zeros (ebit_of to))) in
-    omega (arith, length-append head part, length-packed 4 (header_bits (sbit_of from) (ebit_of to) false true c) (length-header (sbit_of from) (ebit_of to) c), length-part-octets text from to some inside)
+    let head = bits_packed (payload_header (sbit_of from) (ebit_of to) false true c) in
+    let part = bits_packed (zeros (sbit_of from) ++ (take (to - from) (drop from text) ++ zeros (ebit_of to))) in
+    omega (arith, length-append head part, length-packed 4 (payload_header (sbit_of from) (ebit_of to) false true c) (length-header (sbit_of from) (ebit_of to) c), length-part-octets text from to some inside)
 
 pub length-packet : (s : Settings) (stamp before : ℕ) (text : List Bool) (from to : ℕ) (c : Context) → from < to → to ≤ length text
-    → length (packet s stamp before text from to c) ≡ octets_between from to + 16
+    → length (packet_between s stamp before text from to c) ≡ octets_between from to + 16
 length-packet s stamp before text from to c some inside =
-    let f : Fields = record { marker = to == length text; kind = 31; seq = number_of s before; stamp = stamp; ssrc = s.ssrc; payload = [] } in
-    omega (arith, length-plain f (payload text from to c), length-payload text from to c some inside)
+    let f : Fields = record { marker = to == length text; kind = 31; seq = sequence_after s before; stamp = stamp; ssrc = s.ssrc; payload = [] } in
+    omega (arith, length-plain f (payload_between text from to c), length-payload text from to c some inside)
 
 fit-by : (s : Settings) (stamp before from : ℕ) (text : List Bool) (c : Context) (ends cs : List AtomEnd) → 16 ≤ s.mtu → All (λ (e : AtomEnd). e.at ≤ length text) ends
     → AreCuts s.mtu ends (length text) from cs → All (λ (p : List ℕ). length p ≤ s.mtu) (packets_to s stamp before text from c cs)
@@ -54,7 +54,7 @@ fit-by s stamp before from text c ends [] room inside cut = All-nil (λ (p : Lis
 fit-by s stamp before from text c ends (e ∷ cs) room inside cut =
     let h = All-contains (λ (x : AtomEnd). x.at ≤ length text) ends e inside cut.0.there in
     let fit = leb-true (octets_between from e.at) (s.mtu - 16) cut.0.within in
-    All-cons (λ (p : List ℕ). length p ≤ s.mtu) (packet s stamp before text from e.at c) (packets_to s stamp (suc before) text e.at e.context cs)
+    All-cons (λ (p : List ℕ). length p ≤ s.mtu) (packet_between s stamp before text from e.at c) (packets_to s stamp (suc before) text e.at e.context cs)
     (omega (arith, room, fit, length-packet s stamp before text from e.at c cut.0.behind h))
     (fit-by s stamp (suc before) e.at text e.context ends cs room inside cut.1)
 
@@ -73,9 +73,9 @@ unfolding fields_of
 marker-plain true f = refl
 marker-plain false f = refl
 
-marker-packet : (s : Settings) (stamp before : ℕ) (text : List Bool) (from to : ℕ) (c : Context) → marker_of (packet s stamp before text from to c) ≡ (to == length text)
+marker-packet : (s : Settings) (stamp before : ℕ) (text : List Bool) (from to : ℕ) (c : Context) → marker_of (packet_between s stamp before text from to c) ≡ (to == length text)
 marker-packet s stamp before text from to c =
-    marker-plain (to == length text) (record { marker = false; kind = 31; seq = number_of s before; stamp = stamp; ssrc = s.ssrc; payload = payload text from to c })
+    marker-plain (to == length text) (record { marker = false; kind = 31; seq = sequence_after s before; stamp = stamp; ssrc = s.ssrc; payload = payload_between text from to c })
 
 is-end : (m n : ℕ) → m ≡ n → (m == n) ≡ true
 is-end m n h = grind (arith, nat_tests)
@@ -115,8 +115,8 @@ marker-on-the-last s total before p least valid =
 
 -- ---- bits
 
-pub bits-packed : (n : ℕ) (bs : List Bool) → length bs ≡ 8 * n → bits (packed bs) ≡ bs
-unfolding packed
+pub bits-packed : (n : ℕ) (bs : List Bool) → length bs ≡ 8 * n → bits (bits_packed bs) ≡ bs
+unfolding bits_packed
 bits-packed zero [] is = refl
 bits-packed (suc n) (a ∷ b ∷ c ∷ d ∷ e ∷ f ∷ g ∷ h ∷ bs) is =
     ap₂ (λ (xs ys : List Bool). xs ++ ys) (field-number (a ∷ b ∷ c ∷ d ∷ e ∷ f ∷ g ∷ h ∷ [])) (bits-packed n bs (omega (arith, is)))
@@ -131,13 +131,13 @@ bits-packed (suc n) (a ∷ b ∷ c ∷ d ∷ e ∷ f ∷ []) is = absurd (omega 
 bits-packed (suc n) (a ∷ b ∷ c ∷ d ∷ e ∷ f ∷ g ∷ []) is = absurd (omega (arith, is))
 
 pub bits-of-payload : (text : List Bool) (from to : ℕ) (c : Context) → from < to → to ≤ length text
-    → bits (payload text from to c) ≡ header_bits (sbit_of from) (ebit_of to) false true c ++ (zeros (sbit_of from) ++ (take (to - from) (drop from text) ++ zeros (ebit_of to)))
+    → bits (payload_between text from to c) ≡ payload_header (sbit_of from) (ebit_of to) false true c ++ (zeros (sbit_of from) ++ (take (to - from) (drop from text) ++ zeros (ebit_of to)))
 bits-of-payload text from to c some inside =
-    let head = header_bits (sbit_of from) (ebit_of to) false true c in
+    let head = payload_header (sbit_of from) (ebit_of to) false true c in
     let bs = take (to - from) (drop from text) in
     let part = zeros (sbit_of from) ++ (bs ++ zeros (ebit_of to)) in
     let long : length bs ≡ to - from = length-take-le (to - from) (drop from text) (omega (arith, inside, length-drop from text)) in
-    bits-append (packed head) (packed part)
+    bits-append (bits_packed head) (bits_packed part)
     ∙ ap₂ (λ (xs ys : List Bool). xs ++ ys) (bits-packed 4 head (length-header (sbit_of from) (ebit_of to) c))
     (bits-packed (octets_between from to) part
     (omega (arith, some, long, length-append (zeros (from % 8)) (bs ++ zeros ((8 - to % 8) % 8)), length-append bs (zeros ((8 - to % 8) % 8)), length-replicate (from % 8) false, length-replicate ((8 - to % 8) % 8) false)))

@@ -6,7 +6,7 @@ use Rattle.pel_bits.specs.Bits.{bits, field}
 use Rattle.pel_bits.specs.Reading.{zeros}
 use Rattle.pel_bits.proofs.Fields.{length-field}
 use Rattle.pel_bits.proofs.OctetBits.{length-bits, bits-append}
-use Rattle.cif_pack.specs.Payload.{packed}
+use Rattle.cif_pack.specs.Payload.{bits_packed}
 use Rattle.cif_pack.proofs.Octets.{packed-bits}
 
 -- zeros in place of the first s bits, which lie in the first piece, and of the last e, which lie in the last
@@ -91,7 +91,7 @@ pub several-octets : (octets : List ℕ) (from to x y : ℕ) → from < to → t
     → field x 8 ≡ zeros (from % 8) ++ drop (from % 8) (field (slice_index octets (from / 8)) 8)
     → field y 8 ≡ take (8 - (8 - to % 8) % 8) (field (slice_index octets ((to - 1) / 8)) 8) ++ zeros ((8 - to % 8) % 8)
     → x ∷ (take ((to - 1) / 8 - (from / 8 + 1)) (drop (from / 8 + 1) octets) ++ y ∷ [])
-    ≡ packed (zeros (from % 8) ++ (take (to - from) (drop from (bits octets)) ++ zeros ((8 - to % 8) % 8)))
+    ≡ bits_packed (zeros (from % 8) ++ (take (to - from) (drop from (bits octets)) ++ zeros ((8 - to % 8) % 8)))
 unfolding cut_of
 several-octets octets from to x y some inside far x_small y_small small x_is y_is =
     let first = from / 8 in
@@ -119,13 +119,13 @@ several-octets octets from to x y some inside far x_small y_small small x_is y_i
     append-nil (field y 8) ∙ y_is ∙ ap (λ k. take (k - e) Y ++ zeros e) (sym (length-field b 8)) in
     let same : bits (x ∷ (c.middle ++ y ∷ [])) ≡ zeros s ++ (take (to - from) (drop from (bits octets)) ++ zeros e) =
     written ∙ ap₂ (λ (t : List Bool) (u : List Bool). t ++ (M ++ u)) x_is last_is ∙ sym piece in
-    sym (packed-bits (x ∷ (c.middle ++ y ∷ [])) (all-small x y c.middle x_small y_small (middle-small octets (first + 1) (last - (first + 1)) small))) ∙ ap packed same
+    sym (packed-bits (x ∷ (c.middle ++ y ∷ [])) (all-small x y c.middle x_small y_small (middle-small octets (first + 1) (last - (first + 1)) small))) ∙ ap bits_packed same
 
 -- bits within one octet
 pub single-octet : (octets : List ℕ) (from to x : ℕ) → from < to → to ≤ 8 * length octets → from / 8 ≡ (to - 1) / 8 → x < 256
     → (head : List Bool) → head ≡ zeros (from % 8) ++ drop (from % 8) (field (slice_index octets (from / 8)) 8)
     → field x 8 ≡ take (8 - (8 - to % 8) % 8) head ++ zeros ((8 - to % 8) % 8)
-    → x ∷ [] ≡ packed (zeros (from % 8) ++ (take (to - from) (drop from (bits octets)) ++ zeros ((8 - to % 8) % 8)))
+    → x ∷ [] ≡ bits_packed (zeros (from % 8) ++ (take (to - from) (drop from (bits octets)) ++ zeros ((8 - to % 8) % 8)))
 single-octet octets from to x some inside same x_small head head_is x_is =
     let first = from / 8 in
     let s = from % 8 in
@@ -145,4 +145,4 @@ single-octet octets from to x some inside same x_small head head_is x_is =
     ∙ single P F Q s e (omega (arith, length-field a 8, some, same)) in
     let written : bits (x ∷ []) ≡ take (length F - e) (zeros s ++ drop s F) ++ zeros e =
     append-nil (field x 8) ∙ x_is ∙ ap₂ (λ (k : ℕ) (t : List Bool). take (k - e) t ++ zeros e) (sym (length-field a 8)) head_is in
-    sym (packed-bits (x ∷ []) (all-small-one x x_small)) ∙ ap packed (written ∙ sym piece)
+    sym (packed-bits (x ∷ []) (all-small-one x x_small)) ∙ ap bits_packed (written ∙ sym piece)

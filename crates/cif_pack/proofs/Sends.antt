@@ -10,12 +10,12 @@ use Rattle.cif_pack.specs.declared.atoms.AtomEnd.{AtomEnd}
 use Rattle.cif_pack.specs.declared.packer.Sent.{Sent}
 use Rattle.cif_pack.specs.declared.packer.Settings.{Settings}
 use Rattle.cif_pack.specs.Cuts.{is_cut, with_cut, from_behind, cuts, octets_between}
-use Rattle.cif_pack.specs.Packets.{packet, packets_to, number_of, framed}
-use Rattle.cif_pack.specs.Payload.{no_context, payload}
+use Rattle.cif_pack.specs.Packets.{packet_between, packets_to, sequence_after, framed}
+use Rattle.cif_pack.specs.Payload.{no_context, payload_between}
 use Rattle.cif_pack.specs.declared.atoms.Context.{Context}
 use Rattle.rtp_wire.specs.Rtp.{octets_of, plain}
 use Rattle.cif_pack.specs.Sending.{Rises}
-use Rattle.cif_pack.specs.State.{Puts, behind}
+use Rattle.cif_pack.specs.State.{Puts, settings_after}
 use Rattle.cif_pack.proofs.CutLemmas.{Ahead, ahead, rises-on, rises-near}
 
 abbrev pub no_end : AtomEnd
@@ -62,7 +62,7 @@ rest-skips s stamp text before start e es goes =
 
 -- an end that is one
 rest-cuts : (s : Settings) (stamp : ℕ) (text : List Bool) (before : ℕ) (start e : AtomEnd) (es : List AtomEnd) → is_cut s.mtu start.at es ≡ true
-    → rest_of s stamp text before start (e ∷ es) ≡ packet s stamp before text start.at e.at start.context ∷ rest_of s stamp text (suc before) e es
+    → rest_of s stamp text before start (e ∷ es) ≡ packet_between s stamp before text start.at e.at start.context ∷ rest_of s stamp text (suc before) e es
 rest-cuts s stamp text before start e es ends_here =
     ap (λ (b : Bool). packets_to s stamp before text start.at start.context (with_cut b e (cuts s.mtu (from_behind b start.at e) es))) ends_here
 
@@ -105,14 +105,14 @@ octets-add from to octets packets count some count_is short = omega (arith, some
 
 pub stands-cut : (s : Settings) (stamp len : ℕ) (text : List Bool) (ends : List AtomEnd) (i : ℕ) (start : AtomEnd) (sent : Sent) (old new now : Option (List ℕ)) (piece : List ℕ) (count : ℕ)
     → i < length ends → is_cut s.mtu start.at (drop (i + 1) ends) ≡ true
-    → piece ≡ frame (packet s stamp sent.packets text start.at (get_or ends i no_end).at start.context) → count ≡ length piece
+    → piece ≡ frame (packet_between s stamp sent.packets text start.at (get_or ends i no_end).at start.context) → count ≡ length piece
     → length piece ≡ octets_between start.at (get_or ends i no_end).at + 18 → Appends new now piece
     → Stands s stamp len text ends i start sent old new
     → Stands s stamp len text ends (i + 1) (get_or ends i no_end) (record { packets = sent.packets + 1; octets = sent.octets + count }) old now
 stands-cut s stamp len text ends i start sent old new now piece count less ends_here piece_is count_is long put w =
     let e = get_or ends i no_end in
     let es = drop (i + 1) ends in
-    let p = packet s stamp sent.packets text start.at e.at start.context in
+    let p = packet_between s stamp sent.packets text start.at e.at start.context in
     let more : framed (w.done ++ p ∷ []) ≡ framed w.done ++ piece = framed-more w.done p ∙ ap (λ (t : List ℕ). framed w.done ++ t) (sym piece_is) in
     let next : rest_of s stamp text sent.packets start (drop i ends) ≡ p ∷ rest_of s stamp text (sent.packets + 1) e es =
     ap (rest_of s stamp text sent.packets start) (next-end ends i less) ∙ rest-cuts s stamp text sent.packets start e es ends_here
@@ -141,12 +141,12 @@ stands-last E s stamp len text ends start sent old new rest none i left w =
 -- where the sink failed, a front was put
 pub stands-failed : (s : Settings) (stamp len : ℕ) (text : List Bool) (ends : List AtomEnd) (i : ℕ) (start : AtomEnd) (sent : Sent) (old new now : Option (List ℕ)) (piece : List ℕ) (n : ℕ)
     → i < length ends → is_cut s.mtu start.at (drop (i + 1) ends) ≡ true
-    → piece ≡ frame (packet s stamp sent.packets text start.at (get_or ends i no_end).at start.context) → n < length piece → Appends new now (take n piece)
+    → piece ≡ frame (packet_between s stamp sent.packets text start.at (get_or ends i no_end).at start.context) → n < length piece → Appends new now (take n piece)
     → Stands s stamp len text ends i start sent old new → let all = framed (rest_of s stamp text 0 no_end ends) in (n : ℕ) × (n < length all) × Appends old now (take n all)
 stands-failed s stamp len text ends i start sent old new now piece n less ends_here piece_is part put w =
     let e = get_or ends i no_end in
     let es = drop (i + 1) ends in
-    let p = packet s stamp sent.packets text start.at e.at start.context in
+    let p = packet_between s stamp sent.packets text start.at e.at start.context in
     let left = rest_of s stamp text (suc sent.packets) e es in
     let next : rest_of s stamp text sent.packets start (drop i ends) ≡ p ∷ left =
     ap (rest_of s stamp text sent.packets start) (next-end ends i less) ∙ rest-cuts s stamp text sent.packets start e es ends_here in
@@ -162,11 +162,11 @@ stands-failed s stamp len text ends i start sent old new now piece n less ends_h
     )
 
 -- a packet of the settings with the number of the packet behind so many
-pub packet-behind : (s : Settings) (stamp n : ℕ) (text : List Bool) (from to : ℕ) (c : Context) → packet (behind s n) stamp 0 text from to c ≡ packet s stamp n text from to c
+pub packet-behind : (s : Settings) (stamp n : ℕ) (text : List Bool) (from to : ℕ) (c : Context) → packet_between (settings_after s n) stamp 0 text from to c ≡ packet_between s stamp n text from to c
 packet-behind s stamp n text from to c =
-    ap (λ (k : ℕ). octets_of (plain (record { marker = to == length text; kind = 31; seq = k; stamp = stamp; ssrc = s.ssrc; payload = payload text from to c }))) same
+    ap (λ (k : ℕ). octets_of (plain (record { marker = to == length text; kind = 31; seq = k; stamp = stamp; ssrc = s.ssrc; payload = payload_between text from to c }))) same
   where
-    same : number_of (behind s n) 0 ≡ number_of s n
+    same : sequence_after (settings_after s n) 0 ≡ sequence_after s n
     same = omega arith
 
 pub nothing-appended : (old : Option (List ℕ)) → Appends old old []

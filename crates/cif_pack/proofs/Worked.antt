@@ -5,8 +5,8 @@ use Rattle.cif_pack.specs.declared.atoms.AtomEnd.{AtomEnd}
 use Rattle.cif_pack.specs.declared.packer.Settings.{Settings}
 use Rattle.cif_pack.specs.Atoms.{atom_ends}
 use Rattle.cif_pack.specs.Cuts.{cuts}
-use Rattle.cif_pack.specs.Packets.{stamp_at, number_of, packets, framed, sent_packets, out}
-use Rattle.cif_pack.specs.Payload.{packed, header_bits, sbit_of, ebit_of, no_context}
+use Rattle.cif_pack.specs.Packets.{stamp_at, sequence_after, packets, framed, sent_packets, out}
+use Rattle.cif_pack.specs.Payload.{bits_packed, payload_header, sbit_of, ebit_of, no_context}
 use Rattle.pel_bits.specs.Bits as OctetBits
 use Rattle.pel_model.specs.declared.MbKind.TheVariants.{Intra, IntraQuant, Inter, Mc, McQuant}
 use Rattle.pel_model.specs.Bits.{field, number}
@@ -157,7 +157,7 @@ pub packets_of_pictures : sent_packets settings 0 ((1, mixed) ∷ (9, short) ∷
     0 ∷ 42 ∷ 16 ∷ 0 ∷ 11 ∷ 4 ∷ 0 ∷ 2 ∷ 225 ∷ 0 ∷ []) ∷
     (128 ∷ 159 ∷ 0 ∷ 9 ∷ 0 ∷ 0 ∷ 104 ∷ 107 ∷ 72 ∷ 50 ∷ 54 ∷ 49 ∷ 53 ∷ 0 ∷ 0 ∷ 0 ∷ 0 ∷ 0 ∷ 192 ∷ 64 ∷ 0 ∷ 50 ∷ 16 ∷ 0 ∷ 13 ∷ 4 ∷ 0 ∷ 3 ∷
     97 ∷ 0 ∷ 0 ∷ 224 ∷ 64 ∷ []) ∷ [])
-unfolding picture_header_text group_header_text macroblocks_text macroblock_text block_text coefficient_word field number mba_table mtype_table mvd_table cbp_table tcoeff_table packed OctetBits.field OctetBits.number
+unfolding picture_header_text group_header_text macroblocks_text macroblock_text block_text coefficient_word field number mba_table mtype_table mvd_table cbp_table tcoeff_table bits_packed OctetBits.field OctetBits.number
 packets_of_pictures = refl
 
 -- each stands in a frame
@@ -165,11 +165,11 @@ pub framed_packets : framed ((1 ∷ 2 ∷ 3 ∷ []) ∷ replicate 300 7 ∷ []) 
 framed_packets = refl
 
 pub octets_of_pictures : length (out settings 0 ((1, mixed) ∷ (9, short) ∷ [])) ≡ 490
-unfolding picture_header_text group_header_text macroblocks_text macroblock_text block_text coefficient_word field number mba_table mtype_table mvd_table cbp_table tcoeff_table packed OctetBits.field OctetBits.number
+unfolding picture_header_text group_header_text macroblocks_text macroblock_text block_text coefficient_word field number mba_table mtype_table mvd_table cbp_table tcoeff_table bits_packed OctetBits.field OctetBits.number
 octets_of_pictures = refl
 
 -- sequence numbers have 16 bits, and timestamps 32
-pub numbers_wrap : (number_of settings 2 ≡ 65535) × (number_of settings 3 ≡ 0) × (stamp_at settings 0 ≡ 4294967000) × (stamp_at settings 1 ≡ 2707)
+pub numbers_wrap : (sequence_after settings 2 ≡ 65535) × (sequence_after settings 3 ≡ 0) × (stamp_at settings 0 ≡ 4294967000) × (stamp_at settings 1 ≡ 2707)
 numbers_wrap = (refl, refl, refl, refl)
 
 -- ---- four grey pictures
@@ -191,14 +191,14 @@ unfolding picture_header_text group_header_text macroblocks_text macroblock_text
 cuts_of_four_greys = refl
 
 pub payload_headers_of_four_greys :
-    (packed (header_bits (sbit_of 0) (ebit_of 11043) false true no_context) ≡ 0x15 ∷ 0 ∷ 0 ∷ 0 ∷ [])
-    × (packed (header_bits (sbit_of 11043) (ebit_of 22093) false true (end 11043 6 1 8 (pos 0) (pos 0)).context) ≡ 0x6D ∷ 0x60 ∷ 0xA0 ∷ 0 ∷ [])
-    × (packed (header_bits (sbit_of 22093) (ebit_of 26084) false true (end 22093 11 4 8 (pos 0) (pos 0)).context) ≡ 0xB1 ∷ 0xB2 ∷ 0x20 ∷ 0 ∷ [])
-unfolding packed OctetBits.field OctetBits.number
+    (bits_packed (payload_header (sbit_of 0) (ebit_of 11043) false true no_context) ≡ 0x15 ∷ 0 ∷ 0 ∷ 0 ∷ [])
+    × (bits_packed (payload_header (sbit_of 11043) (ebit_of 22093) false true (end 11043 6 1 8 (pos 0) (pos 0)).context) ≡ 0x6D ∷ 0x60 ∷ 0xA0 ∷ 0 ∷ [])
+    × (bits_packed (payload_header (sbit_of 22093) (ebit_of 26084) false true (end 22093 11 4 8 (pos 0) (pos 0)).context) ≡ 0xB1 ∷ 0xB2 ∷ 0x20 ∷ 0 ∷ [])
+unfolding bits_packed OctetBits.field OctetBits.number
 payload_headers_of_four_greys = (refl, refl, refl)
 
 -- 3,317 octets in all, with the frames
 pub lengths_of_four_greys :
     map length (packets (record settings { mtu = 1400 }) 1 0 four_greys) ≡ 1397 ∷ 1398 ∷ 516 ∷ []
-unfolding picture_header_text group_header_text macroblocks_text macroblock_text block_text coefficient_word field number mba_table mtype_table mvd_table cbp_table tcoeff_table packed OctetBits.field OctetBits.number
+unfolding picture_header_text group_header_text macroblocks_text macroblock_text block_text coefficient_word field number mba_table mtype_table mvd_table cbp_table tcoeff_table bits_packed OctetBits.field OctetBits.number
 lengths_of_four_greys = refl

@@ -3,8 +3,8 @@ use Rattle.std.specs.Prelude.{◌≡◌, ℕ, ◌+◌, ◌-◌, ◌/◌, ◌<◌
 use Rattle.cif_pack.specs.declared.atoms.AtomEnd.{AtomEnd}
 
 -- the octets of both headers of a packet: 12 of RTP and 4 of its payload
-abbrev pub header_octets : ℕ
-header_octets = 12 + 4
+abbrev pub both_headers : ℕ
+both_headers = 12 + 4
 
 -- the octets in which the bits from one place to another stand
 abbrev pub octets_between : (from to : ℕ) → ℕ
@@ -12,7 +12,7 @@ octets_between from to = (to + 7) / 8 - from / 8
 
 -- with both headers they are no more than a packet may have
 abbrev pub fits : (mtu from to : ℕ) → Bool
-fits mtu from to = nat_le (octets_between from to) (mtu - header_octets)
+fits mtu from to = nat_le (octets_between from to) (mtu - both_headers)
 
 -- ---- what the cuts are
 

@@ -4,5 +4,7 @@ pub mod Laws
 pub mod Marked
 pub mod Packets
 pub mod Payload
-pub mod State
+pub mod PicturesWritten
 pub mod Sending
+pub mod State
+pub mod Tallies

@@ -4,7 +4,7 @@ use Rattle.cif_pack.specs.declared.atoms.AtomEnd.{AtomEnd}
 use Rattle.cif_pack.specs.declared.atoms.Context.{Context}
 use Rattle.cif_pack.specs.Atoms.{atom_ends}
 use Rattle.cif_pack.specs.Cuts.{cuts}
-use Rattle.cif_pack.specs.Payload.{no_context, payload}
+use Rattle.cif_pack.specs.Payload.{no_context, payload_between}
 use Rattle.cif_pack.specs.declared.packer.Settings.{Settings}
 use Rattle.pel_model.specs.declared.Format.TheVariants.{Cif}
 use Rattle.pel_model.specs.Records.{Picture}
@@ -17,27 +17,27 @@ abbrev pub stamp_at : Settings → (total : ℕ) → ℕ
 stamp_at s total = (s.stamp + 3003 * total) % 2 ^ 32
 
 -- the sequence number of a packet, by the packets before it; it has 16 bits
-abbrev pub number_of : Settings → (before : ℕ) → ℕ
-number_of s before = (s.seq + before) % 2 ^ 16
+abbrev pub sequence_after : Settings → (before : ℕ) → ℕ
+sequence_after s before = (s.seq + before) % 2 ^ 16
 
 -- The packet with this timestamp behind so many that brings the text's bits from one place to another. The marker bit is that of the last
 -- packet of a picture, and the payload type is 31.
-abbrev pub packet : Settings → (stamp before : ℕ) → (text : List Bool) → (from to : ℕ) → Context → List ℕ
-packet s stamp before text from to context =
+abbrev pub packet_between : Settings → (stamp before : ℕ) → (text : List Bool) → (from to : ℕ) → Context → List ℕ
+packet_between s stamp before text from to context =
     octets_of (plain (record {
       marker = to == length text;
       kind = 31;
-      seq = number_of s before;
+      seq = sequence_after s before;
       stamp = stamp;
       ssrc = s.ssrc;
-      payload = payload text from to context;
+      payload = payload_between text from to context;
     }))
 
 -- the packets that end at these ends, the first of which begins at `from`
 abbrev pub packets_to : Settings → (stamp before : ℕ) → (text : List Bool) → (from : ℕ) → Context → List AtomEnd → List (List ℕ)
 packets_to s stamp before text from context [] = []
 packets_to s stamp before text from context (end ∷ ends) =
-    packet s stamp before text from end.at context ∷ packets_to s stamp (suc before) text end.at end.context ends
+    packet_between s stamp before text from end.at context ∷ packets_to s stamp (suc before) text end.at end.context ends
 
 -- the packets of a picture that is sent behind so many packets, when the sum of the steps is `total`
 abbrev pub packets : Settings → (total before : ℕ) → Picture → List (List ℕ)

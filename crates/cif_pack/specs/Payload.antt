@@ -11,21 +11,21 @@ abbrev pub no_context : Context
 no_context = record { gobn = 0; mbap = 0; quant = 0; across = pos 0; down = pos 0 }
 
 -- the last 5 bits of a component in two's complement, which hold it from -16 to 15
-abbrev pub in_five_bits : ℤ → ℕ
-in_five_bits (pos n) = n % 32
-in_five_bits (negsuc n) = 31 - n % 32
+abbrev pub low_five_bits : ℤ → ℕ
+low_five_bits (pos n) = n % 32
+low_five_bits (negsuc n) = 31 - n % 32
 
 -- SBIT 3 bits, EBIT 3, I 1, V 1, GOBN 4, MBAP 5, QUANT 5, HMVD 5, VMVD 5
-abbrev pub header_bits : (sbit ebit : ℕ) → (intra vectors : Bool) → Context → List Bool
-header_bits sbit ebit intra vectors c =
+abbrev pub payload_header : (sbit ebit : ℕ) → (intra vectors : Bool) → Context → List Bool
+payload_header sbit ebit intra vectors c =
     field sbit 3 ++ (field ebit 3 ++ (intra ∷ vectors ∷ (field c.gobn 4 ++ (field c.mbap 5 ++ (field c.quant 5
-    ++ (field (in_five_bits c.across) 5 ++ field (in_five_bits c.down) 5))))))
+    ++ (field (low_five_bits c.across) 5 ++ field (low_five_bits c.down) 5))))))
 
 -- bits as octets, eight to each
-unfoldable pub packed : List Bool → List ℕ
-packed (a ∷ b ∷ c ∷ d ∷ e ∷ f ∷ g ∷ h ∷ bits) =
-    number (a ∷ b ∷ c ∷ d ∷ e ∷ f ∷ g ∷ h ∷ []) ∷ packed bits
-packed _ = []
+unfoldable pub bits_packed : List Bool → List ℕ
+bits_packed (a ∷ b ∷ c ∷ d ∷ e ∷ f ∷ g ∷ h ∷ bits) =
+    number (a ∷ b ∷ c ∷ d ∷ e ∷ f ∷ g ∷ h ∷ []) ∷ bits_packed bits
+bits_packed _ = []
 
 -- the bits of the octet in which a place stands that lie before it, and behind it
 abbrev pub sbit_of : (from : ℕ) → ℕ
@@ -36,7 +36,7 @@ ebit_of to = (8 - to % 8) % 8
 
 -- The payload that brings a text's bits from one place to another: I is 0 and V is 1, and the bits stand in the octets as
 -- they do in the text, with zeros where other bits of the text stand.
-abbrev pub payload : List Bool → (from to : ℕ) → Context → List ℕ
-payload text from to c =
-    packed (header_bits (sbit_of from) (ebit_of to) false true c)
-    ++ packed (zeros (sbit_of from) ++ (take (to - from) (drop from text) ++ zeros (ebit_of to)))
+abbrev pub payload_between : List Bool → (from to : ℕ) → Context → List ℕ
+payload_between text from to c =
+    bits_packed (payload_header (sbit_of from) (ebit_of to) false true c)
+    ++ bits_packed (zeros (sbit_of from) ++ (take (to - from) (drop from text) ++ zeros (ebit_of to)))

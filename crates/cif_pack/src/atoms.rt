@@ -1,9 +1,9 @@
 //! Where the atoms of a picture's strict text end: the pieces of it that no packet cuts.
 ghost use Rattle.std.specs.Prelude.{◌≡◌, ◌+◌, ◌-◌, ◌*◌, ◌<◌, ◌≤◌, ◌++◌, [], ◌∷◌, length, take, drop, pos};
-ghost use Rattle.h261_pic.specs.Coded.{coding, IsFinished};
+ghost use Rattle.h261_pic.specs.Coded.{coding};
 ghost use Rattle.pel_model.specs.declared.Format.TheVariants.{Cif};
 ghost use Rattle.pel_model.specs.Records.{Picture};
-ghost use Rattle.cif_pack.specs.Atoms.{atom_ends};
+ghost use Rattle.cif_pack.specs.Atoms.{atom_ends, IsFinishedCif};
 ghost use Rattle.cif_pack.specs.Marked.{most_atoms, view_ends, mark_ends, ends_from, count_of};
 
 use arrayvec::ArrayVec;
@@ -34,8 +34,7 @@ pub struct AtomEnd {
 
 /// The ends of the atoms of a CIF picture that has all its groups, in their order.
 pub fn atom_ends(picture: &Coded) -> ArrayVec<AtomEnd, MOST_ATOMS>
-    requires cif { picture.now.format ≡ Cif }
-    requires finished { IsFinished picture.now }
+    requires { IsFinishedCif picture.now }
     ensures ends { (p : Picture) → picture.now ≡ coding Cif p → result.items ≡ atom_ends p }
     ensures few { length result.items ≤ most_atoms }
 {

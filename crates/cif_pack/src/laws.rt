@@ -1,6 +1,6 @@
 //! Laws of the packets of pictures: functions without a body, whose contracts are the laws.
 
-ghost use Rattle.cif_pack.specs.Laws.{CutsAreFurthest, CutsAreOne, PacketsFit, MarkerOnTheLast, ExcludedBitsAreZeros, PacketsGoOn, NumbersGoOn, NothingSent, OneMoreIsSent, FrontIsWritten};
+ghost use Rattle.cif_pack.specs.Laws.{CutsAreFurthest, CutsAreOne, PacketsFit, MarkerOnTheLast, ExcludedBitsAreZeros, PacketsGoOn, NumbersGoOn, NothingSent, OneMoreIsSent, TotalsAreSmall};
 
 /// Each packet of a valid picture ends at the furthest end of an atom that fits, and the last one at the end of the text;
 /// no other cuts are like that.
@@ -24,7 +24,7 @@ pub fn excluded_bits_are_zeros()
     ensures { ExcludedBitsAreZeros }
 {}
 
-/// The packets of pictures are those of one after the other, and a packer that wrote some goes on behind them.
+/// The packets of pictures are those of one after the other, and a packer that wrote some goes on after them.
 pub fn packets_go_on()
     ensures joined { PacketsGoOn }
     ensures numbers { NumbersGoOn }
@@ -34,5 +34,9 @@ pub fn packets_go_on()
 pub fn pictures_one_by_one()
     ensures nothing { NothingSent }
     ensures one_more { OneMoreIsSent }
-    ensures failed { FrontIsWritten }
+{}
+
+/// The sum of the steps of a conference's ticks is small, since each tick is a step of the conference.
+pub fn totals_are_small()
+    ensures { TotalsAreSmall }
 {}

@@ -6,12 +6,14 @@ mod atoms;
 mod laws;
 mod packer;
 mod payload;
+mod tally;
 
 pub use laws::{
     cuts_are_the_furthest, excluded_bits_are_zeros, marker_on_the_last, packets_fit, packets_go_on,
-    pictures_one_by_one,
+    pictures_one_by_one, totals_are_small,
 };
 pub use packer::{Packer, Sent, Settings};
+pub use tally::{Tally, takes_in};
 
 #[cfg(test)]
 mod tests;

@@ -1,20 +1,19 @@
 //! The packets of a picture, one after the other.
 ghost use Rattle.std.specs.Prelude.{◌≡◌, ℕ, ◌+◌, ◌-◌, ◌*◌, ◌^◌, ◌<◌, ◌≤◌, ◌==◌, [], ◌++◌, length, take, drop, true, false, IfOk, All, vec_len, vec_capacity};
 ghost use Rattle.byteorder.specs.Endian.{big_bytes};
-ghost use Rattle.h261_pic.specs.Coded.{coding, IsFinished};
 ghost use Rattle.io_edge.specs.Causes.{HasCause};
 ghost use Rattle.pel_bits.specs.Bits.{bits};
 ghost use Rattle.pel_model.specs.declared.Format.TheVariants.{Cif};
-ghost use Rattle.pel_model.specs.Records.{Picture};
 ghost use Rattle.pel_model.specs.Valid.{limit};
 ghost use Rattle.rtp_wire.specs.Frames.{frame};
 ghost use Rattle.rtp_wire.specs.Rtp.{octets_of, plain};
+ghost use Rattle.cif_pack.specs.Atoms.{IsFinishedCif};
 ghost use Rattle.cif_pack.specs.declared.atoms.AtomEnd.{AtomEnd as End};
 ghost use Rattle.cif_pack.specs.Cuts.{octets_between, is_cut, cuts};
-ghost use Rattle.cif_pack.specs.Packets.{packets, packets_to, stamp_at, packet};
-ghost use Rattle.cif_pack.specs.Payload.{payload, no_context};
+ghost use Rattle.cif_pack.specs.Packets.{packets_to, stamp_at, packet_between};
+ghost use Rattle.cif_pack.specs.Payload.{payload_between, no_context};
 ghost use Rattle.cif_pack.specs.Sending.{Rises};
-ghost use Rattle.cif_pack.specs.State.{Puts, GoesOn, AreFew, behind};
+ghost use Rattle.cif_pack.specs.State.{Puts, SendsPicture, AreFew, settings_after};
 
 use crate::atoms::{AtomEnd, atom_ends};
 use crate::payload::{append_part, extend, header};
@@ -100,16 +99,10 @@ impl Packer {
         sink: &mut K,
     ) -> Result<Sent, Failed>
         requires usable { self.old.spent ≡ false }
-        requires cif { picture.now.format ≡ Cif }
-        requires finished { IsFinished picture.now }
+        requires picture { IsFinishedCif picture.now }
         requires total { total ≤ 2 ^ 50 }
-        ensures packets { (p : Picture) → picture.now ≡ coding Cif p →
-            Puts (K.written sink.old) (K.written sink.new) result
-            (packets self.old.settings total 0 p) }
-        ensures state { (p : Picture) → picture.now ≡ coding Cif p →
-            GoesOn self.old self.new result (packets self.old.settings total 0 p) }
-        ensures few { IfOk result (λ sent. AreFew sent) }
-        ensures cause { HasCause (K.faults sink.old) (K.faults sink.new) result }
+        ensures { SendsPicture picture.now total self.old self.new
+            (K.tells sink.old) (K.tells sink.new) result }
     {
         self.spent = true;
         let stamp = stamp_at(&self.settings, total);
@@ -163,11 +156,11 @@ fn put_packets<K: Sink>(
     requires short { text.now.len ≤ limit Cif }
     requires few { length ends.now ≤ 396 }
     requires rises { Rises settings.now.mtu text.now.len 0 ends.now }
-    ensures packets { Puts (K.written sink.old) (K.written sink.new) result
+    ensures packets { Puts (K.tells sink.old).written (K.tells sink.new).written result
         (packets_to settings.now stamp 0 (take text.now.len (bits text.now.octets.now)) 0 no_context
         (cuts settings.now.mtu 0 ends.now)) }
     ensures few { IfOk result (λ sent. AreFew sent) }
-    ensures cause { HasCause (K.faults sink.old) (K.faults sink.new) result }
+    ensures cause { HasCause (K.tells sink.old).faults (K.tells sink.new).faults result }
     ensures kept { vec_capacity buffer.old ≤ vec_capacity buffer.new }
 {
     let mut sent = Sent {
@@ -201,9 +194,9 @@ fn beginning() -> AtomEnd
     AtomEnd::default()
 }
 
-/// The settings with the number of the packet behind so many.
+/// The settings with the number of the packet after so many.
 fn numbered(settings: &Settings, before: u64) -> Settings
-    ensures { result ≡ behind settings.now before }
+    ensures { result ≡ settings_after settings.now before }
 {
     Settings {
         seq: settings.seq.wrapping_add((before % 0x1_0000) as u16),
@@ -246,7 +239,7 @@ fn write_frame(
     requires short { text.now.len < 2 ^ 32 }
     requires fits { octets_between start.now.at to + 16 ≤ 9000 }
     requires room { octets_between start.now.at to + 18 ≤ vec_capacity buffer.old }
-    ensures octets { buffer.new.items ≡ frame (packet settings.now stamp 0
+    ensures octets { buffer.new.items ≡ frame (packet_between settings.now stamp 0
         (take text.now.len (bits text.now.octets.now)) start.now.at to start.now.context) }
     ensures long { length buffer.new.items ≡ octets_between start.now.at to + 18 }
     ensures kept { vec_capacity buffer.old ≤ vec_capacity buffer.new }

@@ -3,19 +3,19 @@ ghost use Rattle.std.specs.Prelude.{◌≡◌, ◌+◌, ◌-◌, ◌*◌, ◌/�
 ghost use Rattle.pel_bits.specs.Reading.{zeros};
 ghost use Rattle.pel_bits.specs.Bits.{bits, field};
 ghost use Rattle.cif_pack.specs.Cuts.{octets_between};
-ghost use Rattle.cif_pack.specs.Payload.{header_bits, in_five_bits, packed, sbit_of, ebit_of};
+ghost use Rattle.cif_pack.specs.Payload.{payload_header, low_five_bits, bits_packed, sbit_of, ebit_of};
 
 use crate::atoms::Context;
 
 /// The header: SBIT 3 bits, EBIT 3, I 0, V 1, GOBN 4, MBAP 5, QUANT 5, HMVD 5, VMVD 5.
 pub fn header(from: usize, to: usize, context: &Context) -> u32
     ensures { field result 32 ≡
-        header_bits (sbit_of from) (ebit_of to) false true context.now }
+        payload_header (sbit_of from) (ebit_of to) false true context.now }
 {
     let bits = sbit(from) * 8 + ebit(to);
     let place = (bits * 4 + 1) * 16 + u32::from(context.gobn % 16);
     let before = (place * 32 + u32::from(context.mbap % 32)) * 32 + u32::from(context.quant % 32);
-    (before * 32 + in_five_bits(context.across)) * 32 + in_five_bits(context.down)
+    (before * 32 + low_five_bits(context.across)) * 32 + low_five_bits(context.down)
 }
 
 /// How many bits of the first octet lie before a place.
@@ -33,8 +33,8 @@ fn ebit(to: usize) -> u32
 }
 
 /// The last 5 bits of a component in two's complement.
-fn in_five_bits(component: i8) -> u32
-    ensures { result ≡ in_five_bits component }
+fn low_five_bits(component: i8) -> u32
+    ensures { result ≡ low_five_bits component }
 {
     // 128 is a multiple of 32
     (i32::from(component) + 128) as u32 % 32
@@ -45,7 +45,7 @@ pub fn append_part(buffer: &mut Vec<u8>, octets: &[u8], from: usize, to: usize)
     requires some { from < to }
     requires inside { to ≤ 8 * length octets.now }
     requires room { vec_len buffer.old + octets_between from to ≤ vec_capacity buffer.old }
-    ensures octets { buffer.new.items ≡ buffer.old.items ++ packed (zeros (sbit_of from)
+    ensures octets { buffer.new.items ≡ buffer.old.items ++ bits_packed (zeros (sbit_of from)
         ++ (take (to - from) (drop from (bits octets.now)) ++ zeros (ebit_of to))) }
     ensures kept { vec_capacity buffer.old ≤ vec_capacity buffer.new }
 {

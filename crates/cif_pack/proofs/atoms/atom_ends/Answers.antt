@@ -18,12 +18,12 @@ fine coded i v cif whole less is =
 
 pub add_group-requires-clause-inside : goal.add_group-requires-clause-inside
 add_group-requires-clause-inside c =
-    let h = fine c.args.picture.now c.loop-i.i c.group.result c.requires.cif (c.bits-bits.ensures.whole c.requires.finished) c.loop-i-test.true c.group.ensures in
+    let h = fine c.args.picture.now c.loop-i.i c.group.result c.requires.0 (c.bits-bits.ensures.whole c.requires.1) c.loop-i-test.true c.group.ensures in
     omega (arith, h.0, ap length c.marks-marks.ensures)
 
 pub add_group-requires-clause-room : goal.add_group-requires-clause-room
 add_group-requires-clause-room c =
-    let h = fine c.args.picture.now c.loop-i.i c.group.result c.requires.cif (c.bits-bits.ensures.whole c.requires.finished) c.loop-i-test.true c.group.ensures in
+    let h = fine c.args.picture.now c.loop-i.i c.group.result c.requires.0 (c.bits-bits.ensures.whole c.requires.1) c.loop-i-test.true c.group.ensures in
     omega (arith, few-count c.group.result h.1, c.loop-i.invariant.1, c.loop-i-test.true)
 
 pub loop-i-preserved : goal.loop-i-preserved
@@ -31,10 +31,10 @@ loop-i-preserved c =
     let coded = c.args.picture.now in
     let i = c.loop-i.i in
     let v = c.group.result in
-    let h = fine coded i v c.requires.cif (c.bits-bits.ensures.whole c.requires.finished) c.loop-i-test.true c.group.ensures in
+    let h = fine coded i v c.requires.0 (c.bits-bits.ensures.whole c.requires.1) c.loop-i-test.true c.group.ensures in
     let added : c.add_group.new.ends.items ≡ c.loop-i.ends.items ++ view_ends coded.marks v =
     c.add_group.ensures ∙ ap (λ (t : List Mark). c.loop-i.ends.items ++ view_ends t v) c.marks-marks.ensures in
-    let inside : i < length coded.groups = omega (arith, c.loop-i-test.true, c.requires.finished.1, ap group_count c.requires.cif) in
+    let inside : i < length coded.groups = omega (arith, c.loop-i-test.true, c.requires.1.1, ap group_count c.requires.0) in
     let more : take (i + 1) coded.groups ≡ take i coded.groups ++ v ∷ [] =
     take_more coded.groups i no_view inside
     ∙ ap (λ (w : GroupView). take i coded.groups ++ w ∷ []) (get_or_from_slice_get coded.groups i v no_view c.group.ensures) in (
@@ -46,7 +46,7 @@ loop-i-preserved c =
 pub returns-clause-ends : goal.returns-clause-ends
 returns-clause-ends c p is =
     let coded = c.args.picture.now in
-    let count : length coded.groups ≡ 12 = omega (arith, c.requires.finished.1, ap group_count c.requires.cif) in
+    let count : length coded.groups ≡ 12 = omega (arith, c.requires.1.1, ap group_count c.requires.0) in
     c.loop-i.invariant.0
     ∙ ap (views_ends coded.marks) (take_all c.loop-i.i coded.groups (omega (arith, count, c.loop-i-test.false)))
     ∙ ap (λ (k : Coding). views_ends k.marks k.groups) is

@@ -1,4 +1,4 @@
-use Rattle.cif_pack.proofs.ListLaws.{nothing-sent, one-more-is-sent, front-is-written}
+use Rattle.cif_pack.proofs.ListLaws.{nothing-sent, one-more-is-sent}
 use Rattle.cif_pack.proofs.laws.pictures_one_by_one.Goals as goal
 
 pub returns-clause-nothing : goal.returns-clause-nothing
@@ -6,6 +6,3 @@ returns-clause-nothing c = nothing-sent
 
 pub returns-clause-one_more : goal.returns-clause-one_more
 returns-clause-one_more c = one-more-is-sent
-
-pub returns-clause-failed : goal.returns-clause-failed
-returns-clause-failed c = front-is-written

@@ -15,5 +15,5 @@ put_packets-requires-clause-inside g c =
 pub put_packets-requires-clause-rises : goal.put_packets-requires-clause-rises
 put_packets-requires-clause-rises g c =
     rises-of c.args.picture.now c.self.inside.settings.mtu c.len-len.result c.as_slice.result.now c.self.invariant.0
-    (c.len-len.ensures ∙ ap length c.bits.ensures.bits) c.requires.cif (c.bits.ensures.whole c.requires.finished)
+    (c.len-len.ensures ∙ ap length c.bits.ensures.bits) c.requires.picture.0 (c.bits.ensures.whole c.requires.picture.1)
     (λ p is. c.as_slice.ensures.value ∙ c.atom_ends-ends.ensures.ends p is)
