@@ -1,13 +1,14 @@
--- What the two fillings of a frame, its length and its packet, make of a call of a framer.
-use Rattle.std.proofs.Common.{◌≡◌, ◌⊎◌, ℕ, ◌+◌, ◌-◌, ◌*◌, ◌/◌, ◌%◌, ◌^◌, ◌<◌, ◌≤◌, ◌==◌, nat_le, Bool, true, false, List, [], ◌∷◌, ◌++◌, Option, None, Some, Result, Ok, Err, inl, inr, length, take, drop, refl, sym, ap, ap₂, subst, ◌∙◌, arith, length-append, length-take-le, take_all, append-nil, append_assoc}
+-- What the two fetches of a frame, its length and its packet, make of a call of a framer, and what it answers by the octets left.
+use Rattle.std.proofs.Common.{◌≡◌, ◌⊎◌, ℕ, ◌+◌, ◌-◌, ◌*◌, ◌/◌, ◌%◌, ◌^◌, ◌<◌, ◌≤◌, nat_le, ◌==◌, Bool, true, false, List, [], ◌∷◌, ◌++◌, Option, Some, Result, Ok, Err, inl, inr, length, take, drop, refl, sym, ap, ap₂, subst, ◌∙◌, arith, length-append, length-take-le, take_all, append-nil, append_assoc}
 use Rattle.std.specs.List.{flat_map}
-use Rattle.std.specs.Io.KnownBytes.{Consumes}
-use Rattle.std.proofs.KnownBytes.{Consumes-trans}
+use Rattle.std.specs.Io.KnownBytes.{IsAtEnd}
 use Rattle.byteorder.specs.Endian.{big_bytes}
-use Rattle.io_edge.specs.Whole.{Fills, StopsFor}
-use Rattle.io_edge.specs.declared.whole.Filled.{Filled}
-use Rattle.io_edge.specs.declared.whole.FillStop.{FillStop}
-use Rattle.io_edge.specs.declared.whole.FillStop.TheVariants.{Full, Limited, AtEnd, Failing}
+use Rattle.io_edge.specs.Allowance.{AllowanceState, Fetches, TakesOctets, Paused}
+use Rattle.io_edge.specs.Outside.{Input}
+use Rattle.io_edge.specs.declared.allowance.Pause.{Pause}
+use Rattle.io_edge.specs.declared.allowance.Pause.TheVariants as pause
+use Rattle.io_edge.specs.declared.allowance.Shortfall.{Shortfall}
+use Rattle.io_edge.proofs.AllowanceLemmas.{takes-both, rest-of, paused-before}
 use Rattle.rtp_wire.specs.declared.frames.FrameEnd.{FrameEnd}
 use Rattle.rtp_wire.specs.declared.frames.FrameEnd.TheVariants.{End, Cut, Fault, Limit}
 use Rattle.std.proofs.Math.Seq.{take-append_seam, take-append-add, drop-append_seam}
@@ -20,75 +21,68 @@ use Rattle.rtp_wire.specs.Stops.{end_for}
 pub partial_body : (size : ℕ) (octets : List ℕ) → size < 2 ^ 16 → length octets < size → IsPartial (big_bytes 2 size ++ octets)
 partial_body size octets fits short = omega arith
 
--- filling goes on only where it filled all
-pub is_full : (stop : FillStop) (is_between : Bool) (taken : ℕ) → end_for stop is_between taken ≡ Ok tt → stop ≡ Full
-is_full Full is_between taken h = refl
-is_full Limited is_between taken h = cc
-is_full AtEnd true taken h = cc
-is_full AtEnd false taken h = cc
-is_full Failing is_between taken h = cc
+-- fewer octets than a length has are no whole frame
+pub partial_head : (octets : List ℕ) → length octets < 2 → IsPartial octets
+partial_head [] short = tt
+partial_head (_ ∷ []) short = tt
+partial_head (_ ∷ _ ∷ _) short = absurd (omega arith)
 
--- why a call ends whose packet was not filled
-pub body_ends : (stop : FillStop) (end : FrameEnd) (took : List ℕ) (left : Option (List ℕ)) (count size room taken budget before now : ℕ)
-    → end_for stop false taken ≡ Err end → StopsFor stop count size room left before now → 0 < length took → (count < size → IsPartial took)
-    → (count ≡ room → taken ≡ budget) → (count < room → taken < budget) → TakesFrame (Err end) took left taken budget before now
-body_ends Full end took left count size room taken budget before now h s some part at_limit below = cc
-body_ends Limited end took left count size room taken budget before now h s some part at_limit below =
-    let is : Limit ≡ end = cc in
-    subst (λ r. TakesFrame (Err r) took left taken budget before now) is (at_limit s.0, part s.1, s.2)
-body_ends AtEnd end took left count size room taken budget before now h s some part at_limit below =
-    let is : Cut taken ≡ end = cc in
-    subst (λ r. TakesFrame (Err r) took left taken budget before now) is (refl, some, part s.1, s.0, below s.2, s.3)
-body_ends Failing end took left count size room taken budget before now h s some part at_limit below =
-    let is : Fault ≡ end = cc in
-    subst (λ r. TakesFrame (Err r) took left taken budget before now) is (s.0, part s.1, below s.2)
+-- no octets
+no_octets : (octets : List ℕ) → length octets ≡ 0 → octets ≡ []
+no_octets [] none = refl
+no_octets (_ ∷ _) none = absurd (omega arith)
 
--- the length was filled, and the packet behind it was not
-pub packet_cut : (a b c : Option (List ℕ)) (f0 f1 f2 taken budget size : ℕ) (head body : List ℕ) (first second : Filled) (end : FrameEnd) → taken ≤ budget
-    → size < 2 ^ 16 → big_bytes 2 size ≡ head → length body ≡ size
-    → Fills a b f0 f1 head (budget - taken) first → end_for first.stop (first.count == 0) (taken + first.count) ≡ Ok tt
-    → Fills b c f1 f2 body (budget - (taken + first.count)) second → end_for second.stop false (taken + first.count + second.count) ≡ Err end
-    → TakesOne a c f0 f2 taken (taken + first.count + second.count) budget (Err end)
-packet_cut a b c f0 f1 f2 taken budget size head body first second end within fits spelled long begun went rest stopped =
-    let all : first.stop ≡ Full = is_full first.stop (first.count == 0) (taken + first.count) went in
-    let filled : (first.count ≡ length head) × (f1 ≡ f0) = subst (λ s. StopsFor s first.count (length head) (budget - taken) b f0 f1) all begun.stop in
-    let two : length head ≡ 2 = ap length (sym spelled) in
-    let whole : take first.count head ≡ head = take_all first.count head (omega arith) in
-    let part = take second.count body in
-    let took = head ++ part in
-    let enough : second.count ≤ length body = rest.in_slice in
-    let many : length part ≡ second.count = length-take-le second.count body enough in
+-- why a call ends that took these octets and paused between two frames, or inside one
+pub pause_ends : (why : Pause) (is_between : Bool) (took : List ℕ) (before after : Input) (allowance : AllowanceState) → IsPartial took
+    → (is_between ≡ true → took ≡ []) → (is_between ≡ false → 0 < length took) → Paused why before after allowance
+    → TakesFrame (Err (end_for why is_between allowance.taken)) took before after allowance
+pause_ends pause.Limit is_between took before after allowance part none some paused = (part, paused)
+pause_ends pause.End true took before after allowance part none some paused = (none refl, paused)
+pause_ends pause.End false took before after allowance part none some paused = (refl, some refl, part, paused)
+pause_ends pause.Fault is_between took before after allowance part none some paused = (part, paused)
+
+-- the length was not fetched
+pub head_cut : (before after : Input) (old new : AllowanceState) (head : List ℕ) (short : Shortfall) → length head ≡ 2
+    → Fetches (Err short) before after old new head
+    → TakesOne before after old new (Err (end_for short.pause (short.count == 0) new.taken))
+head_cut before after old new head short two fetched =
+    let part = take short.count head in
+    let long : length part ≡ short.count = length-take-le short.count head (omega arith) in
     record {
-      took = took;
-      bytes = Consumes-trans a b c head part (subst (Consumes a b) whole begun.bytes) rest.bytes;
-      taken = omega (arith, length-append head part);
-      within = omega (arith, begun.in_room, rest.in_room);
+      took = part;
+      takes = fetched.1;
       answer =
-          body_ends second.stop end took c second.count (length body) (budget - (taken + first.count)) (taken + first.count + second.count) budget f0 f2 stopped
-          (subst (λ f. StopsFor second.stop second.count (length body) (budget - (taken + first.count)) c f f2) filled.1 rest.stop) (omega (arith, length-append head part))
-          (λ short. subst (λ h. IsPartial (h ++ part)) spelled (partial_body size part fits (omega arith))) (λ here. omega (arith, begun.in_room))
-          (λ here. omega (arith, begun.in_room));
+          pause_ends short.pause (short.count == 0) part before after new (partial_head part (omega arith)) (λ none. no_octets part (grind (arith, nat_tests)))
+          (λ some. grind (arith, nat_tests)) fetched.2;
     }
 
--- the length was filled, and the packet too
-pub packet_whole : (a b c : Option (List ℕ)) (f0 f1 f2 taken budget size : ℕ) (head body : List ℕ) (first second : Filled) → taken ≤ budget
-    → size < 2 ^ 16 → big_bytes 2 size ≡ head → length body ≡ size
-    → Fills a b f0 f1 head (budget - taken) first → end_for first.stop (first.count == 0) (taken + first.count) ≡ Ok tt
-    → Fills b c f1 f2 body (budget - (taken + first.count)) second → end_for second.stop false (taken + first.count + second.count) ≡ Ok tt
-    → TakesOne a c f0 f2 taken (taken + first.count + second.count) budget (Ok body)
-packet_whole a b c f0 f1 f2 taken budget size head body first second within fits spelled long begun went rest ended =
-    let all : first.stop ≡ Full = is_full first.stop (first.count == 0) (taken + first.count) went in
-    let filled : (first.count ≡ length head) × (f1 ≡ f0) = subst (λ s. StopsFor s first.count (length head) (budget - taken) b f0 f1) all begun.stop in
-    let both : second.stop ≡ Full = is_full second.stop false (taken + first.count + second.count) ended in
-    let filled' : (second.count ≡ length body) × (f2 ≡ f1) = subst (λ s. StopsFor s second.count (length body) (budget - (taken + first.count)) c f1 f2) both rest.stop in
-    let whole : take first.count head ≡ head = take_all first.count head (omega arith) in
-    let whole' : take second.count body ≡ body = take_all second.count body (omega arith) in
+-- the length was fetched, and the packet behind it was not
+pub packet_cut : (before between after : Input) (first second third : AllowanceState) (size : ℕ) (head body : List ℕ) (short : Shortfall) → size < 2 ^ 16
+    → big_bytes 2 size ≡ head → length body ≡ size → TakesOctets before between first second head → between.faults ≡ before.faults
+    → Fetches (Err short) between after second third body
+    → TakesOne before after first third (Err (end_for short.pause false third.taken))
+packet_cut before between after first second third size head body short fits spelled long begun kept fetched =
+    let part = take short.count body in
+    let many : length part ≡ short.count = length-take-le short.count body (omega arith) in
+    let two : length head ≡ 2 = ap length (sym spelled) in
+    record {
+      took = head ++ part;
+      takes = takes-both before between after first second third head part begun fetched.1;
+      answer =
+          pause_ends short.pause false (head ++ part) before after third (subst (λ h. IsPartial (h ++ part)) spelled (partial_body size part fits (omega arith)))
+          (λ no. absurd (cc)) (λ _. omega (arith, length-append head part)) (paused-before short.pause before between after third kept fetched.2);
+    }
+
+-- the length was fetched, and the packet too
+pub packet_whole : (before between after : Input) (first second third : AllowanceState) (size : ℕ) (head body : List ℕ) → size < 2 ^ 16
+    → big_bytes 2 size ≡ head → length body ≡ size → TakesOctets before between first second head → between.faults ≡ before.faults
+    → TakesOctets between after second third body → after.faults ≡ between.faults
+    → TakesOne before after first third (Ok body)
+packet_whole before between after first second third size head body fits spelled long begun kept rest still =
     record {
       took = head ++ body;
-      bytes = Consumes-trans a b c head body (subst (Consumes a b) whole begun.bytes) (subst (Consumes b c) whole' rest.bytes);
-      taken = omega (arith, length-append head body);
-      within = omega (arith, begun.in_room, rest.in_room);
-      answer = (ap (λ h. h ++ body) (sym spelled) ∙ ap (λ n. big_bytes 2 n ++ body) (sym long), omega arith, filled'.1 ∙ filled.1);
+      takes = takes-both before between after first second third head body begun rest;
+      answer = (ap (λ h. h ++ body) (sym spelled) ∙ ap (λ n. big_bytes 2 n ++ body) (sym long), omega arith, still ∙ kept);
     }
 
 -- what is less than a frame has none
@@ -134,37 +128,45 @@ next_end left taken budget part room =
     let some : nat_le budget (taken + length left) ≡ false = grind (arith, nat_tests) in
     rw (none, some) refl
 
+-- a source at its end that tells its octets has none left
+pub at_end : (known : Option (List ℕ)) (octets : List ℕ) → known ≡ Some octets → IsAtEnd known → octets ≡ []
+at_end known octets is ends = subst IsAtEnd is ends
+
 -- something of a frame is there
 end_inside : (octets : List ℕ) (place : ℕ) → 0 < length octets → end_before octets place ≡ Cut place
 end_inside [] place some = absurd (omega arith)
 end_inside (_ ∷ _) place some = refl
 
 -- where a source tells its octets, a call's answer is fixed
-pub told : (left : List ℕ) (rest : Option (List ℕ)) (before now taken_before taken_now budget : ℕ) (result : Result (List ℕ) FrameEnd)
-    → TakesOne (Some left) rest before now taken_before taken_now budget result → (result ≡ Err Fault) ⊎ (result ≡ next_frame left taken_before budget)
-told left None before now taken_before taken_now budget result h = absurd h.bytes
-told left (Some ys) before now taken_before taken_now budget (Ok packet) h =
-    inr (sym (next_packet left taken_before budget packet ys (h.bytes ∙ ap (λ x. x ++ ys) h.answer.0) h.answer.1 (omega (arith, ap length h.answer.0, h.taken, h.within))))
-told left (Some ys) before now taken_before taken_now budget (Err End) h =
-    let empty : left ≡ [] = h.bytes ∙ ap₂ ◌++◌ h.answer.0 h.answer.1 in
-    let ends : Err End ≡ next_frame [] taken_before budget = sym (next_end [] taken_before budget tt (omega (arith, h.taken, ap length h.answer.0))) in
-    inr (ends ∙ ap (λ x. next_frame x taken_before budget) (sym empty))
-told left (Some ys) before now taken_before taken_now budget (Err (Cut place)) h =
-    let same : left ≡ h.took = h.bytes ∙ ap (λ x. h.took ++ x) h.answer.3 ∙ append-nil h.took in
-    let at : taken_before + length h.took ≡ place = sym h.taken ∙ sym h.answer.0 in
-    let ends = next_end h.took taken_before budget h.answer.2 (omega (arith, h.taken)) in
-    inr (sym (ap (λ x. next_frame x taken_before budget) same ∙ ends ∙ ap Err (end_inside h.took _ h.answer.1 ∙ ap Cut at)))
-told left (Some ys) before now taken_before taken_now budget (Err Limit) h =
-    let size : budget - taken_before ≡ length h.took = omega (arith, h.taken, h.answer.0) in
-    let front : take (budget - taken_before) left ≡ h.took = ap₂ take size h.bytes ∙ take-append_seam h.took ys in
-    inr (sym (next_limit left taken_before budget (subst IsPartial (sym front) h.answer.1) (omega (arith, h.taken, h.answer.0, ap length h.bytes, length-append h.took ys))))
-told left (Some ys) before now taken_before taken_now budget (Err Fault) h = inl refl
+pub told : (left ys : List ℕ) (before after : Input) (old new : AllowanceState) (result : Result (List ℕ) FrameEnd) (h : TakesOne before after old new result)
+    → after.left ≡ Some ys → left ≡ h.took ++ ys → (result ≡ Err Fault) ⊎ (result ≡ next_frame left old.taken old.budget)
+told left ys before after old new (Ok packet) h rest whole =
+    inr (sym (next_packet left old.taken old.budget packet ys (whole ∙ ap (λ x. x ++ ys) h.answer.0) h.answer.1 (omega (arith, ap length h.answer.0, h.takes.taken, h.takes.within, h.takes.budget))))
+told left ys before after old new (Err End) h rest whole =
+    let none : ys ≡ [] = at_end after.left ys rest h.answer.1.0 in
+    let empty : left ≡ [] = whole ∙ ap₂ ◌++◌ h.answer.0 none in
+    let ends : Err End ≡ next_frame [] old.taken old.budget =
+    sym (next_end [] old.taken old.budget tt (omega (arith, h.takes.taken, h.takes.budget, h.answer.1.1, ap length h.answer.0))) in
+    inr (ends ∙ ap (λ x. next_frame x old.taken old.budget) (sym empty))
+told left ys before after old new (Err (Cut place)) h rest whole =
+    let none : ys ≡ [] = at_end after.left ys rest h.answer.3.0 in
+    let same : left ≡ h.took = whole ∙ ap (λ x. h.took ++ x) none ∙ append-nil h.took in
+    let at : old.taken + length h.took ≡ place = sym h.takes.taken ∙ sym h.answer.0 in
+    let ends = next_end h.took old.taken old.budget h.answer.2 (omega (arith, h.takes.taken, h.takes.budget, h.answer.3.1)) in
+    inr (sym (ap (λ x. next_frame x old.taken old.budget) same ∙ ends ∙ ap Err (end_inside h.took _ h.answer.1 ∙ ap Cut at)))
+told left ys before after old new (Err Limit) h rest whole =
+    let size : old.budget - old.taken ≡ length h.took = omega (arith, h.takes.taken, h.takes.budget, h.answer.1.0) in
+    let front : take (old.budget - old.taken) left ≡ h.took = ap₂ take size whole ∙ take-append_seam h.took ys in
+    inr (sym (next_limit left old.taken old.budget (subst IsPartial (sym front) h.answer.0) (omega (arith, h.takes.taken, h.takes.budget, h.answer.1.0, ap length whole, length-append h.took ys))))
+told left ys before after old new (Err Fault) h rest whole = inl refl
 
 -- and so is that of a framer that has not ended
 pub answers_fixed : LawOfAnswers
-answers_fixed left rest before now old new result going call =
-    let reads : ReadsFrame (Some left) rest before now old new result = subst (λ e. ReadsOrStays e (Some left) rest before now old new result) going call in
-    told left rest before now old.taken new.taken old.budget result reads.frame_taken
+answers_fixed left before after old new result known going call =
+    let reads : ReadsFrame before after old new result = subst (λ e. ReadsOrStays e before after old new result) going call in
+    let one = reads.frame_taken in
+    let rest = rest-of before after old.allowance new.allowance one.took left known one.takes in
+    told left rest.0 before after old.allowance new.allowance result one rest.1 rest.2
 
 -- a packet's frame, and then the stream of the others
 stream-cons : (packet : List ℕ) (packets : List (List ℕ)) (rest : List ℕ) → stream_of (packet ∷ packets) rest ≡ frame packet ++ stream_of packets rest

@@ -5,7 +5,7 @@ use Rattle.std.proofs.lemmas.Bool.Decides.{nat_tests}
 use Rattle.std.proofs.lemmas.List.{get_or-append_right}
 use Rattle.std.proofs.Math.Seq.{take-append_seam}
 use Rattle.byteorder.specs.Endian.{big_bytes, big_number}
-use Rattle.rtp_wire.specs.Rtp.{Fields, Extension, Parts, AreWords, IsPadding, IsPacket, flag, is_there, is_not_empty, first_octet, second_octet, extension_octets, octets_of, has_padding, sources_end, extension_end, extension_is_cut, body, last_octet, is_bad_padding, unpadded, fields_of, packet_of}
+use Rattle.rtp_wire.specs.Rtp.{Fields, Extension, Parts, AreWholeWords, IsPadding, IsPacket, flag, is_there, is_not_empty, first_octet, second_octet, extension_octets, octets_of, has_padding, sources_end, extension_end, extension_is_cut, body, last_octet, is_bad_padding, unpadded, fields_of, packet_of}
 use Rattle.rtp_wire.proofs.ReadingLemmas.{read_whole}
 
 -- the bits of a first octet
@@ -25,7 +25,7 @@ abbrev PassesHeaders : List ℕ → List ℕ → Type 0
 PassesHeaders octets behind = (sources_end octets ≤ length octets) × (extension_is_cut octets ≡ false) × (body octets ≡ behind)
 
 headers_pass : (o n : ℕ) (f : Fields) (sources : List ℕ) (e : Option Extension) (behind : List ℕ) → o % 16 ≡ n → (o / 16 % 2 == 1) ≡ is_there e
-    → length sources ≡ 4 * n → IfSome e (λ x. (x.profile < 2 ^ 16) × AreWords x.words (2 ^ 16))
+    → length sources ≡ 4 * n → IfSome e (λ x. (x.profile < 2 ^ 16) × AreWholeWords x.words (2 ^ 16))
     → PassesHeaders (cells o f ++ (sources ++ (extension_octets e ++ behind))) behind
 headers_pass o n f sources None behind count has long fits =
     let octets = cells o f ++ (sources ++ behind) in

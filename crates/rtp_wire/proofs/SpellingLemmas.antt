@@ -6,7 +6,7 @@ use Rattle.std.proofs.lemmas.List.{take-append-drop, length-drop}
 use Rattle.std.proofs.Math.Seq.{drop-append-add}
 use Rattle.byteorder.specs.Endian.{big_bytes, big_number}
 use Rattle.rtp_wire.specs.declared.header.PacketFault.TheVariants.{Short, Version, BadCsrc, BadExtension, BadPadding}
-use Rattle.rtp_wire.specs.Rtp.{Fields, Extension, Parts, AreWords, IsPadding, IsPacketOf, AreOctets, LawOfPackets, LawOfPlainPackets, flag, is_there, is_not_empty, first_octet, extension_octets, octets_of, plain, version, has_padding, has_extension, sources_end, extension_end, extension_is_cut, body, last_octet, is_bad_padding, unpadded, refusal, fields_of, read_unless, packet_of}
+use Rattle.rtp_wire.specs.Rtp.{Fields, Extension, Parts, AreWholeWords, IsPadding, IsPacketOf, AreOctets, LawOfPackets, LawOfPlainPackets, flag, is_there, is_not_empty, first_octet, extension_octets, octets_of, plain, version, has_padding, has_extension, sources_end, extension_end, extension_is_cut, body, last_octet, is_bad_padding, unpadded, refusal, fields_of, read_unless, packet_of}
 use Rattle.rtp_wire.proofs.PacketLemmas.{reads_octets_of}
 
 -- an answer that is no refusal passed each test
@@ -37,7 +37,7 @@ second_back b h = grind (arith, nat_tests)
 
 -- the extension in front of these octets, if there is one
 extension_spelled : (extended : Bool) (after : List ℕ) → AreOctets after → (extended ≡ true → 4 + 4 * big_number 2 (drop 2 after) ≤ length after)
-    → (e : Option Extension) × (is_there e ≡ extended) × IfSome e (λ x. (x.profile < 2 ^ 16) × AreWords x.words (2 ^ 16))
+    → (e : Option Extension) × (is_there e ≡ extended) × IfSome e (λ x. (x.profile < 2 ^ 16) × AreWholeWords x.words (2 ^ 16))
     × (after ≡ extension_octets e ++ drop (if extended then 4 + 4 * big_number 2 (drop 2 after) else 0) after)
 extension_spelled false after octets there = (None, refl, tt, refl)
 extension_spelled true [] octets there = absurd (omega (arith, there refl))
@@ -85,7 +85,16 @@ numbers_back : (b2 b3 b4 b5 b6 b7 b8 b9 b10 b11 : ℕ) (rest tail : List ℕ)
     → AreOctets (b2 ∷ b3 ∷ b4 ∷ b5 ∷ b6 ∷ b7 ∷ b8 ∷ b9 ∷ b10 ∷ b11 ∷ rest) → rest ≡ tail → b2 ∷ b3 ∷ b4 ∷ b5 ∷ b6 ∷ b7 ∷ b8 ∷ b9 ∷ b10 ∷ b11 ∷ rest
     ≡ big_bytes 2 (big_number 2 (b2 ∷ b3 ∷ [])) ++ (big_bytes 4 (big_number 4 (b4 ∷ b5 ∷ b6 ∷ b7 ∷ [])) ++ (big_bytes 4 (big_number 4 (b8 ∷ b9 ∷ b10 ∷ b11 ∷ [])) ++ tail))
 numbers_back b2 b3 b4 b5 b6 b7 b8 b9 b10 b11 rest tail small same =
-    ap₂ ◌∷◌ (omega (arith, small 0, small 1)) (ap₂ ◌∷◌ (omega (arith, small 0, small 1)) (ap₂ ◌∷◌ (omega (arith, small 2, small 3, small 4, small 5)) (ap₂ ◌∷◌ (omega (arith, small 2, small 3, small 4, small 5)) (ap₂ ◌∷◌ (omega (arith, small 2, small 3, small 4, small 5)) (ap₂ ◌∷◌ (omega (arith, small 2, small 3, small 4, small 5)) (ap₂ ◌∷◌ (omega (arith, small 6, small 7, small 8, small 9)) (ap₂ ◌∷◌ (omega (arith, small 6, small 7, small 8, small 9)) (ap₂ ◌∷◌ (omega (arith, small 6, small 7, small 8, small 9)) (ap₂ ◌∷◌ (omega (arith, small 6, small 7, small 8, small 9)) same)))))))))
+    ap₂ ◌∷◌ (omega (arith, small 0, small 1))
+    (ap₂ ◌∷◌ (omega (arith, small 0, small 1))
+    (ap₂ ◌∷◌ (omega (arith, small 2, small 3, small 4, small 5))
+    (ap₂ ◌∷◌ (omega (arith, small 2, small 3, small 4, small 5))
+    (ap₂ ◌∷◌ (omega (arith, small 2, small 3, small 4, small 5))
+    (ap₂ ◌∷◌ (omega (arith, small 2, small 3, small 4, small 5))
+    (ap₂ ◌∷◌ (omega (arith, small 6, small 7, small 8, small 9))
+    (ap₂ ◌∷◌ (omega (arith, small 6, small 7, small 8, small 9))
+    (ap₂ ◌∷◌ (omega (arith, small 6, small 7, small 8, small 9))
+    (ap₂ ◌∷◌ (omega (arith, small 6, small 7, small 8, small 9)) same)))))))))
 
 -- the last of three tests failed
 last_test : (a b c : Bool) → a ≡ true → (a && (b || c)) ≡ false → c ≡ false

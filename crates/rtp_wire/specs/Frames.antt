@@ -1,10 +1,11 @@
 -- Frames: RTP packets on a stream of octets (RFC 4571, 2). Each packet stands behind its length in octets, 16 bits in
 -- network order.
-use Rattle.std.specs.Prelude.{◌≡◌, ◌⊎◌, ℕ, ◌+◌, ◌-◌, ◌*◌, ◌^◌, ◌<◌, ◌≤◌, nat_le, Bool, false, if◌then◌else◌, List, [], ◌∷◌, ◌++◌, length, take, drop, Option, None, Some, Result, Ok, Err}
+use Rattle.std.specs.Prelude.{◌≡◌, ◌⊎◌, ℕ, ◌+◌, ◌-◌, ◌*◌, ◌^◌, ◌<◌, nat_le, Bool, false, if◌then◌else◌, List, [], ◌∷◌, ◌++◌, length, take, drop, Option, None, Some, Result, Ok, Err}
 use Rattle.std.specs.List.{flat_map, AllByRecursion}
-use Rattle.std.specs.Io.KnownBytes.{Consumes, Keeps, IsAtEnd}
 use Rattle.byteorder.specs.Endian.{big_bytes}
-use Rattle.io_edge.specs.Causes.{Rose}
+use Rattle.io_edge.specs.Allowance.{AllowanceState, TakesOctets, Paused}
+use Rattle.io_edge.specs.Outside.{Input}
+use Rattle.io_edge.specs.declared.allowance.Pause.TheVariants as pause
 use Rattle.rtp_wire.specs.declared.frames.FrameEnd.{FrameEnd}
 use Rattle.rtp_wire.specs.declared.frames.FrameEnd.TheVariants.{End, Cut, Fault, Limit}
 use denote.Ref.{Bor}
@@ -74,68 +75,56 @@ LawOfStreams =
     → Framed (stream_of packets rest) taken budget packets
     (end_before rest (taken + length (stream_of packets rest)))
 
--- a framer, as its callers see it: the octets taken in all, the most that it may take, and how it ended, once it did
+-- a framer, as its callers see it: what it took and may take, frame lengths included, and how it ended, once it did
 pub record FramerState : Type 0 where
-  pub taken : ℕ
-  pub budget : ℕ
+  pub allowance : AllowanceState
   pub ended : Option FrameEnd
 
 abbrev pub end_of : Result (List ℕ) FrameEnd → Option FrameEnd
 end_of (Ok packet) = None
 end_of (Err end) = Some end
 
--- what a call answers, by the octets that it took, what the source has left, the octets taken in all, the budget, and
--- the source's faults before and after
-abbrev pub TakesFrame : Result (List ℕ) FrameEnd → List ℕ → Option (List ℕ) → ℕ → ℕ → ℕ → ℕ → Type 0
+-- what a call answers, by the octets that it took, the source before and after, and the allowance then
+abbrev pub TakesFrame : Result (List ℕ) FrameEnd → (took : List ℕ) → (before after : Input) → AllowanceState → Type 0
 -- a whole frame was taken and no octet more
-TakesFrame (Ok packet) took left taken budget before now = (took ≡ frame packet) × HasFrame packet
-    × (now ≡ before)
+TakesFrame (Ok packet) took before after new =
+    (took ≡ frame packet) × HasFrame packet × (after.faults ≡ before.faults)
 -- the source ended between two frames
-TakesFrame (Err End) took left taken budget before now = (took ≡ []) × IsAtEnd left × (taken < budget)
-    × (now ≡ before)
+TakesFrame (Err End) took before after new = (took ≡ []) × Paused pause.End before after new
 -- the source ended inside a frame; the place is the number of octets taken in all
-TakesFrame (Err (Cut place)) took left taken budget before now =
-    (place ≡ taken) × (0 < length took) × IsPartial took × IsAtEnd left × (taken < budget) × (now ≡ before)
+TakesFrame (Err (Cut place)) took before after new =
+    (place ≡ new.taken) × (0 < length took) × IsPartial took × Paused pause.End before after new
 -- the budget was taken, and no whole frame was
-TakesFrame (Err Limit) took left taken budget before now = (taken ≡ budget) × IsPartial took × (now ≡ before)
+TakesFrame (Err Limit) took before after new = IsPartial took × Paused pause.Limit before after new
 -- the source failed
-TakesFrame (Err Fault) took left taken budget before now = Rose before now × IsPartial took × (taken < budget)
+TakesFrame (Err Fault) took before after new = IsPartial took × Paused pause.Fault before after new
 
 -- a call that may ask: it took octets from the source, which say what it answers
-pub record TakesOne (source rest : Option (List ℕ)) (before now taken_before taken_now budget : ℕ)
-    (result : Result (List ℕ) FrameEnd) : Type 0 where
+pub record TakesOne (before after : Input) (old new : AllowanceState) (result : Result (List ℕ) FrameEnd) : Type 0 where
   pub took : List ℕ
-  pub bytes : Consumes source rest took
-  pub taken : taken_now ≡ taken_before + length took
-  pub within : taken_now ≤ budget
-  pub answer : TakesFrame result took rest taken_now budget before now
+  pub takes : TakesOctets before after old new took
+  pub answer : TakesFrame result took before after new
 
 -- a call of a framer that has not ended
-pub record ReadsFrame (source rest : Option (List ℕ)) (before now : ℕ) (old new : FramerState)
-    (result : Result (List ℕ) FrameEnd) : Type 0 where
-  pub frame_taken : TakesOne source rest before now old.taken new.taken old.budget result
-  pub budget : new.budget ≡ old.budget
+pub record ReadsFrame (before after : Input) (old new : FramerState) (result : Result (List ℕ) FrameEnd) : Type 0 where
+  pub frame_taken : TakesOne before after old.allowance new.allowance result
   pub ended : new.ended ≡ end_of result
 
 -- a call of a framer that has ended: it answers the same end again, and changes nothing
-pub record StaysEnded (source rest : Option (List ℕ)) (before now : ℕ) (old new : FramerState)
-    (end : FrameEnd) (result : Result (List ℕ) FrameEnd) : Type 0 where
+pub record StaysEnded (before after : Input) (old new : FramerState) (end : FrameEnd)
+    (result : Result (List ℕ) FrameEnd) : Type 0 where
   pub answer : result ≡ Err end
   pub framer : new ≡ old
-  pub bytes : Keeps source rest
-  pub faults : now ≡ before
+  pub source : after ≡ before
 
 abbrev pub ReadsOrStays : Option FrameEnd
-    → (source rest : Option (List ℕ)) (before now : ℕ) (old new : FramerState)
-    (result : Result (List ℕ) FrameEnd) → Type 0
-ReadsOrStays None source rest before now old new result = ReadsFrame source rest before now old new result
-ReadsOrStays (Some end) source rest before now old new result =
-    StaysEnded source rest before now old new end result
+    → (before after : Input) (old new : FramerState) (result : Result (List ℕ) FrameEnd) → Type 0
+ReadsOrStays None before after old new result = ReadsFrame before after old new result
+ReadsOrStays (Some end) before after old new result = StaysEnded before after old new end result
 
 -- what a call of a framer does
-abbrev pub CallsNext : (source rest : Option (List ℕ)) (before now : ℕ) (old new : FramerState)
-    (result : Result (List ℕ) FrameEnd) → Type 0
-CallsNext source rest before now old new result = ReadsOrStays old.ended source rest before now old new result
+abbrev pub CallsNext : (before after : Input) (old new : FramerState) (result : Result (List ℕ) FrameEnd) → Type 0
+CallsNext before after old new result = ReadsOrStays old.ended before after old new result
 
 -- the packet behind the borrow that the call gives
 abbrev pub shown : Result (Bor (List ℕ)) FrameEnd → Result (List ℕ) FrameEnd
@@ -151,10 +140,9 @@ in_buffer buffer (Err end) = Err end
 -- fails.
 abbrev pub LawOfAnswers : Type 0
 LawOfAnswers =
-    (left : List ℕ) (rest : Option (List ℕ)) (before now : ℕ) (old new : FramerState)
-    (result : Result (List ℕ) FrameEnd) → old.ended ≡ None
-    → CallsNext (Some left) rest before now old new result → (result ≡ Err Fault)
-    ⊎ (result ≡ next_frame left old.taken old.budget)
+    (left : List ℕ) (before after : Input) (old new : FramerState) (result : Result (List ℕ) FrameEnd)
+    → before.left ≡ Some left → old.ended ≡ None → CallsNext before after old new result
+    → (result ≡ Err Fault) ⊎ (result ≡ next_frame left old.allowance.taken old.allowance.budget)
 
 -- the octets are these frames, and behind them less than one
 pub record IsStream (octets : List ℕ) (packets : List (List ℕ)) (rest : List ℕ) : Type 0 where
@@ -174,9 +162,8 @@ pub record HasFramed (stream : List ℕ) (packets : List (List ℕ)) (taken : �
   pub frames : AllByRecursion HasFrame packets
   pub counted : taken ≡ length (flat_map frame packets)
 
--- the stream where a call behind these packets answered this
-abbrev pub AfterFrame : List ℕ → List (List ℕ) → Option (List ℕ) → FramerState → Result (List ℕ) FrameEnd
-    → Type 0
+-- the stream where a call behind these packets answered this and left these octets
+abbrev pub AfterFrame : List ℕ → List (List ℕ) → Option (List ℕ) → AllowanceState → Result (List ℕ) FrameEnd → Type 0
 AfterFrame stream packets rest new (Ok packet) =
     (left : List ℕ) × (rest ≡ Some left) × HasFramed stream (packets ++ packet ∷ []) new.taken left
 AfterFrame stream packets rest new (Err End) = IsStream stream packets []
@@ -185,13 +172,12 @@ AfterFrame stream packets rest new (Err (Cut place)) =
 -- the octets that were taken, as a stream of their own
 AfterFrame stream packets rest new (Err Limit) =
     (new.taken ≡ new.budget) × ((part : List ℕ) × IsStream (take new.taken stream) packets part)
-AfterFrame stream packets rest new (Err Fault) = (part : List ℕ)
-    × IsStream (take new.taken stream) packets part
+AfterFrame stream packets rest new (Err Fault) = (part : List ℕ) × IsStream (take new.taken stream) packets part
 
 -- Where the source tells its octets, a framer gives the packets of the stream that they are, frame by frame.
 abbrev pub LawOfCalls : Type 0
 LawOfCalls =
-    (stream : List ℕ) (packets : List (List ℕ)) (left : List ℕ) (rest : Option (List ℕ)) (before now : ℕ)
-    (old new : FramerState)
-    (result : Result (List ℕ) FrameEnd) → HasFramed stream packets old.taken left → old.ended ≡ None
-    → CallsNext (Some left) rest before now old new result → AfterFrame stream packets rest new result
+    (stream : List ℕ) (packets : List (List ℕ)) (left : List ℕ) (before after : Input) (old new : FramerState)
+    (result : Result (List ℕ) FrameEnd) → before.left ≡ Some left
+    → HasFramed stream packets old.allowance.taken left → old.ended ≡ None
+    → CallsNext before after old new result → AfterFrame stream packets after.left new.allowance result

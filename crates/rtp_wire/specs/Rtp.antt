@@ -36,8 +36,8 @@ pub record Parts : Type 0 where
   pub padding : List ℕ
 
 -- the octets of whole words of 32 bits, fewer than so many
-abbrev pub AreWords : List ℕ → ℕ → Type 0
-AreWords octets limit = (count : ℕ) × (count < limit) × (length octets ≡ 4 * count)
+abbrev pub AreWholeWords : List ℕ → ℕ → Type 0
+AreWholeWords octets limit = (count : ℕ) × (count < limit) × (length octets ≡ 4 * count)
 
 -- the last octet of the padding is the number of its octets
 abbrev pub IsPadding : List ℕ → Type 0
@@ -47,8 +47,8 @@ IsPadding (x ∷ xs) = slice_index (x ∷ xs) (length xs) ≡ length (x ∷ xs)
 -- a packet that can be sent: CC has 4 bits, and the length of the extension 16
 pub record IsPacket (p : Parts) : Type 0 where
   pub fields : AreFields p.fields
-  pub sources : AreWords p.sources 16
-  pub extension : IfSome p.extension (λ e. (e.profile < 2 ^ 16) × AreWords e.words (2 ^ 16))
+  pub sources : AreWholeWords p.sources 16
+  pub extension : IfSome p.extension (λ e. (e.profile < 2 ^ 16) × AreWholeWords e.words (2 ^ 16))
   pub padding : IsPadding p.padding
 
 abbrev pub flag : Bool → ℕ → ℕ
@@ -85,6 +85,11 @@ octets_of p =
 -- a packet with no CSRC list, no extension and no padding
 abbrev pub plain : Fields → Parts
 plain f = record { fields = f; sources = []; extension = None; padding = [] }
+
+-- the fixed header of a packet of H.261, payload type 31 (RFC 3551, 6), with nothing behind it
+abbrev pub header_octets : Bool → (seq stamp ssrc : ℕ) → List ℕ
+header_octets marker seq stamp ssrc =
+    octets_of (plain (record { marker = marker; kind = 31; seq = seq; stamp = stamp; ssrc = ssrc; payload = [] }))
 
 -- Reading. The bits of the first octet
 abbrev pub version : List ℕ → ℕ

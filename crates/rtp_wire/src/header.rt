@@ -1,6 +1,6 @@
 //! The RTP packet: its fixed header, what may follow it, and its payload (RFC 3550, 5.1 and 5.3.1).
 ghost use Rattle.std.specs.Prelude.{◌≡◌, ◌+◌, ◌*◌, ◌<◌, ◌≤◌, ◌++◌, [], Ok, Err, drop, length, true, false, MatchResult, MatchOption, IfOk, IsOkAnd};
-ghost use Rattle.rtp_wire.specs.Rtp.{octets_of, plain, seen, packet_of, fields_of, sources_end, has_padding, extension_is_cut, body, is_bad_padding, unpadded};
+ghost use Rattle.rtp_wire.specs.Rtp.{header_octets, seen, packet_of, fields_of, sources_end, has_padding, extension_is_cut, body, is_bad_padding, unpadded};
 
 use byteorder::{BigEndian, ByteOrder};
 use thiserror::Error;
@@ -136,15 +136,7 @@ const H261: u16 = 31;
 /// Writes the fixed header (RFC 3550, 5.1) of a packet of H.261, payload type 31, with no sources, no extension and no
 /// padding.
 pub fn write_header(marker: bool, seq: u16, stamp: u32, ssrc: u32, out: &mut [u8; 12])
-    ensures { out.new ≡ octets_of (plain
-        (record {
-          marker = marker;
-          kind = 31;
-          seq = seq;
-          stamp = stamp;
-          ssrc = ssrc;
-          payload = [];
-        })) }
+    ensures { out.new ≡ header_octets marker seq stamp ssrc }
 {
     write_fields(marker, seq, stamp, ssrc, out);
 }
@@ -152,15 +144,7 @@ pub fn write_header(marker: bool, seq: u16, stamp: u32, ssrc: u32, out: &mut [u8
 /// Writes the fixed header over the front of `out`.
 fn write_fields(marker: bool, seq: u16, stamp: u32, ssrc: u32, out: &mut [u8])
     requires { length out.old ≡ 12 }
-    ensures { out.new ≡ octets_of (plain
-        (record {
-          marker = marker;
-          kind = 31;
-          seq = seq;
-          stamp = stamp;
-          ssrc = ssrc;
-          payload = [];
-        })) }
+    ensures { out.new ≡ header_octets marker seq stamp ssrc }
 {
     // version 2, and nothing else in the first octet
     let kind = 0x8000 | if marker { 0x80 | H261 } else { H261 };

@@ -5,7 +5,7 @@ mod frames;
 mod header;
 mod laws;
 
-pub use frames::{FrameEnd, Framer};
+pub use frames::{FrameEnd, Framer, LONGEST_PACKET, packet_length};
 pub use header::{Packet, PacketFault, read_packet, write_header};
 pub use laws::{
     answers_of_a_framer, frames_of_a_stream, octets_of_packets, one_stream, streams_are_framed,
