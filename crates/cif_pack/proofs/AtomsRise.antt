@@ -3,7 +3,7 @@ use Rattle.std.proofs.Common.{◌≡◌, ℕ, ◌+◌, ◌-◌, ◌/◌, ◌<◌
 use Rattle.std.proofs.lemmas.Bool.Decides.{nat_tests}
 use Rattle.std.proofs.lemmas.List.Elements.{All-head, All-tail}
 use Rattle.std.specs.Prelude.{All}
-use Rattle.atom_laws.proofs.Macroblocks.{macroblock_is_short}
+use Rattle.picture_laws.proofs.LongestMacroblocks.{macroblock_is_short}
 use Rattle.pel_model.specs.declared.Format.{Format}
 use Rattle.pel_model.specs.declared.Format.TheVariants.{Cif}
 use Rattle.pel_model.specs.Records.{Macroblock, Group, Picture, quantiser_after}

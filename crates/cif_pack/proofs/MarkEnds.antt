@@ -6,7 +6,7 @@ use Rattle.std.proofs.lemmas.List.Elements.{All-head, All-tail}
 use Rattle.std.specs.Prelude.{All}
 use Rattle.std.proofs.Math.Logic.{∥∥₁_elim}
 use Rattle.std.proofs.Props.{props}
-use Rattle.atom_laws.proofs.Macroblocks.{group_is_short}
+use Rattle.picture_laws.proofs.LongestMacroblocks.{group_is_short}
 use Rattle.pel_model.specs.declared.Format.TheVariants.{Cif}
 use Rattle.pel_model.specs.Valid.{IsValid, IsValidGroup}
 use Rattle.h261_pic.specs.Coded.{Coding, coding, views, IsWhole}

@@ -10,7 +10,7 @@ use Rattle.pel_model.specs.Frames.{Plane, Frame, ratio, is_inside, cut}
 use Rattle.pel_model.specs.Records.{Across, Down, Macroblock, Group}
 use Rattle.pel_model.specs.Regions.{blank, empty_group}
 use Rattle.pel_model.specs.Transform.{Transform}
-use Rattle.frame_laws.specs.Laws.{StaysInside, VectorsStayInside, BlankLaw, UnchangedLaw}
+use Rattle.frame_laws.specs.DecodedFrames.{BothKeepInside, VectorsStayInside, BlankLaw, UnchangedLaw}
 use Rattle.frame_laws.proofs.Quadrants.{law, decode-inside, decode-outside, crop-outside}
 
 abbrev nothing : Option Quantised
@@ -51,7 +51,7 @@ pub cut-crop : (place : Quad) (frame : Frame) → cut Qcif (crop place frame) �
 cut-crop place frame = fun_ext λ plane. fun_ext λ x. fun_ext λ y. cut-crop-at place frame plane x y (is_inside Qcif plane x y) refl
 
 abbrev GroupStays : Group → Type 0
-GroupStays g = All (λ (m : Macroblock). StaysInside g.number m Across × StaysInside g.number m Down) g.macroblocks
+GroupStays g = All (BothKeepInside g.number) g.macroblocks
 
 blank-stays : VectorsStayInside blank
 blank-stays =

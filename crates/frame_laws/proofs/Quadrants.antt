@@ -14,7 +14,7 @@ use Rattle.pel_model.specs.Regions.{below, groups_for}
 use Rattle.pel_model.specs.Residual.{residual}
 use Rattle.pel_model.specs.Transform.{Transform}
 use Rattle.pel_model.specs.Valid.{corner, stays_within, IsValidMacroblock}
-use Rattle.frame_laws.specs.Laws.{StaysInside, VectorsStayInside, QuadrantLaw, ValidStaysInside}
+use Rattle.frame_laws.specs.DecodedFrames.{BothKeepInside, VectorsStayInside, QuadrantLaw, ValidStaysInside}
 use Rattle.frame_laws.proofs.Displaced.{IsPlaced, crop-inside, predicted-shifted, stays}
 use Rattle.frame_laws.proofs.Lookups.{HoldsIf, found-shifted, in-holds}
 use Rattle.frame_laws.proofs.Places.{shift, inside-is, inside-shifted, column-shifted, row-shifted, corner-across, corner-down, block-shifted, place-shifted-across, place-shifted-down}
@@ -48,11 +48,8 @@ row-below plane x y inside =
 
 -- ---- a macroblock that stays inside
 
-abbrev BothStay : ℕ → Macroblock → Type 0
-BothStay n m = StaysInside n m Across × StaysInside n m Down
-
 placed : (column row : ℕ) (found : Quantised) → column < 11 → row < 9
-    → HoldsIf BothStay (group_of column row) (address_of column row) (Some found) → IsPlaced found.macroblock column row
+    → HoldsIf BothKeepInside (group_of column row) (address_of column row) (Some found) → IsPlaced found.macroblock column row
 placed column row found across down holds =
     let m : Macroblock = found.macroblock in
     let first : corner Across (group_of column row) m.address ≡ 16 * column =
@@ -76,7 +73,7 @@ residual-shifted t quant blocks plane place x y =
 
 -- what becomes of a sample, by the macroblock that covers it
 decoded-shifted : (t : Transform) (before : Frame) (place : Quad) (plane : Plane) (x y : ℕ) (found : Option Quantised) → is_inside Qcif plane x y ≡ true
-    → HoldsIf BothStay (group_of (ratio plane * x / 16) (ratio plane * y / 16)) (address_of (ratio plane * x / 16) (ratio plane * y / 16)) found
+    → HoldsIf BothKeepInside (group_of (ratio plane * x / 16) (ratio plane * y / 16)) (address_of (ratio plane * x / 16) (ratio plane * y / 16)) found
     → decoded t before found plane (x + shift Across plane place) (y + shift Down plane place) ≡ decoded t (crop place before) found plane x y
 decoded-shifted t before place plane x y None inside holds = sym (crop-inside place before plane x y inside)
 decoded-shifted t before place plane x y (Some found) inside holds =
@@ -98,7 +95,7 @@ law-at t before place whole sent inside same plane x y true test =
     ∙ ap (λ (o : Option Quantised). decoded t before o plane (x + dx) (y + dy))
     (ap₂ (macroblock_at whole) (column-shifted plane place x) (row-shifted plane place y)
     ∙ found-shifted place whole sent column row (column-below plane x y test) (row-below plane x y test) same)
-    ∙ decoded-shifted t before place plane x y (macroblock_at sent column row) test (in-holds BothStay (group_of column row) (address_of column row) sent.groups inside)
+    ∙ decoded-shifted t before place plane x y (macroblock_at sent column row) test (in-holds BothKeepInside (group_of column row) (address_of column row) sent.groups inside)
     ∙ sym (decode-inside Qcif t (crop place before) sent plane x y test)
 law-at t before place whole sent inside same plane x y false test =
     crop-outside place (decode Cif t before whole) plane x y test ∙ sym (decode-outside Qcif t (crop place before) sent plane x y test)

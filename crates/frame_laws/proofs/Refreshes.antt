@@ -14,7 +14,7 @@ use Rattle.pel_model.specs.Residual.{residual}
 use Rattle.pel_model.specs.Transform.{Transform}
 use Rattle.pel_model.specs.Valid.{AddressesRise, IsValid}
 use Rattle.pel_model.proofs.RefreshLaws.{refresh-facts}
-use Rattle.frame_laws.specs.Laws.{RefreshLaw}
+use Rattle.frame_laws.specs.DecodedFrames.{RefreshLaw}
 use Rattle.frame_laws.proofs.Lookups.{HoldsIf, in-holds}
 use Rattle.frame_laws.proofs.Quadrants.{decode-inside, decode-outside, column-below, row-below}
 use Rattle.frame_laws.proofs.ThreeGroups.{of_three, by-three}

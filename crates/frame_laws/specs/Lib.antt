@@ -1,2 +1,2 @@
 pub mod Composing
-pub mod Laws
+pub mod DecodedFrames

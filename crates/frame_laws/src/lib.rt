@@ -3,7 +3,7 @@
 #![tactic(auto)]
 
 ghost use Rattle.frame_laws.specs.Composing.{ComposedShows, ComposedIsValid, ComposedLength, ComposedIsLegal};
-ghost use Rattle.frame_laws.specs.Laws.{QuadrantLaw, ValidStaysInside, RefreshLaw, BlankLaw, UnchangedLaw};
+ghost use Rattle.frame_laws.specs.DecodedFrames.{QuadrantLaw, ValidStaysInside, RefreshLaw, BlankLaw, UnchangedLaw};
 
 /// Decoding a CIF picture and looking at one of its places is looking at the place and decoding the QCIF picture that
 /// stands in it: for every transform, every frame before, and every CIF picture whose groups in the place are those of a

@@ -26,7 +26,8 @@ use Rattle.h261_pic.specs.Reached.{EndsAt}
 use Rattle.h261_pic.specs.ReadGroup.{GroupComes}
 use Rattle.h261_pic.proofs.HeaderLengths.{group_header_long}
 use Rattle.h261_pic.proofs.HeadersInside.{inside-spares, slot-spares, begun-inside}
-use Rattle.h261_pic.proofs.PlacedMarks.{LieWithin, length-risen}
+use Rattle.picture_laws.proofs.LongestMacroblocks.{few_addresses}
+use Rattle.h261_pic.proofs.PlacedMarks.{LieWithin}
 use Rattle.h261_pic.proofs.Texts.{nothing_sent}
 use Rattle.h261_pic.specs.Adding.{bits_at}
 
@@ -139,7 +140,7 @@ header-fails format bits last groups before from r end es comes goes =
     (comes.size, comes.starts, subst (λ (x : List Bool × ℕ). Goes (next_within_limit format) (Gbsc ∷ before) x es end) comes.behind goes)
 
 pub at-most : (format : Format) (bits : List Bool) (groups : ℕ) (before : List Element) (from : List Bool × ℕ) (number quant : ℕ) (state : MbState) (marks : List Mark) (r : List Bool × ℕ) → GroupSoFar format bits groups before from number quant state marks r → length marks ≤ 33
-at-most format bits groups before from number quant state marks r s = omega (arith, s.count, length-risen 0 s.macroblocks (omega arith) s.so_far.valid.addresses)
+at-most format bits groups before from number quant state marks r s = omega (arith, s.count, few_addresses 0 s.macroblocks (omega arith) s.so_far.valid.addresses)
 
 -- a walk on takes bits
 pub fewer : (format : Format) (before : List Element) (r end : List Bool × ℕ) (es : List Element) → Goes (next_within_limit format) before r es end → r.1 < end.1 → length end.0 < length r.0

@@ -6,7 +6,8 @@ use Rattle.std.proofs.Props.{props}
 use Rattle.h261_pic.specs.declared.coded.GroupView.{GroupView}
 use Rattle.h261_pic.specs.Coded.{Coding, coding, placed, marks_in, grown, next_number, HasPicture, Belongs, view_of, macroblock_bits, IsFinished, views, group_in}
 use Rattle.h261_pic.proofs.Texts.{same_coding, same_view, coding-with_group, length-views, length-picture_header, views-bits}
-use Rattle.h261_pic.proofs.PlacedMarks.{LieWithin, length-risen, length-from_placed, placed-macroblock_marks}
+use Rattle.picture_laws.proofs.LongestMacroblocks.{few_addresses}
+use Rattle.h261_pic.proofs.PlacedMarks.{LieWithin, length-from_placed, placed-macroblock_marks}
 use Rattle.h261_pic.proofs.GroupMarks.{StandsIn, views-marks, views-marks-inside, views-stand, bits_at-standing, marks-standing, length-group_marks}
 use Rattle.h261_pic.proofs.ValidPictures.{valid-with_group, group_that_belongs, number-at}
 use Rattle.pel_model.specs.declared.Format.{Format}
@@ -27,7 +28,7 @@ quant-fits format number quant bits marks text = ∥∥₁_elim text le_prop (λ
 -- it has at most 33 macroblocks
 pub marks-fit : (format : Format) (number quant : ℕ) (bits : List Bool) (marks : List Mark) → IsGroupText format number quant bits marks → length marks ≤ 33
 marks-fit format number quant bits marks text =
-    ∥∥₁_elim text le_prop (λ t. omega (arith, length-from_placed number quant marks t.0 t.2, length-risen 0 t.0 (omega arith) t.3.addresses))
+    ∥∥₁_elim text le_prop (λ t. omega (arith, length-from_placed number quant marks t.0 t.2, few_addresses 0 t.0 (omega arith) t.3.addresses))
 
 grown-coding : (format : Format) (p : Picture) (quant : ℕ) (bits : List Bool) (marks : List Mark) → IsValidSoFar format p
     → length (coding format p).groups < group_count format → IsGroupText format (next_number (coding format p)) quant bits marks

@@ -8,7 +8,7 @@ use Rattle.pel_model.specs.Records.{Group, Picture, with_group}
 use Rattle.pel_model.specs.Text.{text, group_text, macroblocks_text}
 use Rattle.pel_model.specs.Valid.{group_numbers, group_count}
 use Rattle.pel_model.specs.Grammar.{Element}
-use Rattle.picture_laws.specs.SoFar.{IsPictureSoFar, IsGroupSoFar, group_of}
+use Rattle.picture_laws.specs.SoFar.{IsPictureSoFar, IsGroupSoFar, group_with}
 use Rattle.picture_laws.specs.SoFar as law
 use Rattle.picture_laws.proofs.Joins.{group-left-out}
 use Rattle.h261_pic.specs.Coded.{Coding, coding, grown, next_number}
@@ -45,21 +45,21 @@ rising Cif i j h below = omega (arith, get_or-range_with_len 1 12 i 0 (omega ari
 -- so many groups more, with quantiser 1 and no macroblocks
 abbrev pub filled : Format → ℕ → Picture → Picture
 filled format zero p = p
-filled format (suc n) p = with_group (filled format n p) (group_of (law.next_number format (filled format n p)) 1 [])
+filled format (suc n) p = with_group (filled format n p) (group_with (law.number_due format (filled format n p)) 1 [])
 
 pub length-filled : (format : Format) (n : ℕ) (p : Picture) → length (filled format n p).groups ≡ length p.groups + n
 length-filled format zero p = omega arith
 length-filled format (suc n) p =
-    length-append (filled format n p).groups (group_of (law.next_number format (filled format n p)) 1 [] ∷ []) ∙ omega (arith, length-filled format n p)
+    length-append (filled format n p).groups (group_with (law.number_due format (filled format n p)) 1 [] ∷ []) ∙ omega (arith, length-filled format n p)
 
-pub next-same : (format : Format) (p : Picture) → law.next_number format p ≡ next_number (coding format p)
+pub next-same : (format : Format) (p : Picture) → law.number_due format p ≡ next_number (coding format p)
 next-same format p = ap (λ (k : ℕ). slice_index (group_numbers format) k) (sym (length-views 32 0 p.groups))
 
 pub emptied-filled : (format : Format) (n : ℕ) (p : Picture) → emptied n (coding format p) ≡ coding format (filled format n p)
 emptied-filled format zero p = refl
 emptied-filled format (suc n) p =
     let q : Picture = filled format n p in
-    let g : Group = group_of (law.next_number format q) 1 [] in
+    let g : Group = group_with (law.number_due format q) 1 [] in
     ap (λ (c : Coding). grown c 1 [] []) (emptied-filled format n p)
     ∙ (ap (λ (bits : List Bool). grown (coding format q) 1 bits []) nothing_sent
     ∙ coding-with_group format q g [] (next-same format q) (λ at. refl))
@@ -80,4 +80,4 @@ pub length-filled_text : (format : Format) (n : ℕ) (p : Picture) → length (t
 length-filled_text format zero p = omega arith
 length-filled_text format (suc n) p =
     let q : Picture = filled format n p in
-    omega (arith, length-more format q (group_of (law.next_number format q) 1 []), length-filled_text format n p, ap length nothing_sent)
+    omega (arith, length-more format q (group_with (law.number_due format q) 1 []), length-filled_text format n p, ap length nothing_sent)

@@ -16,7 +16,7 @@ use Rattle.pel_model.specs.Elements.{elements_behind_mba, macroblock_elements}
 use Rattle.pel_model.proofs.InsideElements.{inside-macroblock}
 use Rattle.pel_model.specs.Grammar.{Element, Mba, Mtype, slot, begun, counted, next, next_within_limit}
 use Rattle.pel_model.proofs.Walks.{goes-append, after-append}
-use Rattle.picture_laws.specs.SoFar.{IsJoined, last_of}
+use Rattle.picture_laws.specs.SoFar.{IsJoined, last_sent}
 use Rattle.picture_laws.specs.PictureElements as by_record
 use Rattle.picture_laws.proofs.Chains.{goes-walk, words, word_in, next-is}
 use Rattle.picture_laws.proofs.Joins.{macroblock-joins}
@@ -32,14 +32,14 @@ use Rattle.h261_pic.specs.Adding.{bits_at}
 
 -- ---- its mark
 
-marks-more : (at number quant : ℕ) (last : Option Macroblock) (ms : List Macroblock) (m : Macroblock) → macroblock_marks at number quant last (ms ++ m ∷ []) ≡ macroblock_marks at number quant last ms ++ mark_of (at + length (macroblocks_text last ms)) number (quantiser_behind quant ms) (last_of last ms) m ∷ []
+marks-more : (at number quant : ℕ) (last : Option Macroblock) (ms : List Macroblock) (m : Macroblock) → macroblock_marks at number quant last (ms ++ m ∷ []) ≡ macroblock_marks at number quant last ms ++ mark_of (at + length (macroblocks_text last ms)) number (quantiser_behind quant ms) (last_sent last ms) m ∷ []
 unfolding macroblocks_text
 marks-more at number quant last [] m = ap (λ (k : ℕ). mark_of k number quant last m ∷ []) (omega arith)
 marks-more at number quant last (x ∷ ms) m =
     let behind : at + length (macroblock_text last x) + length (macroblocks_text (Some x) ms) ≡ at + length (macroblock_text last x ++ macroblocks_text (Some x) ms) = omega (arith, length-append (macroblock_text last x) (macroblocks_text (Some x) ms)) in
     ap (λ (t : List Mark). mark_of at number quant last x ∷ t)
     (marks-more (at + length (macroblock_text last x)) number (quantiser_after quant x.mquant) (Some x) ms m
-    ∙ ap (λ (k : ℕ). macroblock_marks (at + length (macroblock_text last x)) number (quantiser_after quant x.mquant) (Some x) ms ++ mark_of k number (quantiser_behind (quantiser_after quant x.mquant) ms) (last_of (Some x) ms) m ∷ []) behind)
+    ∙ ap (λ (k : ℕ). macroblock_marks (at + length (macroblock_text last x)) number (quantiser_after quant x.mquant) (Some x) ms ++ mark_of k number (quantiser_behind (quantiser_after quant x.mquant) ms) (last_sent (Some x) ms) m ∷ []) behind)
 
 abbrev made : (at len group address quant : ℕ) → (h v : ℤ) → Bool → Mark
 made at len group address quant h v intra = record { at = at; len = len; group = group; address = address; quant_after = quant; h_after = h; v_after = v; intra = intra }
@@ -68,7 +68,7 @@ kind_in : List Element → MbKind
 kind_in (Mba n ∷ Mtype k ∷ es) = k
 kind_in _ = Intra
 
-same_kind : (d : ℕ) (across down : ℤ × ℤ) (m p : Macroblock) (last : Option Macroblock) → macroblock_elements d across down m ≡ by_record.macroblock_elements last p → m.kind ≡ p.kind
+same_kind : (d : ℕ) (across down : ℤ × ℤ) (m p : Macroblock) (last : Option Macroblock) → macroblock_elements d across down m ≡ by_record.elements_of_macroblock last p → m.kind ≡ p.kind
 unfolding kind_in
 same_kind d across down m p last is = ap kind_in is
 
@@ -81,16 +81,16 @@ macroblock-read format bits groups before from r new number quant state state' m
     let stands : Stands number state' (after there more) = subst (λ (x : List Element). Stands number state' (after there x)) is.elements is.stands in
     let j : IsJoined format before number quant s.macroblocks s.es more r new = macroblock-joins format before number quant s.macroblocks s.es r new is.difference (elements_behind_mba is.across is.down is.macroblock) s.so_far plain (inside-macroblock is.across is.down is.macroblock) stands.due in
     let m : Macroblock = j.macroblock in
-    let text : List Bool = macroblock_text (last_of None s.macroblocks) m in
+    let text : List Bool = macroblock_text (last_sent None s.macroblocks) m in
     let w = goes-walk format there r more new plain in
     let on = goes_on format there r new is.difference (elements_behind_mba is.across is.down is.macroblock) plain in
     let here : r.0 ≡ drop r.1 bits = walk-place format bits before from r s.es s.walk place in
     let size : new.1 - r.1 ≡ length text = omega (arith, w.place, ap length w.bits, ap length j.bits, length-append (words there more) new.0, length-append text new.0) in
     let taken : take (new.1 - r.1) (drop r.1 bits) ≡ text = ap (λ (k : ℕ). take k (drop r.1 bits)) size ∙ (ap (take (length text)) (sym here ∙ j.bits) ∙ take-append_seam text new.0) in
-    let kind_is : is.macroblock.kind ≡ m.kind = same_kind is.difference is.across is.down is.macroblock m (last_of None s.macroblocks) j.elements in
+    let kind_is : is.macroblock.kind ≡ m.kind = same_kind is.difference is.across is.down is.macroblock m (last_sent None s.macroblocks) j.elements in
     let quant_is : state'.quant ≡ quantiser_after (quantiser_behind quant s.macroblocks) m.mquant = sym stands.say.quant_is ∙ (j.quant_is ∙ ap (λ (q : ℕ). quantiser_after q m.mquant) s.so_far.quant_is) in
-    let marked : (at : ℕ) → record mark { at = at; group = number } ≡ mark_of at number (quantiser_behind quant s.macroblocks) (last_of None s.macroblocks) m = λ at.
-    joined_mark at number r.1 new.1 state' mark (is_intra is.macroblock.kind) (quantiser_behind quant s.macroblocks) (last_of None s.macroblocks) m is.mark_is size (sym stands.say.address_is ∙ j.address_is) quant_is (sym stands.say.across_is ∙ j.vector_is Across) (sym stands.say.down_is ∙ j.vector_is Down) (ap is_intra kind_is) in
+    let marked : (at : ℕ) → record mark { at = at; group = number } ≡ mark_of at number (quantiser_behind quant s.macroblocks) (last_sent None s.macroblocks) m = λ at.
+    joined_mark at number r.1 new.1 state' mark (is_intra is.macroblock.kind) (quantiser_behind quant s.macroblocks) (last_sent None s.macroblocks) m is.mark_is size (sym stands.say.address_is ∙ j.address_is) quant_is (sym stands.say.across_is ∙ j.vector_is Across) (sym stands.say.down_is ∙ j.vector_is Down) (ap is_intra kind_is) in
     let mark_at : mark.at ≡ r.1 = ap (λ (k : Mark). k.at) is.mark_is in
     let mark_len : mark.len ≡ new.1 - r.1 = ap (λ (k : Mark). k.len) is.mark_is in
     let all_text : length (macroblocks_text None (s.macroblocks ++ m ∷ [])) ≡ length (macroblocks_text None s.macroblocks) + length text = ap length j.text ∙ length-append (macroblocks_text None s.macroblocks) text in

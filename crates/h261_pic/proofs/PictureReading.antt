@@ -13,7 +13,7 @@ use Rattle.pel_model.specs.Accepts.{Accepts}
 use Rattle.pel_model.specs.Walk.{Bad, start, after, Goes, FirstFault}
 use Rattle.pel_model.specs.Grammar.{Element, Psc, Tr, Ptype, Pei, Pspare, AtGroup, slot, may_end, begun, group, counted, next, next_within_limit}
 use Rattle.pel_model.proofs.Walks.{goes-append, after-append}
-use Rattle.picture_laws.specs.SoFar.{IsPictureSoFar, IsGroupSoFar, group_of}
+use Rattle.picture_laws.specs.SoFar.{IsPictureSoFar, IsGroupSoFar, group_with}
 use Rattle.picture_laws.specs.SoFar as law
 use Rattle.picture_laws.proofs.Joins.{header-begins, group-sent, picture-accepted}
 use Rattle.picture_laws.proofs.Limits.{goes-next, goes-within}
@@ -190,12 +190,12 @@ pub group-added : (format : Format) (bits : List Bool) (last groups number quant
 group-added format bits last groups number quant place another marks into into' into'' r new s read next is grown_is =
     let n : ℕ = place - length s.pic.groups in
     let q : Picture = filled format n s.pic in
-    let g : Group = group_of number quant read.macroblocks in
+    let g : Group = group_with number quant read.macroblocks in
     let same : into' ≡ coding format q = is ∙ left-out format bits last groups place true into r s next.behind in
     let count : length q.groups ≡ place = length-filled format n s.pic ∙ omega (arith, next.behind) in
     let views : length (coding format q).groups ≡ place = length-views 32 0 q.groups ∙ count in
     let number_is : number ≡ next_number (coding format q) = sym next.number_is ∙ ap (λ (k : ℕ). slice_index (group_numbers format) k) (sym views) in
-    let law_number : law.next_number format q ≡ number = next-same format q ∙ sym number_is in
+    let law_number : law.number_due format q ≡ number = next-same format q ∙ sym number_is in
     let all_read = filled-so-far format n s.pic s.es s.so_far (omega (arith, next.behind, next.below)) in
     let joined = group-sent format q s.es quant read.macroblocks read.es all_read (omega (arith, count, next.below)) (subst (λ (k : ℕ). IsGroupSoFar format (after [] s.es) k quant read.macroblocks read.es) (sym law_number) read.so_far) in
     let behind : after (after [] s.es) read.es ≡ after [] (s.es ++ read.es) = sym (after-append [] s.es read.es) in
@@ -206,7 +206,7 @@ group-added format bits last groups number quant place another marks into into' 
       es = s.es ++ read.es;
       mid = read.end;
       walk = goes-append (next_within_limit format) [] (start bits) s.mid read.end s.es read.es s.walk read.walk;
-      so_far = subst (λ (k : ℕ). IsPictureSoFar format (with_group q (group_of k quant read.macroblocks)) (s.es ++ read.es)) law_number joined;
+      so_far = subst (λ (k : ℕ). IsPictureSoFar format (with_group q (group_with k quant read.macroblocks)) (s.es ++ read.es)) law_number joined;
       written = grown_is ∙ (ap (λ (c : Coding). grown c quant (bits_at bits marks) marks) same ∙ (ap (λ (t : List Bool). grown (coding format q) quant t marks) read.bits_are ∙ coding-with_group format q g marks number_is read.marks_are));
       follows = subst (λ (b : List Element). Follows (next_within_limit format b read.end) another read.end new) behind read.follows;
       due = ap (λ (b : List Element). may_end (slot b)) (sym behind) ∙ ap may_end read.so_far.place.at;

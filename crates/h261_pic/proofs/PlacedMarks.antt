@@ -109,11 +109,6 @@ macroblock_marks-inside at number quant end last (m ∷ ms) inside =
     (omega arith)
     (macroblock_marks-inside (at + length (macroblock_text last m)) number (quantiser_after quant m.mquant) end (Some m) ms (omega arith))
 
--- a group has at most 33 macroblocks
-pub length-risen : (last : ℕ) (ms : List Macroblock) → last ≤ 33 → AddressesRise last ms → last + length ms ≤ 33
-length-risen last [] within rise = omega arith
-length-risen last (m ∷ ms) within rise = omega (arith, length-risen m.address ms rise.1 rise.2)
-
 -- marks that are placed as a group's macroblocks stand are as many as these
 pub length-from_placed : (number quant : ℕ) (marks : List Mark) (ms : List Macroblock)
     → ((at : ℕ) → placed at number marks ≡ macroblock_marks at number quant None ms) → length marks ≡ length ms

@@ -1,6 +1,6 @@
 -- What contracts see of a coded picture: its format, its TR, the bits of its strict text (H.261, 4.2) as far as it
 -- was written, where the macroblocks of each of its groups stand, and the marks of all macroblocks.
-use Rattle.std.specs.Prelude.{◌≡◌, ℕ, ◌+◌, ◌<◌, Bool, List, [], ◌∷◌, ◌++◌, length, take, drop, slice_index, slice_index_or, None}
+use Rattle.std.specs.Prelude.{◌≡◌, ℕ, ◌+◌, ◌-◌, ◌*◌, ◌<◌, ◌≤◌, Bool, List, [], ◌∷◌, ◌++◌, length, take, drop, slice_index, slice_index_or, None}
 use Rattle.h261_pic.specs.declared.coded.GroupView.{GroupView}
 use Rattle.pel_model.specs.declared.Format.{Format}
 use Rattle.pel_model.specs.declared.Format.TheVariants.{Qcif, Cif}
@@ -11,7 +11,8 @@ use Rattle.pel_model.specs.Records.{Group, Picture}
 use Rattle.pel_model.specs.Headers.{picture_header_length, group_header_length}
 use Rattle.pel_model.specs.Text.{text, group_header, group_text, macroblocks_text}
 use Rattle.pel_model.specs.Regions.{number_in, empty_group}
-use Rattle.pel_model.specs.Valid.{group_numbers, group_count, IsValidSoFar, IsValid}
+use Rattle.pel_model.specs.Accepts.{Accepts}
+use Rattle.pel_model.specs.Valid.{group_numbers, group_count, limit, IsValidSoFar, IsValid}
 
 pub record Coding : Type 0 where
   pub format : Format
@@ -84,6 +85,19 @@ Belongs Cif from Cif to = to ≡ from
 Belongs Qcif from Cif to = (place : Quad) × (to ≡ number_in place from)
 Belongs Cif from Qcif to = ⊥
 
+-- a picture that was begun and has not all its groups
+pub record HasNextGroup (coded : Coding) : Type 0 where
+  pub begun : 0 < length coded.bits
+  pub next : length coded.groups < group_count coded.format
+
+-- group `i` of a picture that has all its groups may stand as the next group of this one, and leaves room for the headers
+-- of the groups behind it
+pub record CanBeCopied (from : Coding) (i : ℕ) (to : Coding) : Type 0 where
+  pub finished : IsFinished from
+  pub there : i < length from.groups
+  pub belongs : Belongs from.format (view_of from i).number to.format (next_number to)
+  pub room : length to.bits + (view_of from i).len + group_header_length * (group_count to.format - length to.groups) ≤ limit to.format
+
 -- some valid picture's first groups, or all of them, were written
 abbrev pub HasPicture : Coding → Type 0
 HasPicture coded =
@@ -93,3 +107,7 @@ HasPicture coded =
 abbrev pub IsWhole : Coding → Type 0
 IsWhole coded =
     ∥ ((picture : Picture) × (coded ≡ coding coded.format picture) × IsValid coded.format picture) ∥₁
+
+-- these bits are accepted, with a picture whose strict text was written
+abbrev pub HoldsAccepted : Format → List Bool → Coding → Type 0
+HoldsAccepted want bits coded = (picture : Picture) × Accepts want bits picture × (coded ≡ coding want picture)

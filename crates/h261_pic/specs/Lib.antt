@@ -1,5 +1,6 @@
 pub mod Adding
 pub mod Coded
+pub mod Hand
 pub mod Sound
 pub mod HeaderElements
 pub mod Comes

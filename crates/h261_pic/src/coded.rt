@@ -10,7 +10,7 @@ ghost use Rattle.pel_model.specs.Regions.{renumbered, empty_group as group_witho
 ghost use Rattle.pel_model.specs.Headers.{group_header_length};
 ghost use Rattle.pel_model.specs.Text.{picture_header, group_header};
 ghost use Rattle.pel_model.specs.Valid.{group_numbers, group_count, limit};
-ghost use Rattle.h261_pic.specs.Coded.{Coding, nothing, coding, grown, next_number, view_of, group_in, macroblock_bits, marks_in, placed, Belongs, IsFinished, HasPicture, IsWhole};
+ghost use Rattle.h261_pic.specs.Coded.{Coding, nothing, coding, grown, next_number, view_of, group_in, macroblock_bits, marks_in, placed, HasNextGroup, CanBeCopied, IsFinished, HasPicture, IsWhole};
 ghost use Rattle.h261_pic.specs.Adding.{emptied, bits_at, most_marks, room_of, IsGroupText};
 
 use crate::formats::{group_number, last_end, longest};
@@ -77,6 +77,16 @@ impl Coded {
         })
     }
 
+    /// An empty picture in a box, as `reserve` makes it; NoMemory where there is no memory for either.
+    pub fn boxed(alloc: Global, format: Format) -> Result<Box<Coded>, NoMemory>
+        ensures { IfOk result (λ coded. coded.value ≡ nothing format) }
+    {
+        let Ok(coded) = Box::new(alloc, Coded::reserve(alloc, format)?) else {
+            return Err(NoMemory);
+        };
+        Ok(coded)
+    }
+
     /// The picture's format.
     pub fn format(&self) -> Format
         ensures { result ≡ self.now.format }
@@ -108,6 +118,15 @@ impl Coded {
         ensures within { length self.now.bits ≤ limit self.now.format }
     {
         self.text.bits()
+    }
+
+    /// Does nothing. Its contract is what holds of any coded picture, and `bits` tells too.
+    pub fn tells_length(&self)
+        ensures within { length self.now.bits ≤ limit self.now.format }
+        ensures picture { 0 < length self.now.bits → HasPicture self.now }
+        ensures whole { IsFinished self.now → IsWhole self.now }
+    {
+        let _ = &self.format;
     }
 
     /// How many macroblock bits the next group may have, so that the headers of the groups behind it still fit.
@@ -175,8 +194,7 @@ impl Coded {
 
     /// Adds the next group with GQUANT 1 and no macroblocks. A picture has to be begun that has not all its groups.
     pub fn empty_group(&mut self)
-        requires begun { 0 < length self.old.bits }
-        requires next { length self.old.groups < group_count self.old.format }
+        requires { HasNextGroup self.old }
         ensures grown { self.new ≡ grown self.old 1 [] [] }
         ensures picture { (p : Picture) → self.old ≡ coding self.old.format p →
             self.new ≡ coding self.old.format
@@ -189,15 +207,8 @@ impl Coded {
     /// its groups. That group has to belong where the next one stands: the same group of the same format, or a QCIF group
     /// in one of the places of a CIF picture. Room has to be left for the headers of the groups behind it.
     pub fn copy_group(&mut self, from: &Coded, i: usize)
-        requires begun { 0 < length self.old.bits }
-        requires next { length self.old.groups < group_count self.old.format }
-        requires finished { IsFinished from.now }
-        requires there { i < length from.now.groups }
-        requires belongs { Belongs from.now.format (view_of from.now i).number
-            self.old.format (next_number self.old) }
-        requires room { length self.old.bits + (view_of from.now i).len
-            + group_header_length * (group_count self.old.format - length self.old.groups)
-            ≤ limit self.old.format }
+        requires next { HasNextGroup self.old }
+        requires copied { CanBeCopied from.now i self.old }
         ensures grown { self.new ≡ grown self.old (view_of from.now i).quant
             (macroblock_bits from.now i) (marks_in from.now i) }
         ensures picture { (p q : Picture) →

@@ -27,22 +27,12 @@ impl Hand {
         ensures four { IfOk result (λ hand. hand.four.value ≡ nothing Qcif) }
     {
         Ok(Hand {
-            one: empty(alloc)?,
-            two: empty(alloc)?,
-            three: empty(alloc)?,
-            four: empty(alloc)?,
+            one: Coded::boxed(alloc, Format::Qcif)?,
+            two: Coded::boxed(alloc, Format::Qcif)?,
+            three: Coded::boxed(alloc, Format::Qcif)?,
+            four: Coded::boxed(alloc, Format::Qcif)?,
         })
     }
-}
-
-// An empty QCIF picture.
-fn empty(alloc: Global) -> Result<Box<Coded>, NoMemory>
-    ensures { IfOk result (λ picture. picture.value ≡ nothing Qcif) }
-{
-    let Ok(picture) = Box::new(alloc, Coded::reserve(alloc, Format::Qcif)?) else {
-        return Err(NoMemory);
-    };
-    Ok(picture)
 }
 
 #[cfg(test)]

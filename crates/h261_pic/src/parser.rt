@@ -6,7 +6,7 @@ ghost use Rattle.pel_model.specs.Records.{Picture};
 ghost use Rattle.pel_model.specs.Accepts.{Accepts};
 ghost use Rattle.pel_model.specs.Grammar.{next_within_limit};
 ghost use Rattle.pel_model.specs.Walk.{FirstFault};
-ghost use Rattle.h261_pic.specs.Coded.{nothing, coding, IsFinished};
+ghost use Rattle.h261_pic.specs.Coded.{nothing, coding, HoldsAccepted, IsFinished};
 
 use crate::coded::Coded;
 use crate::formats::{group_count, group_place};
@@ -25,8 +25,7 @@ use pel_model::{Fault, Format};
 /// header.
 pub fn parse(bits: Bits<'_>, want: Format, into: &mut Coded) -> Result<(), Fault>
     requires { into.old.format ≡ want }
-    ensures accepted { IfOk result (λ _.
-        (picture : Picture) × Accepts want bits.entry picture × (into.new ≡ coding want picture)) }
+    ensures accepted { IfOk result (λ _. HoldsAccepted want bits.entry into.new) }
     ensures finished { IfOk result (λ _. IsFinished into.new) }
     ensures only { (picture : Picture) → Accepts want bits.entry picture →
         IsOk result × (into.new ≡ coding want picture) }
@@ -47,8 +46,7 @@ pub fn parse(bits: Bits<'_>, want: Format, into: &mut Coded) -> Result<(), Fault
 fn read_picture(bits: &Bits<'_>, format: Format, into: &mut Coded) -> Result<(), Fault>
     requires { into.old.format ≡ format }
     ensures format { into.new.format ≡ format }
-    ensures accepted { IfOk result (λ _.
-        (picture : Picture) × Accepts format bits.now picture × (into.new ≡ coding format picture)) }
+    ensures accepted { IfOk result (λ _. HoldsAccepted format bits.now into.new) }
     ensures refused { IfErr result (λ fault.
         FirstFault (next_within_limit format) bits.now fault.place fault.why) }
 {

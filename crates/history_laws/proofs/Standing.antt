@@ -9,7 +9,7 @@ use Rattle.pel_model.specs.Plan.{is_lane}
 use Rattle.pel_model.specs.Regions.{number_of}
 use Rattle.pel_model.specs.Takes.{place_of, low_behind, low_serial}
 use Rattle.stage_plan.proofs.Standing.{seating}
-use Rattle.history_laws.specs.Laws.{PassingLaw}
+use Rattle.history_laws.specs.Histories.{PassingLaw}
 
 pub lane-is : (c : ℕ) (lane : Option ℕ) → is_lane c lane ≡ true → lane ≡ Some c
 lane-is c None e = absurd (no e)

@@ -1,6 +1,6 @@
 //! The laws: functions without a body, whose contracts are the laws.
 
-ghost use Rattle.history_laws.specs.Laws.{HeadlineLaw, TenancyLaw, PassingLaw};
+ghost use Rattle.history_laws.specs.Histories.{HeadlineLaw, TenancyLaw, PassingLaw};
 
 /// At each tick: the picture written is a legal CIF picture of at most 262,048 bits; whatever inverse transform the
 /// decoders share, each place shows what its sender's own decoder shows behind the picture that was taken, and what it

@@ -7,7 +7,7 @@ use Rattle.pel_model.specs.Walk.{Standing, Good, Stop, Bad, skipped, start, afte
 use Rattle.pel_model.specs.Grammar.{Element, slot, next_within_limit, next}
 use Rattle.pel_model.proofs.Walks.{one_fault, not_both, one_reading}
 use Rattle.picture_laws.specs.Laws.{HasRecordOrFault, NeverBoth, OneSpelling, OneRecord, OneFault}
-use Rattle.picture_laws.specs.PictureElements.{elements}
+use Rattle.picture_laws.specs.PictureElements.{elements_of_picture}
 use Rattle.picture_laws.proofs.Told.{told-one}
 use Rattle.picture_laws.proofs.Slots.{word_at}
 use Rattle.picture_laws.proofs.Chains.{next-is}
@@ -71,8 +71,8 @@ pub one-spelling : OneSpelling
 one-spelling format bits p q a valid b valid' =
     let x = spelled-read format bits a.0 p a.1 valid in
     let y = spelled-read format bits b.0 q b.1 valid' in
-    let same : elements format a.0 p ≡ elements format b.0 q = one_reading (next format) bits (elements format a.0 p) (elements format b.0 q) (record { end = _; walk = x.0; stop = x.1 }) (record { end = _; walk = y.0; stop = y.1 }) in
-    told-one format (elements format b.0 q) p q (a.0, a.1.fits, sym same) valid (b.0, b.1.fits, refl) valid'
+    let same : elements_of_picture format a.0 p ≡ elements_of_picture format b.0 q = one_reading (next format) bits (elements_of_picture format a.0 p) (elements_of_picture format b.0 q) (record { end = _; walk = x.0; stop = x.1 }) (record { end = _; walk = y.0; stop = y.1 }) in
+    told-one format (elements_of_picture format b.0 q) p q (a.0, a.1.fits, sym same) valid (b.0, b.1.fits, refl) valid'
 
 pub one-record : OneRecord
 one-record format bits p q a b = one-spelling format bits p q (a.0, a.1.spelling) a.1.valid (b.0, b.1.spelling) b.1.valid

@@ -5,7 +5,7 @@ use Rattle.pel_model.specs.Text.{text}
 use Rattle.pel_model.specs.Walk.{start, after}
 use Rattle.pel_model.specs.Grammar.{next}
 use Rattle.pel_model.proofs.Walks.{one_reading}
-use Rattle.picture_laws.specs.PictureElements.{elements}
+use Rattle.picture_laws.specs.PictureElements.{elements_of_picture}
 use Rattle.picture_laws.specs.TextLaws.{OnePicture, StrictIsOwn, StrictIsRead}
 use Rattle.picture_laws.proofs.Answers.{one-spelling}
 use Rattle.picture_laws.proofs.Limits.{goes-next, picture-stop}
@@ -24,6 +24,6 @@ strict-own format p q valid accepted =
 pub strict-read : StrictIsRead
 strict-read format p es valid reads =
     let strict = spelled-read format (text format p) (strict_form p) p (strict-spelling format p) valid in
-    one_reading (next format) (text format p) es (elements format (strict_form p) p)
+    one_reading (next format) (text format p) es (elements_of_picture format (strict_form p) p)
     (record { end = reads.end; walk = goes-next format [] (start (text format p)) es reads.end reads.walk; stop = picture-stop format (after [] es) reads.end reads.stop })
     (record { end = _; walk = strict.0; stop = strict.1 })

@@ -20,7 +20,7 @@ use Rattle.pel_model.specs.Grammar.{Element, Pei, Pspare, Gbsc, Gn, Gquant, Gei,
 use Rattle.pel_model.proofs.Walks.{after-append}
 use Rattle.picture_laws.specs.SoFar.{IsBehind, last_component}
 use Rattle.pel_model.specs.Elements.{spare_elements}
-use Rattle.picture_laws.specs.PictureElements.{macroblock_elements, macroblocks_elements, group_elements, groups_elements}
+use Rattle.picture_laws.specs.PictureElements.{elements_of_macroblock, elements_of_macroblocks, elements_of_group, elements_of_groups}
 use Rattle.vlc_codes.proofs.FoundRows.{Among, among-all}
 use Rattle.picture_laws.proofs.Slots.{Takes, gbsc}
 use Rattle.picture_laws.proofs.Words.{field-mod}
@@ -52,17 +52,17 @@ pub record IsBehindGroup (number : ℕ) (before : List Element) : Type 0 where
   pub at : slot before ≡ AtMacroblock
   pub group_is : group before ≡ number
 
-pub says-macroblocks : (format : Format) (number : ℕ) (last : Option Macroblock) (before : List Element) (behind : List ℕ) (ms : List Macroblock) → IsBehind number last before → AddressesRise (address_of last) ms → All (IsValidMacroblock format number) ms → Says format before (macroblocks_elements last behind ms) (stuffed_text last behind ms) × IsBehindGroup number (after before (macroblocks_elements last behind ms))
+pub says-macroblocks : (format : Format) (number : ℕ) (last : Option Macroblock) (before : List Element) (behind : List ℕ) (ms : List Macroblock) → IsBehind number last before → AddressesRise (address_of last) ms → All (IsValidMacroblock format number) ms → Says format before (elements_of_macroblocks last behind ms) (stuffed_text last behind ms) × IsBehindGroup number (after before (elements_of_macroblocks last behind ms))
 unfolding stuffed_text
 says-macroblocks format number last before behind [] place rise valid = (says-none format before, record { at = place.at; group_is = place.group_is })
 says-macroblocks format number last before behind (m ∷ ms) place rise valid =
     let one = says-macroblock format number last m before place rise.0 rise.1 (All-head (IsValidMacroblock format number) m ms valid) in
-    let two = says-stuffing format number (Some m) (after before (macroblock_elements last m)) (get_or behind 0 0) one.1 in
-    let rest = says-macroblocks format number (Some m) (after (after before (macroblock_elements last m)) (replicate (get_or behind 0 0) Stuffing)) (drop 1 behind) ms two.1 rise.2 (All-tail (IsValidMacroblock format number) m ms valid) in
-    let e : after before (macroblocks_elements last behind (m ∷ ms)) ≡ after (after (after before (macroblock_elements last m)) (replicate (get_or behind 0 0) Stuffing)) (macroblocks_elements (Some m) (drop 1 behind) ms) =
-    after-append before (macroblock_elements last m) (replicate (get_or behind 0 0) Stuffing ++ macroblocks_elements (Some m) (drop 1 behind) ms)
-    ∙ after-append (after before (macroblock_elements last m)) (replicate (get_or behind 0 0) Stuffing) (macroblocks_elements (Some m) (drop 1 behind) ms) in (
-      says-append format before (macroblock_elements last m) _ (macroblock_text last m) _ one.0 (says-append format (after before (macroblock_elements last m)) (replicate (get_or behind 0 0) Stuffing) _ (stuffing_text (get_or behind 0 0)) _ two.0 rest.0),
+    let two = says-stuffing format number (Some m) (after before (elements_of_macroblock last m)) (get_or behind 0 0) one.1 in
+    let rest = says-macroblocks format number (Some m) (after (after before (elements_of_macroblock last m)) (replicate (get_or behind 0 0) Stuffing)) (drop 1 behind) ms two.1 rise.2 (All-tail (IsValidMacroblock format number) m ms valid) in
+    let e : after before (elements_of_macroblocks last behind (m ∷ ms)) ≡ after (after (after before (elements_of_macroblock last m)) (replicate (get_or behind 0 0) Stuffing)) (elements_of_macroblocks (Some m) (drop 1 behind) ms) =
+    after-append before (elements_of_macroblock last m) (replicate (get_or behind 0 0) Stuffing ++ elements_of_macroblocks (Some m) (drop 1 behind) ms)
+    ∙ after-append (after before (elements_of_macroblock last m)) (replicate (get_or behind 0 0) Stuffing) (elements_of_macroblocks (Some m) (drop 1 behind) ms) in (
+      says-append format before (elements_of_macroblock last m) _ (macroblock_text last m) _ one.0 (says-append format (after before (elements_of_macroblock last m)) (replicate (get_or behind 0 0) Stuffing) _ (stuffing_text (get_or behind 0 0)) _ two.0 rest.0),
       subst (λ b. IsBehindGroup number b) (sym e) rest.1,
     )
 
@@ -120,7 +120,7 @@ group_small format n h = ltb-true n 16 (among-all (λ n. nat_lt n 16) n (group_n
 four_parts : (a b c d e : List Bool) → a ++ (b ++ (c ++ (d ++ e))) ≡ (a ++ (b ++ (c ++ d))) ++ e
 four_parts a b c d e = sym (append_assoc a (b ++ (c ++ d)) e ∙ ap (λ t. a ++ t) (append_assoc b (c ++ d) e ∙ ap (λ t. b ++ t) (append_assoc c d e)))
 
-pub says-sent : (format : Format) (before : List Element) (low : ℕ) (g : Group) (spares : List ℕ) (stuffings : ℕ) (behind : List ℕ) → IsAtGroup low before → is_group format g.number ≡ true → low < g.number → IsValidGroup format g → Says format before (group_elements (Sent spares stuffings behind) g) (sent_group_text (Sent spares stuffings behind) g) × IsBehindGroup g.number (after before (group_elements (Sent spares stuffings behind) g))
+pub says-sent : (format : Format) (before : List Element) (low : ℕ) (g : Group) (spares : List ℕ) (stuffings : ℕ) (behind : List ℕ) → IsAtGroup low before → is_group format g.number ≡ true → low < g.number → IsValidGroup format g → Says format before (elements_of_group (Sent spares stuffings behind) g) (sent_group_text (Sent spares stuffings behind) g) × IsBehindGroup g.number (after before (elements_of_group (Sent spares stuffings behind) g))
 unfolding group_header_text
 says-sent format before low g spares stuffings behind place is rise valid =
     let gn_good : (is_group format g.number && nat_lt (group before) g.number) ≡ true = ap (λ b. b && nat_lt (group before) g.number) is ∙ lt-ltb (group before) g.number (omega (arith, place.group_is, rise)) in
@@ -138,12 +138,12 @@ says-sent format before low g spares stuffings behind place is rise valid =
     } in
     let t = says-stuffing format g.number None (after (Gquant g.quant ∷ Gn g.number ∷ Gbsc ∷ before) (spare_elements Gei Gspare spares)) stuffings behind_spares in
     let ms = says-macroblocks format g.number None (after (after (Gquant g.quant ∷ Gn g.number ∷ Gbsc ∷ before) (spare_elements Gei Gspare spares)) (replicate stuffings Stuffing)) behind g.macroblocks t.1 valid.addresses valid.macroblocks in
-    let e : after before (group_elements (Sent spares stuffings behind) g) ≡ after (after (after (Gquant g.quant ∷ Gn g.number ∷ Gbsc ∷ before) (spare_elements Gei Gspare spares)) (replicate stuffings Stuffing)) (macroblocks_elements None behind g.macroblocks) =
-    after-append (Gquant g.quant ∷ Gn g.number ∷ Gbsc ∷ before) (spare_elements Gei Gspare spares) (replicate stuffings Stuffing ++ macroblocks_elements None behind g.macroblocks)
-    ∙ after-append (after (Gquant g.quant ∷ Gn g.number ∷ Gbsc ∷ before) (spare_elements Gei Gspare spares)) (replicate stuffings Stuffing) (macroblocks_elements None behind g.macroblocks) in
+    let e : after before (elements_of_group (Sent spares stuffings behind) g) ≡ after (after (after (Gquant g.quant ∷ Gn g.number ∷ Gbsc ∷ before) (spare_elements Gei Gspare spares)) (replicate stuffings Stuffing)) (elements_of_macroblocks None behind g.macroblocks) =
+    after-append (Gquant g.quant ∷ Gn g.number ∷ Gbsc ∷ before) (spare_elements Gei Gspare spares) (replicate stuffings Stuffing ++ elements_of_macroblocks None behind g.macroblocks)
+    ∙ after-append (after (Gquant g.quant ∷ Gn g.number ∷ Gbsc ∷ before) (spare_elements Gei Gspare spares)) (replicate stuffings Stuffing) (elements_of_macroblocks None behind g.macroblocks) in
     let parts = says-append format (Gquant g.quant ∷ Gn g.number ∷ Gbsc ∷ before) (spare_elements Gei Gspare spares) _ (spare_text spares) _ s.0 (says-append format _ (replicate stuffings Stuffing) _ (stuffing_text stuffings) _ t.0 ms.0) in
     let header = says-cons format before Gbsc _ gbsc _ gbsc_ refl (says-cons format (Gbsc ∷ before) (Gn g.number) _ (field g.number 4) _ gn_ refl (says-cons format (Gn g.number ∷ Gbsc ∷ before) (Gquant g.quant) _ (field g.quant 5) _ gquant_ refl parts)) in (
-      says-text format before (group_elements (Sent spares stuffings behind) g) _ _ (four_parts gbsc (field g.number 4) (field g.quant 5) (spare_text spares) (stuffing_text stuffings ++ stuffed_text None behind g.macroblocks)) header,
+      says-text format before (elements_of_group (Sent spares stuffings behind) g) _ _ (four_parts gbsc (field g.number 4) (field g.quant 5) (spare_text spares) (stuffing_text stuffings ++ stuffed_text None behind g.macroblocks)) header,
       subst (λ b. IsBehindGroup g.number b) (sym e) ms.1,
     )
 
@@ -155,7 +155,7 @@ RiseFrom format low (g ∷ gs) = (is_group format g.number ≡ true) × (low < g
 pub higher : (low high : ℕ) (before : List Element) → low ≤ high → IsAtGroup low before → IsAtGroup high before
 higher low high before h place = record { at = place.at; group_is = omega (arith, h, place.group_is) }
 
-pub says-groups : (format : Format) (before : List Element) (low : ℕ) (forms : List GroupForm) (gs : List Group) → IsAtGroup low before → GroupsFit forms gs → RiseFrom format low gs → All (IsValidGroup format) gs → Says format before (groups_elements forms gs) (sent_groups_text forms gs) × ((high : ℕ) × IsAtGroup high (after before (groups_elements forms gs)))
+pub says-groups : (format : Format) (before : List Element) (low : ℕ) (forms : List GroupForm) (gs : List Group) → IsAtGroup low before → GroupsFit forms gs → RiseFrom format low gs → All (IsValidGroup format) gs → Says format before (elements_of_groups forms gs) (sent_groups_text forms gs) × ((high : ℕ) × IsAtGroup high (after before (elements_of_groups forms gs)))
 says-groups format before low [] [] place fit rise valid = (says-none format before, (low, place))
 says-groups format before low [] (g ∷ gs) place fit rise valid = absurd fit
 says-groups format before low (f ∷ forms) [] place fit rise valid = absurd fit
@@ -163,8 +163,8 @@ says-groups format before low (LeftOut ∷ forms) (g ∷ gs) place fit rise vali
     says-groups format before g.number forms gs (higher low g.number before (omega (arith, rise.1)) place) fit.1 rise.2 (All-tail (IsValidGroup format) g gs valid)
 says-groups format before low (Sent spares stuffings behind ∷ forms) (g ∷ gs) place fit rise valid =
     let one = says-sent format before low g spares stuffings behind place rise.0 rise.1 (All-head (IsValidGroup format) g gs valid) in
-    let next : IsAtGroup g.number (after before (group_elements (Sent spares stuffings behind) g)) = record { at = inr one.1.at; group_is = omega (arith, one.1.group_is) } in
-    let rest = says-groups format (after before (group_elements (Sent spares stuffings behind) g)) g.number forms gs next fit.1 rise.2 (All-tail (IsValidGroup format) g gs valid) in (
-      says-append format before (group_elements (Sent spares stuffings behind) g) (groups_elements forms gs) (sent_group_text (Sent spares stuffings behind) g) (sent_groups_text forms gs) one.0 rest.0,
-      (rest.1.0, subst (λ b. IsAtGroup rest.1.0 b) (sym (after-append before (group_elements (Sent spares stuffings behind) g) (groups_elements forms gs))) rest.1.1),
+    let next : IsAtGroup g.number (after before (elements_of_group (Sent spares stuffings behind) g)) = record { at = inr one.1.at; group_is = omega (arith, one.1.group_is) } in
+    let rest = says-groups format (after before (elements_of_group (Sent spares stuffings behind) g)) g.number forms gs next fit.1 rise.2 (All-tail (IsValidGroup format) g gs valid) in (
+      says-append format before (elements_of_group (Sent spares stuffings behind) g) (elements_of_groups forms gs) (sent_group_text (Sent spares stuffings behind) g) (sent_groups_text forms gs) one.0 rest.0,
+      (rest.1.0, subst (λ b. IsAtGroup rest.1.0 b) (sym (after-append before (elements_of_group (Sent spares stuffings behind) g) (elements_of_groups forms gs))) rest.1.1),
     )

@@ -18,8 +18,8 @@ use Rattle.pel_model.proofs.Walks.{after-append}
 use Rattle.pel_model.proofs.InsideElements.{inside-right}
 use Rattle.picture_laws.specs.Laws.{StandInside}
 use Rattle.pel_model.specs.Elements.{block_elements, blocks_elements, mquant_elements, AreInside, spare_elements}
-use Rattle.picture_laws.specs.PictureElements.{mvd_element, vector_elements, cbp_elements, macroblock_elements, macroblocks_elements, group_elements, groups_elements, header_elements}
-use Rattle.picture_laws.specs.SoFar.{IsBehind, last_of, group_of, IsGroupSoFar, GroupBegins, StuffingJoins, IsJoined, MacroblockJoins, IsPictureSoFar, next_number, HeaderBegins, GroupIsLeftOut, GroupIsSent, PictureIsTold, PictureIsAccepted, InsideStands}
+use Rattle.picture_laws.specs.PictureElements.{mvd_element, elements_of_vector, elements_of_pattern, elements_of_macroblock, elements_of_macroblocks, elements_of_group, elements_of_groups, elements_of_header}
+use Rattle.picture_laws.specs.SoFar.{IsBehind, last_sent, group_with, IsGroupSoFar, GroupBegins, StuffingJoins, IsJoined, MacroblockJoins, IsPictureSoFar, number_due, HeaderBegins, GroupIsLeftOut, GroupIsSent, PictureIsTold, PictureIsAccepted, InsideStands}
 use Rattle.picture_laws.proofs.Slots.{Takes, IsStep}
 use Rattle.picture_laws.proofs.Chains.{Chain, words, goes-walk}
 use Rattle.picture_laws.proofs.Blocks.{one_passed}
@@ -60,26 +60,26 @@ rest_of format before r end es goes final = record { chain = (goes-walk format b
 more_joined : (s st m more : List Element) → (s ++ (st ++ m)) ++ more ≡ s ++ (st ++ (m ++ more))
 more_joined s st m more = append_assoc s (st ++ m) more ∙ ap (λ t. s ++ t) (append_assoc st m more)
 
-last-snoc : (last : Option Macroblock) (ms : List Macroblock) (m : Macroblock) → last_of last (ms ++ m ∷ []) ≡ Some m
+last-snoc : (last : Option Macroblock) (ms : List Macroblock) (m : Macroblock) → last_sent last (ms ++ m ∷ []) ≡ Some m
 last-snoc last [] m = refl
 last-snoc last (x ∷ ms) m = last-snoc (Some x) ms m
 
-elements-snoc : (last : Option Macroblock) (behind : List ℕ) (ms : List Macroblock) (m : Macroblock) → length behind ≡ length ms → macroblocks_elements last (behind ++ 0 ∷ []) (ms ++ m ∷ []) ≡ macroblocks_elements last behind ms ++ macroblock_elements (last_of last ms) m
-elements-snoc last [] [] m each = append-nil (macroblock_elements last m)
+elements-snoc : (last : Option Macroblock) (behind : List ℕ) (ms : List Macroblock) (m : Macroblock) → length behind ≡ length ms → elements_of_macroblocks last (behind ++ 0 ∷ []) (ms ++ m ∷ []) ≡ elements_of_macroblocks last behind ms ++ elements_of_macroblock (last_sent last ms) m
+elements-snoc last [] [] m each = append-nil (elements_of_macroblock last m)
 elements-snoc last (b ∷ bs) [] m each = absurd (omega (arith, each))
 elements-snoc last [] (x ∷ ms) m each = absurd (omega (arith, each))
 elements-snoc last (b ∷ bs) (x ∷ ms) m each =
-    ap (λ t. macroblock_elements last x ++ (replicate b Stuffing ++ t)) (elements-snoc (Some x) bs ms m (omega (arith, each)))
-    ∙ sym (more_joined (macroblock_elements last x) (replicate b Stuffing) (macroblocks_elements (Some x) bs ms) (macroblock_elements (last_of (Some x) ms) m))
+    ap (λ t. elements_of_macroblock last x ++ (replicate b Stuffing ++ t)) (elements-snoc (Some x) bs ms m (omega (arith, each)))
+    ∙ sym (more_joined (elements_of_macroblock last x) (replicate b Stuffing) (elements_of_macroblocks (Some x) bs ms) (elements_of_macroblock (last_sent (Some x) ms) m))
 
-text-snoc : (last : Option Macroblock) (ms : List Macroblock) (m : Macroblock) → macroblocks_text last (ms ++ m ∷ []) ≡ macroblocks_text last ms ++ macroblock_text (last_of last ms) m
+text-snoc : (last : Option Macroblock) (ms : List Macroblock) (m : Macroblock) → macroblocks_text last (ms ++ m ∷ []) ≡ macroblocks_text last ms ++ macroblock_text (last_sent last ms) m
 unfolding macroblocks_text
 text-snoc last [] m = append-nil (macroblock_text last m)
 text-snoc last (x ∷ ms) m =
     ap (λ t. macroblock_text last x ++ t) (text-snoc (Some x) ms m)
-    ∙ sym (append_assoc (macroblock_text last x) (macroblocks_text (Some x) ms) (macroblock_text (last_of (Some x) ms) m))
+    ∙ sym (append_assoc (macroblock_text last x) (macroblocks_text (Some x) ms) (macroblock_text (last_sent (Some x) ms) m))
 
-rise-snoc : (last : Option Macroblock) (ms : List Macroblock) (m : Macroblock) → AddressesRise (address_of last) ms → address_of (last_of last ms) < m.address → m.address ≤ 33 → AddressesRise (address_of last) (ms ++ m ∷ [])
+rise-snoc : (last : Option Macroblock) (ms : List Macroblock) (m : Macroblock) → AddressesRise (address_of last) ms → address_of (last_sent last ms) < m.address → m.address ≤ 33 → AddressesRise (address_of last) (ms ++ m ∷ [])
 rise-snoc last [] m rise above most = (above, most, tt)
 rise-snoc last (x ∷ ms) m rise above most = (rise.0, rise.1, rise-snoc (Some x) ms m rise.2 above most)
 
@@ -99,17 +99,17 @@ stuffing-snoc : (n : ℕ) → replicate n Stuffing ++ Stuffing ∷ [] ≡ replic
 stuffing-snoc zero = refl
 stuffing-snoc (suc n) = ap (λ t. Stuffing ∷ t) (stuffing-snoc n)
 
-bump-elements : (last : Option Macroblock) (behind : List ℕ) (m : Macroblock) (ms : List Macroblock) → length behind ≡ length (m ∷ ms) → macroblocks_elements last (bump behind) (m ∷ ms) ≡ macroblocks_elements last behind (m ∷ ms) ++ Stuffing ∷ []
+bump-elements : (last : Option Macroblock) (behind : List ℕ) (m : Macroblock) (ms : List Macroblock) → length behind ≡ length (m ∷ ms) → elements_of_macroblocks last (bump behind) (m ∷ ms) ≡ elements_of_macroblocks last behind (m ∷ ms) ++ Stuffing ∷ []
 unfolding bump
 bump-elements last [] m ms each = absurd (omega (arith, each))
 bump-elements last (n ∷ []) m [] each =
-    ap (λ t. macroblock_elements last m ++ t) (append-nil (replicate (suc n) Stuffing) ∙ (sym (stuffing-snoc n) ∙ ap (λ t. t ++ Stuffing ∷ []) (sym (append-nil (replicate n Stuffing)))))
-    ∙ sym (append_assoc (macroblock_elements last m) (replicate n Stuffing ++ []) (Stuffing ∷ []))
+    ap (λ t. elements_of_macroblock last m ++ t) (append-nil (replicate (suc n) Stuffing) ∙ (sym (stuffing-snoc n) ∙ ap (λ t. t ++ Stuffing ∷ []) (sym (append-nil (replicate n Stuffing)))))
+    ∙ sym (append_assoc (elements_of_macroblock last m) (replicate n Stuffing ++ []) (Stuffing ∷ []))
 bump-elements last (n ∷ []) m (x ∷ ms) each = absurd (omega (arith, each))
 bump-elements last (n ∷ b ∷ bs) m [] each = absurd (omega (arith, each))
 bump-elements last (n ∷ b ∷ bs) m (x ∷ ms) each =
-    ap (λ t. macroblock_elements last m ++ (replicate n Stuffing ++ t)) (bump-elements (Some m) (b ∷ bs) x ms (omega (arith, each)))
-    ∙ sym (more_joined (macroblock_elements last m) (replicate n Stuffing) (macroblocks_elements (Some m) (b ∷ bs) (x ∷ ms)) (Stuffing ∷ []))
+    ap (λ t. elements_of_macroblock last m ++ (replicate n Stuffing ++ t)) (bump-elements (Some m) (b ∷ bs) x ms (omega (arith, each)))
+    ∙ sym (more_joined (elements_of_macroblock last m) (replicate n Stuffing) (elements_of_macroblocks (Some m) (b ∷ bs) (x ∷ ms)) (Stuffing ∷ []))
 
 -- ---- the quantiser in effect
 
@@ -129,24 +129,24 @@ mquant-quant : (before : List Element) (q : Option ℕ) → quantiser (after bef
 mquant-quant before None = refl
 mquant-quant before (Some q) = refl
 
-vector-quant : (before : List Element) (last : Option Macroblock) (m : Macroblock) → quantiser (after before (vector_elements last m)) ≡ quantiser before
+vector-quant : (before : List Element) (last : Option Macroblock) (m : Macroblock) → quantiser (after before (elements_of_vector last m)) ≡ quantiser before
 vector-quant before last m = elim (cases_Bool (has_vector m.kind)) [
   | inl has ↦ ap (λ es. quantiser (after before es)) (cond-true (has_vector m.kind) (mvd_element Across last m ∷ mvd_element Down last m ∷ []) [] has)
   | inr none ↦ ap (λ es. quantiser (after before es)) (cond-false (has_vector m.kind) (mvd_element Across last m ∷ mvd_element Down last m ∷ []) [] none)
 ]
 
-cbp-quant : (before : List Element) (m : Macroblock) → quantiser (after before (cbp_elements m)) ≡ quantiser before
+cbp-quant : (before : List Element) (m : Macroblock) → quantiser (after before (elements_of_pattern m)) ≡ quantiser before
 cbp-quant before m = elim (cases_Bool (has_cbp m.kind)) [
   | inl has ↦ ap (λ es. quantiser (after before es)) (cond-true (has_cbp m.kind) (Cbp (coded_block_pattern m.blocks) ∷ []) [] has)
   | inr none ↦ ap (λ es. quantiser (after before es)) (cond-false (has_cbp m.kind) (Cbp (coded_block_pattern m.blocks) ∷ []) [] none)
 ]
 
-macroblock-quant : (before : List Element) (last : Option Macroblock) (m : Macroblock) → quantiser (after before (macroblock_elements last m)) ≡ quantiser_after (quantiser before) m.mquant
+macroblock-quant : (before : List Element) (last : Option Macroblock) (m : Macroblock) → quantiser (after before (elements_of_macroblock last m)) ≡ quantiser_after (quantiser before) m.mquant
 macroblock-quant before last m =
     ap quantiser (after-body (headed before last m) last m)
-    ∙ (ap quantiser (after-append (after (after (headed before last m) (mquant_elements m.mquant)) (vector_elements last m)) (cbp_elements m) (blocks_elements m.blocks))
-    ∙ (blocks-quant (after (after (after (headed before last m) (mquant_elements m.mquant)) (vector_elements last m)) (cbp_elements m)) m.blocks
-    ∙ (cbp-quant (after (after (headed before last m) (mquant_elements m.mquant)) (vector_elements last m)) m
+    ∙ (ap quantiser (after-append (after (after (headed before last m) (mquant_elements m.mquant)) (elements_of_vector last m)) (elements_of_pattern m) (blocks_elements m.blocks))
+    ∙ (blocks-quant (after (after (after (headed before last m) (mquant_elements m.mquant)) (elements_of_vector last m)) (elements_of_pattern m)) m.blocks
+    ∙ (cbp-quant (after (after (headed before last m) (mquant_elements m.mquant)) (elements_of_vector last m)) m
     ∙ (vector-quant (after (headed before last m) (mquant_elements m.mquant)) last m ∙ mquant-quant (headed before last m) m.mquant))))
 
 effect-snoc : (q : ℕ) (ms : List Macroblock) (m : Macroblock) → quantiser_behind q (ms ++ m ∷ []) ≡ quantiser_after (quantiser_behind q ms) m.mquant
@@ -190,8 +190,8 @@ group-begins format before r end number quant es goes inside at =
     let none = no_more format (after (Gquant quant ∷ Gn number ∷ Gbsc ∷ before) (spare_elements Gei Gspare s.spares)) s.rest (says-gspares format (Gquant quant ∷ Gn number ∷ Gbsc ∷ before) s.spares refl).1 left (inside-right (spare_elements Gei Gspare s.spares) s.rest (subst AreInside s.is inside)) in
     group_begun format before es number quant (omega (arith, some), omega (arith, small, t.1)) s none
 
-stuffing_place : (format : Format) (before : List Element) (number quant : ℕ) (ms : List Macroblock) (es : List Element) → IsGroupSoFar format before number quant ms es → IsBehind number (last_of None ms) (after before (es ++ Stuffing ∷ []))
-stuffing_place format before number quant ms es g = subst (λ b. IsBehind number (last_of None ms) b) (sym (after-append before es (Stuffing ∷ []))) (stuffed_behind number (last_of None ms) (after before es) g.place)
+stuffing_place : (format : Format) (before : List Element) (number quant : ℕ) (ms : List Macroblock) (es : List Element) → IsGroupSoFar format before number quant ms es → IsBehind number (last_sent None ms) (after before (es ++ Stuffing ∷ []))
+stuffing_place format before number quant ms es g = subst (λ b. IsBehind number (last_sent None ms) b) (sym (after-append before es (Stuffing ∷ []))) (stuffed_behind number (last_sent None ms) (after before es) g.place)
 
 pub stuffing-joins : StuffingJoins
 stuffing-joins format before number quant [] es g = record {
@@ -210,7 +210,7 @@ stuffing-joins format before number quant (m ∷ ms) es g = record {
   stuffings = g.stuffings;
   behind = bump g.behind;
   each = bump-length g.behind ∙ g.each;
-  elements = ap (λ t. t ++ Stuffing ∷ []) g.elements ∙ (group_more number quant g.spares g.stuffings (macroblocks_elements None g.behind (m ∷ ms)) (Stuffing ∷ [])
+  elements = ap (λ t. t ++ Stuffing ∷ []) g.elements ∙ (group_more number quant g.spares g.stuffings (elements_of_macroblocks None g.behind (m ∷ ms)) (Stuffing ∷ [])
       ∙ ap (λ t. Gbsc ∷ (Gn number ∷ (Gquant quant ∷ (spare_elements Gei Gspare g.spares ++ (replicate g.stuffings Stuffing ++ t))))) (sym (bump-elements None g.behind m ms g.each)));
   valid = g.valid;
   place = stuffing_place format before number quant (m ∷ ms) es g;
@@ -235,12 +235,12 @@ step_of n t = elim t [
   | inr a ↦ elim a [ inl b ↦ absurd (not_stuffing n b) | inr b ↦ absurd (not_gbsc n b) ]
 ]
 
-joined : (format : Format) (before : List Element) (number quant : ℕ) (ms : List Macroblock) (es more : List Element) (r end : List Bool × ℕ) → IsGroupSoFar format before number quant ms es → Goes (next format) (after before es) r more end → (m : ReadsMacroblock format number (last_of None ms) more) → m.rest ≡ [] → IsJoined format before number quant ms es more r end
+joined : (format : Format) (before : List Element) (number quant : ℕ) (ms : List Macroblock) (es more : List Element) (r end : List Bool × ℕ) → IsGroupSoFar format before number quant ms es → Goes (next format) (after before es) r more end → (m : ReadsMacroblock format number (last_sent None ms) more) → m.rest ≡ [] → IsJoined format before number quant ms es more r end
 joined format before number quant ms es more r end g goes m none =
-    let is : more ≡ macroblock_elements (last_of None ms) m.m = m.is ∙ (ap (λ t. macroblock_elements (last_of None ms) m.m ++ t) none ∙ append-nil (macroblock_elements (last_of None ms) m.m)) in
-    let says = says-macroblock format number (last_of None ms) m.m (after before es) g.place m.rise m.most m.valid in
+    let is : more ≡ elements_of_macroblock (last_sent None ms) m.m = m.is ∙ (ap (λ t. elements_of_macroblock (last_sent None ms) m.m ++ t) none ∙ append-nil (elements_of_macroblock (last_sent None ms) m.m)) in
+    let says = says-macroblock format number (last_sent None ms) m.m (after before es) g.place m.rise m.most m.valid in
     let walk = goes-walk format (after before es) r more end goes in
-    let text : words (after before es) more ≡ macroblock_text (last_of None ms) m.m = ap (words (after before es)) is ∙ says.0.text in
+    let text : words (after before es) more ≡ macroblock_text (last_sent None ms) m.m = ap (words (after before es)) is ∙ says.0.text in
     let here : IsBehind number (Some m.m) (after before (es ++ more)) = subst (λ b. IsBehind number (Some m.m) b) (ap (after (after before es)) (sym is) ∙ sym (after-append before es more)) says.1 in
     record {
       macroblock = m.m;
@@ -249,18 +249,18 @@ joined format before number quant ms es more r end g goes m none =
       text = text-snoc None ms m.m;
       address_is = ap (λ t. address (after (after before es) t)) is ∙ says.1.address_is;
       vector_is = λ axis. ap (λ t. vector_component axis (after (after before es) t)) is ∙ says.1.vector_is axis;
-      quant_is = ap (λ t. quantiser (after (after before es) t)) is ∙ macroblock-quant (after before es) (last_of None ms) m.m;
+      quant_is = ap (λ t. quantiser (after (after before es) t)) is ∙ macroblock-quant (after before es) (last_sent None ms) m.m;
       so_far = record {
         spares = g.spares;
         stuffings = g.stuffings;
         behind = g.behind ++ 0 ∷ [];
         each = length-append g.behind (0 ∷ []) ∙ (ap (λ n. n + 1) g.each ∙ sym (length-append ms (m.m ∷ [])));
-        elements = ap (λ t. t ++ more) g.elements ∙ (group_more number quant g.spares g.stuffings (macroblocks_elements None g.behind ms) more
-            ∙ ap (λ t. Gbsc ∷ (Gn number ∷ (Gquant quant ∷ (spare_elements Gei Gspare g.spares ++ (replicate g.stuffings Stuffing ++ t))))) (ap (λ t. macroblocks_elements None g.behind ms ++ t) is ∙ sym (elements-snoc None g.behind ms m.m g.each)));
+        elements = ap (λ t. t ++ more) g.elements ∙ (group_more number quant g.spares g.stuffings (elements_of_macroblocks None g.behind ms) more
+            ∙ ap (λ t. Gbsc ∷ (Gn number ∷ (Gquant quant ∷ (spare_elements Gei Gspare g.spares ++ (replicate g.stuffings Stuffing ++ t))))) (ap (λ t. elements_of_macroblocks None g.behind ms ++ t) is ∙ sym (elements-snoc None g.behind ms m.m g.each)));
         valid = record { quant = g.valid.quant; addresses = rise-snoc None ms m.m g.valid.addresses m.rise m.most; macroblocks = All-push (IsValidMacroblock format number) ms m.m g.valid.macroblocks m.valid };
         place = subst (λ l. IsBehind number l (after before (es ++ more))) (sym (last-snoc None ms m.m)) here;
         quant_is = ap quantiser (after-append before es more) ∙ (ap (λ t. quantiser (after (after before es) t)) is
-            ∙ (macroblock-quant (after before es) (last_of None ms) m.m ∙ (ap (λ q. quantiser_after q m.m.mquant) g.quant_is ∙ sym (effect-snoc quant ms m.m))));
+            ∙ (macroblock-quant (after before es) (last_sent None ms) m.m ∙ (ap (λ q. quantiser_after q m.m.mquant) g.quant_is ∙ sym (effect-snoc quant ms m.m))));
       };
     }
 
@@ -269,11 +269,11 @@ macroblock-joins format before number quant ms es r end n more g goes inside at 
     let all = rest_of format (after before es) r end (Mba n ∷ more) goes (ap may_end at) in
     let t : Takes AtMacroblock (Mba n) = subst (λ s. Takes s (Mba n)) g.place.at all.chain.0.takes in
     let s = rest-step format (after before es) (Mba n) (Mba n) more all refl in
-    let m = read-macroblock format (after before es) more number (last_of None ms) n g.place (step_of n t) s.0 s.1 in
-    let says = says-macroblock format number (last_of None ms) m.m (after before es) g.place m.rise m.most m.valid in
-    let left = rest-after format (after before es) (Mba n ∷ more) (macroblock_elements (last_of None ms) m.m) m.rest all m.is in
-    let tail : more ≡ (Mtype m.m.kind ∷ body (last_of None ms) m.m) ++ m.rest = same_tail (Mba n) (Mba (m.m.address - address_of (last_of None ms))) more ((Mtype m.m.kind ∷ body (last_of None ms) m.m) ++ m.rest) m.is in
-    let none = no_more format (after (after before es) (macroblock_elements (last_of None ms) m.m)) m.rest says.1.at left (inside-right (Mtype m.m.kind ∷ body (last_of None ms) m.m) m.rest (subst AreInside tail inside)) in
+    let m = read-macroblock format (after before es) more number (last_sent None ms) n g.place (step_of n t) s.0 s.1 in
+    let says = says-macroblock format number (last_sent None ms) m.m (after before es) g.place m.rise m.most m.valid in
+    let left = rest-after format (after before es) (Mba n ∷ more) (elements_of_macroblock (last_sent None ms) m.m) m.rest all m.is in
+    let tail : more ≡ (Mtype m.m.kind ∷ body (last_sent None ms) m.m) ++ m.rest = same_tail (Mba n) (Mba (m.m.address - address_of (last_sent None ms))) more ((Mtype m.m.kind ∷ body (last_sent None ms) m.m) ++ m.rest) m.is in
+    let none = no_more format (after (after before es) (elements_of_macroblock (last_sent None ms) m.m)) m.rest says.1.at left (inside-right (Mtype m.m.kind ∷ body (last_sent None ms) m.m) m.rest (subst AreInside tail inside)) in
     joined format before number quant ms es (Mba n ∷ more) r end g goes m none
 
 -- ---- a picture so far
@@ -284,18 +284,18 @@ fits-snoc [] (x ∷ gs) f g fit one = absurd fit
 fits-snoc (y ∷ forms) [] f g fit one = absurd fit
 fits-snoc (y ∷ forms) (x ∷ gs) f g fit one = (fit.0, fits-snoc forms gs f g fit.1 one)
 
-groups-snoc : (forms : List GroupForm) (gs : List Group) (f : GroupForm) (g : Group) → GroupsFit forms gs → groups_elements (forms ++ f ∷ []) (gs ++ g ∷ []) ≡ groups_elements forms gs ++ group_elements f g
-groups-snoc [] [] f g fit = append-nil (group_elements f g)
+groups-snoc : (forms : List GroupForm) (gs : List Group) (f : GroupForm) (g : Group) → GroupsFit forms gs → elements_of_groups (forms ++ f ∷ []) (gs ++ g ∷ []) ≡ elements_of_groups forms gs ++ elements_of_group f g
+groups-snoc [] [] f g fit = append-nil (elements_of_group f g)
 groups-snoc [] (x ∷ gs) f g fit = absurd fit
 groups-snoc (y ∷ forms) [] f g fit = absurd fit
 groups-snoc (y ∷ forms) (x ∷ gs) f g fit =
-    ap (λ t. group_elements y x ++ t) (groups-snoc forms gs f g fit.1) ∙ sym (append_assoc (group_elements y x) (groups_elements forms gs) (group_elements f g))
+    ap (λ t. elements_of_group y x ++ t) (groups-snoc forms gs f g fit.1) ∙ sym (append_assoc (elements_of_group y x) (elements_of_groups forms gs) (elements_of_group f g))
 
 map-snoc : (gs : List Group) (g : Group) → map (λ (g : Group). g.number) (gs ++ g ∷ []) ≡ map (λ (g : Group). g.number) gs ++ g.number ∷ []
 map-snoc [] g = refl
 map-snoc (x ∷ gs) g = ap (λ t. x.number ∷ t) (map-snoc gs g)
 
-valid-snoc : (format : Format) (picture : Picture) (g : Group) → IsValidSoFar format picture → length picture.groups < group_count format → g.number ≡ next_number format picture → IsValidGroup format g → IsValidSoFar format (with_group picture g)
+valid-snoc : (format : Format) (picture : Picture) (g : Group) → IsValidSoFar format picture → length picture.groups < group_count format → g.number ≡ number_due format picture → IsValidGroup format g → IsValidSoFar format (with_group picture g)
 valid-snoc format picture g valid few number ok =
     let size : length (picture.groups ++ g ∷ []) ≡ length picture.groups + 1 = length-append picture.groups (g ∷ []) in
     record {
@@ -306,25 +306,25 @@ valid-snoc format picture g valid few number ok =
       groups = All-push (IsValidGroup format) picture.groups g valid.groups ok;
     }
 
-one_more_group : (format : Format) (picture : Picture) (es more : List Element) (f : GroupForm) (g : Group) → IsPictureSoFar format picture es → length picture.groups < group_count format → g.number ≡ next_number format picture → IsValidGroup format g → GroupFits f g → more ≡ group_elements f g → IsPictureSoFar format (with_group picture g) (es ++ more)
+one_more_group : (format : Format) (picture : Picture) (es more : List Element) (f : GroupForm) (g : Group) → IsPictureSoFar format picture es → length picture.groups < group_count format → g.number ≡ number_due format picture → IsValidGroup format g → GroupFits f g → more ≡ elements_of_group f g → IsPictureSoFar format (with_group picture g) (es ++ more)
 one_more_group format picture es more f g p few number ok fit is = record {
   free = p.free;
   spares = p.spares;
   forms = p.forms ++ f ∷ [];
   fits = fits-snoc p.forms picture.groups f g p.fits fit;
-  elements = ap (λ t. t ++ more) p.elements ∙ (append_assoc (header_elements format p.free p.spares picture.tr) (groups_elements p.forms picture.groups) more
-      ∙ ap (λ t. header_elements format p.free p.spares picture.tr ++ t) (ap (λ t. groups_elements p.forms picture.groups ++ t) is ∙ sym (groups-snoc p.forms picture.groups f g p.fits)));
+  elements = ap (λ t. t ++ more) p.elements ∙ (append_assoc (elements_of_header format p.free p.spares picture.tr) (elements_of_groups p.forms picture.groups) more
+      ∙ ap (λ t. elements_of_header format p.free p.spares picture.tr ++ t) (ap (λ t. elements_of_groups p.forms picture.groups ++ t) is ∙ sym (groups-snoc p.forms picture.groups f g p.fits)));
   valid = valid-snoc format picture g p.valid few number ok;
 }
 
 pub group-left-out : GroupIsLeftOut
 group-left-out format picture es p few =
-    let ok : IsValidGroup format (group_of (next_number format picture) 1 []) = record { quant = (omega arith, omega arith); addresses = tt; macroblocks = All-nil (IsValidMacroblock format (next_number format picture)) } in
-    subst (λ t. IsPictureSoFar format (with_group picture (group_of (next_number format picture) 1 [])) t) (append-nil es) (one_more_group format picture es [] LeftOut (group_of (next_number format picture) 1 []) p few refl ok (refl, refl) refl)
+    let ok : IsValidGroup format (group_with (number_due format picture) 1 []) = record { quant = (omega arith, omega arith); addresses = tt; macroblocks = All-nil (IsValidMacroblock format (number_due format picture)) } in
+    subst (λ t. IsPictureSoFar format (with_group picture (group_with (number_due format picture) 1 [])) t) (append-nil es) (one_more_group format picture es [] LeftOut (group_with (number_due format picture) 1 []) p few refl ok (refl, refl) refl)
 
 pub group-sent : GroupIsSent
 group-sent format picture es quant ms more p few g =
-    one_more_group format picture es more (Sent g.spares g.stuffings g.behind) (group_of (next_number format picture) quant ms) p few refl g.valid tt g.elements
+    one_more_group format picture es more (Sent g.spares g.stuffings g.behind) (group_with (number_due format picture) quant ms) p few refl g.valid tt g.elements
 
 same_tr : (a b : ℕ) (xs ys : List Element) → Psc ∷ (Tr a ∷ xs) ≡ Psc ∷ (Tr b ∷ ys) → a ≡ b
 same_tr a b xs ys h = cc
@@ -335,7 +335,7 @@ header_begun format tr es h none same = record {
   spares = h.spares;
   forms = [];
   fits = tt;
-  elements = h.is ∙ (ap (λ t. header_elements format h.free h.spares h.tr ++ t) none ∙ ap (λ k. header_elements format h.free h.spares k ++ []) same);
+  elements = h.is ∙ (ap (λ t. elements_of_header format h.free h.spares h.tr ++ t) none ∙ ap (λ k. elements_of_header format h.free h.spares k ++ []) same);
   valid = record { tr = omega (arith, h.fits, same); numbers = refl; groups = All-nil (IsValidGroup format) };
 }
 
@@ -343,8 +343,8 @@ pub header-begins : HeaderBegins
 header-begins format r end tr ptype es goes inside at =
     let all = rest_of format [] r end (Psc ∷ (Tr tr ∷ (Ptype ptype ∷ es))) goes (ap may_end at) in
     let h = read_header format (Psc ∷ (Tr tr ∷ (Ptype ptype ∷ es))) all in
-    let left = rest-after format [] (Psc ∷ (Tr tr ∷ (Ptype ptype ∷ es))) (header_elements format h.free h.spares h.tr) h.rest all h.is in
-    let none = no_group format (after [] (header_elements format h.free h.spares h.tr)) h.rest (header_slot format h.free h.spares h.tr h.fits) left (inside-right (header_elements format h.free h.spares h.tr) h.rest (subst AreInside h.is inside)) in
+    let left = rest-after format [] (Psc ∷ (Tr tr ∷ (Ptype ptype ∷ es))) (elements_of_header format h.free h.spares h.tr) h.rest all h.is in
+    let none = no_group format (after [] (elements_of_header format h.free h.spares h.tr)) h.rest (header_slot format h.free h.spares h.tr h.fits) left (inside-right (elements_of_header format h.free h.spares h.tr) h.rest (subst AreInside h.is inside)) in
     header_begun format tr (Psc ∷ (Tr tr ∷ (Ptype ptype ∷ es))) h none (sym (same_tr tr h.tr _ _ h.is))
 
 pub picture-told : PictureIsTold

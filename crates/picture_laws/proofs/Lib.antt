@@ -7,6 +7,8 @@ pub mod Groups
 pub mod Joins
 pub mod Kept
 pub mod Limits
+pub mod LongestMacroblocks
+pub mod LongestWords
 pub mod Longs
 pub mod Macroblocks
 pub mod Patterns

@@ -15,8 +15,8 @@ use Rattle.pel_model.specs.Walk.{after}
 use Rattle.pel_model.specs.Grammar.{Element, Mba, Mtype, Mquant, Mvd, Cbp, AtMacroblock, AtMquant, AtMvd, AtCbp, slot, kind, blocks, group, address, vector_component, block_slot, cbp_slot, vector_slot, ones, component_from, in_range}
 use Rattle.pel_model.proofs.Walks.{after-append}
 use Rattle.pel_model.specs.Elements.{mquant_elements, blocks_elements}
-use Rattle.picture_laws.specs.SoFar.{IsBehind, IsLast}
-use Rattle.picture_laws.specs.PictureElements.{pair_in, mvd_element, vector_elements, cbp_elements, macroblock_elements}
+use Rattle.picture_laws.specs.SoFar.{IsBehind, IsSentBefore}
+use Rattle.picture_laws.specs.PictureElements.{pair_in, mvd_element, elements_of_vector, elements_of_pattern, elements_of_macroblock}
 use Rattle.picture_laws.proofs.Slots.{word_at, Takes}
 use Rattle.picture_laws.proofs.Words.{number_below}
 use Rattle.std.proofs.lemmas.List.{length-map}
@@ -74,7 +74,7 @@ both_axes P a d Down = d
 abbrev IsFit : Format → ℕ → Axis → Macroblock → Type 0
 IsFit format number axis m = (nat_abs (component axis m) ≤ 15) × (stays_within (side format axis) (corner axis number m.address) (component axis m) ≡ true)
 
-stands_mvd : (format : Format) (before : List Element) (number : ℕ) (axis : Axis) (last : Option Macroblock) (m : Macroblock) → IsLast last → slot before ≡ AtMvd axis → group before ≡ number → address before ≡ m.address → vector_component axis before ≡ predictor axis last m → IsFit format number axis m → Stands format before (mvd_element axis last m) × (word_in before (mvd_element axis last m) ≡ mvd_word axis last m) × (component_from (vector_component axis before) (pair_in (component axis m -ℤ predictor axis last m) mvd_table) ≡ component axis m)
+stands_mvd : (format : Format) (before : List Element) (number : ℕ) (axis : Axis) (last : Option Macroblock) (m : Macroblock) → IsSentBefore last → slot before ≡ AtMvd axis → group before ≡ number → address before ≡ m.address → vector_component axis before ≡ predictor axis last m → IsFit format number axis m → Stands format before (mvd_element axis last m) × (word_in before (mvd_element axis last m) ≡ mvd_word axis last m) × (component_from (vector_component axis before) (pair_in (component axis m -ℤ predictor axis last m) mvd_table) ≡ component axis m)
 stands_mvd format before number axis last m is at group_is address_is vector_is fit =
     let p : ℤ = predictor axis last m in
     let pair = pair-of axis (predictor axis last m) (component axis m) (predictor-small axis last m is) fit.0 in
@@ -93,7 +93,7 @@ stands_mvd format before number axis last m is at group_is address_is vector_is 
     )
 
 -- with a vector
-has_vector_says : (format : Format) (before : List Element) (number : ℕ) (last : Option Macroblock) (m : Macroblock) → IsLast last → slot before ≡ AtMvd Across → kind before ≡ m.kind → group before ≡ number → address before ≡ m.address → ((axis : Axis) → vector_component axis before ≡ predictor axis last m) → IsFit format number Across m → IsFit format number Down m → Says format before (mvd_element Across last m ∷ mvd_element Down last m ∷ []) (mvd_word Across last m ++ mvd_word Down last m) × IsBehindVector number m (mvd_element Down last m ∷ mvd_element Across last m ∷ before)
+has_vector_says : (format : Format) (before : List Element) (number : ℕ) (last : Option Macroblock) (m : Macroblock) → IsSentBefore last → slot before ≡ AtMvd Across → kind before ≡ m.kind → group before ≡ number → address before ≡ m.address → ((axis : Axis) → vector_component axis before ≡ predictor axis last m) → IsFit format number Across m → IsFit format number Down m → Says format before (mvd_element Across last m ∷ mvd_element Down last m ∷ []) (mvd_word Across last m ++ mvd_word Down last m) × IsBehindVector number m (mvd_element Down last m ∷ mvd_element Across last m ∷ before)
 has_vector_says format before number last m is at kind_is group_is address_is vector_is across down =
     let a = stands_mvd format before number Across last m is at group_is address_is (vector_is Across) across in
     let d = stands_mvd format (mvd_element Across last m ∷ before) number Down last m is refl group_is address_is (vector_is Down) down in
@@ -108,24 +108,24 @@ has_vector_says format before number last m is at kind_is group_is address_is ve
       },
     )
 
-pub says-vector : (format : Format) (before : List Element) (number : ℕ) (last : Option Macroblock) (m : Macroblock) → IsLast last → IsAtVector number last m before → ComponentFits format number Across m → ComponentFits format number Down m → Says format before (vector_elements last m) (mvd_text last m) × IsBehindVector number m (after before (vector_elements last m))
+pub says-vector : (format : Format) (before : List Element) (number : ℕ) (last : Option Macroblock) (m : Macroblock) → IsSentBefore last → IsAtVector number last m before → ComponentFits format number Across m → ComponentFits format number Down m → Says format before (elements_of_vector last m) (mvd_text last m) × IsBehindVector number m (after before (elements_of_vector last m))
 says-vector format before number last m is place across down = elim (cases_Bool (has_vector m.kind)) [
   | inl has ↦
       let es : List Element = mvd_element Across last m ∷ mvd_element Down last m ∷ [] in
-      let e : mvd_element Across last m ∷ mvd_element Down last m ∷ [] ≡ vector_elements last m = sym (cond-true (has_vector m.kind) (mvd_element Across last m ∷ mvd_element Down last m ∷ []) [] has) in
+      let e : mvd_element Across last m ∷ mvd_element Down last m ∷ [] ≡ elements_of_vector last m = sym (cond-true (has_vector m.kind) (mvd_element Across last m ∷ mvd_element Down last m ∷ []) [] has) in
       let t : mvd_word Across last m ++ mvd_word Down last m ≡ mvd_text last m = sym (cond-true (has_vector m.kind) (mvd_word Across last m ++ mvd_word Down last m) [] has) in
       let r = has_vector_says format before number last m is
       (place.at ∙ ap (λ b. cond b (AtMvd Across) (cbp_slot m.kind)) has) place.kind_is place.group_is place.address_is
       (λ axis. place.vector_is axis ∙ ap (λ b. cond b (predictor axis last m) (pos 0)) has)
       (subst (λ b. MatchBool b (IsFit format number Across m) (component Across m ≡ pos 0)) has across)
       (subst (λ b. MatchBool b (IsFit format number Down m) (component Down m ≡ pos 0)) has down) in
-      (says-same format before _ (vector_elements last m) _ (mvd_text last m) e t r.0, subst (λ es. IsBehindVector number m (after before es)) e r.1)
+      (says-same format before _ (elements_of_vector last m) _ (mvd_text last m) e t r.0, subst (λ es. IsBehindVector number m (after before es)) e r.1)
   | inr none ↦
-      let e : [] ≡ vector_elements last m = sym (cond-false (has_vector m.kind) (mvd_element Across last m ∷ mvd_element Down last m ∷ []) [] none) in
+      let e : [] ≡ elements_of_vector last m = sym (cond-false (has_vector m.kind) (mvd_element Across last m ∷ mvd_element Down last m ∷ []) [] none) in
       let t : [] ≡ mvd_text last m = sym (cond-false (has_vector m.kind) (mvd_word Across last m ++ mvd_word Down last m) [] none) in
       let a : component Across m ≡ pos 0 = subst (λ b. MatchBool b (IsFit format number Across m) (component Across m ≡ pos 0)) none across in
       let d : component Down m ≡ pos 0 = subst (λ b. MatchBool b (IsFit format number Down m) (component Down m ≡ pos 0)) none down in (
-        says-same format before [] (vector_elements last m) [] (mvd_text last m) e t (says-none format before),
+        says-same format before [] (elements_of_vector last m) [] (mvd_text last m) e t (says-none format before),
         subst (λ es. IsBehindVector number m (after before es)) e (record {
           at = place.at ∙ ap (λ b. cond b (AtMvd Across) (cbp_slot m.kind)) none;
           kind_is = place.kind_is;
@@ -169,7 +169,7 @@ says_blocks_alone format before number m place none count six fit = elim (cases_
       (r.0 ∙ ap (λ b. cond b 6 0) (sym inter), r.1)
 ]
 
-pub says-rest : (format : Format) (before : List Element) (number : ℕ) (m : Macroblock) → IsBehindVector number m before → blocks before ≡ cond (is_intra m.kind) 6 0 → length m.blocks ≡ 6 → BlocksFit m.kind m.blocks → Says format before (cbp_elements m ++ blocks_elements m.blocks) (cbp_text m ++ flat_map sent_block_text m.blocks) × IsDone number m (after before (cbp_elements m ++ blocks_elements m.blocks))
+pub says-rest : (format : Format) (before : List Element) (number : ℕ) (m : Macroblock) → IsBehindVector number m before → blocks before ≡ cond (is_intra m.kind) 6 0 → length m.blocks ≡ 6 → BlocksFit m.kind m.blocks → Says format before (elements_of_pattern m ++ blocks_elements m.blocks) (cbp_text m ++ flat_map sent_block_text m.blocks) × IsDone number m (after before (elements_of_pattern m ++ blocks_elements m.blocks))
 says-rest format before number m place count six fit = elim (cases_Bool (has_cbp m.kind)) [
   | inl has ↦
       let inter : is_intra m.kind ≡ false = not-both m.kind has in
@@ -183,10 +183,10 @@ says-rest format before number m place count six fit = elim (cases_Bool (has_cbp
       let stands : Stands format before (Cbp (coded_block_pattern m.blocks)) = record { takes = subst (λ s. Takes s (Cbp (coded_block_pattern m.blocks))) (sym at) (coded_block_pattern m.blocks, (some, few), refl); good = refl } in
       let next_at : block_slot (kind before) (ones (coded_block_pattern m.blocks)) ≡ block_slot (kind before) (sent m.blocks) = ap (block_slot (kind before)) ones_are in
       let valid : AreBlocksOf (is_intra (kind before)) m.blocks = subst (λ b. AreBlocksOf b m.blocks) (sym (ap is_intra place.kind_is ∙ inter)) (blocks-coded m.blocks coded.1) in
-      let e : Cbp (coded_block_pattern m.blocks) ∷ [] ≡ cbp_elements m = sym (cond-true (has_cbp m.kind) (Cbp (coded_block_pattern m.blocks) ∷ []) [] has) in
+      let e : Cbp (coded_block_pattern m.blocks) ∷ [] ≡ elements_of_pattern m = sym (cond-true (has_cbp m.kind) (Cbp (coded_block_pattern m.blocks) ∷ []) [] has) in
       let t : word_in before (Cbp (coded_block_pattern m.blocks)) ≡ cbp_text m = sym (cond-true (has_cbp m.kind) (word_in before (Cbp (coded_block_pattern m.blocks))) [] has) in
       let blocks_say = says-blocks format (Cbp (coded_block_pattern m.blocks) ∷ before) m.blocks next_at ones_are valid in (
-        says-same format before (Cbp (coded_block_pattern m.blocks) ∷ blocks_elements m.blocks) (cbp_elements m ++ blocks_elements m.blocks) (cbp_text m ++ flat_map sent_block_text m.blocks) (cbp_text m ++ flat_map sent_block_text m.blocks) (ap (λ es. es ++ blocks_elements m.blocks) e) refl (says-cons format before (Cbp (coded_block_pattern m.blocks)) (blocks_elements m.blocks) (cbp_text m) (flat_map sent_block_text m.blocks) stands t blocks_say),
+        says-same format before (Cbp (coded_block_pattern m.blocks) ∷ blocks_elements m.blocks) (elements_of_pattern m ++ blocks_elements m.blocks) (cbp_text m ++ flat_map sent_block_text m.blocks) (cbp_text m ++ flat_map sent_block_text m.blocks) (ap (λ es. es ++ blocks_elements m.blocks) e) refl (says-cons format before (Cbp (coded_block_pattern m.blocks)) (blocks_elements m.blocks) (cbp_text m) (flat_map sent_block_text m.blocks) stands t blocks_say),
         subst (λ es. IsDone number m (after before (es ++ blocks_elements m.blocks))) e (done_blocks number m (Cbp (coded_block_pattern m.blocks) ∷ before) m.blocks place.group_is place.address_is (both_axes (λ axis. vector_component axis (Cbp (coded_block_pattern m.blocks) ∷ before) ≡ component axis m) (place.vector_is Across) (place.vector_is Down)) next_at ones_are),
       )
   | inr none ↦
@@ -195,9 +195,9 @@ says-rest format before number m place count six fit = elim (cases_Bool (has_cbp
       place.at ∙ (ap (λ b. cond b AtCbp (block_slot m.kind (cond (is_intra m.kind) 6 0))) none ∙ (ap (block_slot m.kind) (sym r.0) ∙ ap (λ k. block_slot k (sent m.blocks)) (sym place.kind_is))) in
       let count_is : blocks before ≡ sent m.blocks = count ∙ sym r.0 in
       let valid : AreBlocksOf (is_intra (kind before)) m.blocks = subst (λ b. AreBlocksOf b m.blocks) (sym (ap is_intra place.kind_is)) r.1 in
-      let e : [] ≡ cbp_elements m = sym (cond-false (has_cbp m.kind) (Cbp (coded_block_pattern m.blocks) ∷ []) [] none) in
+      let e : [] ≡ elements_of_pattern m = sym (cond-false (has_cbp m.kind) (Cbp (coded_block_pattern m.blocks) ∷ []) [] none) in
       let t : [] ≡ cbp_text m = sym (cond-false (has_cbp m.kind) (word_in before (Cbp (coded_block_pattern m.blocks))) [] none) in (
-        says-same format before (blocks_elements m.blocks) (cbp_elements m ++ blocks_elements m.blocks) (flat_map sent_block_text m.blocks) (cbp_text m ++ flat_map sent_block_text m.blocks) (ap (λ es. es ++ blocks_elements m.blocks) e) (ap (λ t. t ++ flat_map sent_block_text m.blocks) t) (says-blocks format before m.blocks at count_is valid),
+        says-same format before (blocks_elements m.blocks) (elements_of_pattern m ++ blocks_elements m.blocks) (flat_map sent_block_text m.blocks) (cbp_text m ++ flat_map sent_block_text m.blocks) (ap (λ es. es ++ blocks_elements m.blocks) e) (ap (λ t. t ++ flat_map sent_block_text m.blocks) t) (says-blocks format before m.blocks at count_is valid),
         subst (λ es. IsDone number m (after before (es ++ blocks_elements m.blocks))) e (done_blocks number m before m.blocks place.group_is place.address_is place.vector_is at count_is),
       )
 ]
@@ -227,7 +227,7 @@ at-vector number last m before place rise at =
           (ap (λ (s : MbKind × ℕ × ℕ × ℤ × ℤ). s.4) same ∙ predicts Down);
     }
 
-pub vector-blocks : (before : List Element) (last : Option Macroblock) (m : Macroblock) → blocks (after before (vector_elements last m)) ≡ blocks before
+pub vector-blocks : (before : List Element) (last : Option Macroblock) (m : Macroblock) → blocks (after before (elements_of_vector last m)) ≡ blocks before
 vector-blocks before last m = elim (cases_Bool (has_vector m.kind)) [
   | inl has ↦ ap (λ es. blocks (after before es)) (cond-true (has_vector m.kind) (mvd_element Across last m ∷ mvd_element Down last m ∷ []) [] has)
   | inr none ↦ ap (λ es. blocks (after before es)) (cond-false (has_vector m.kind) (mvd_element Across last m ∷ mvd_element Down last m ∷ []) [] none)
@@ -255,12 +255,12 @@ done-behind format number m before some valid done =
 
 -- the parts of a macroblock behind MTYPE
 abbrev pub body : Option Macroblock → Macroblock → List Element
-body last m = mquant_elements m.mquant ++ (vector_elements last m ++ (cbp_elements m ++ blocks_elements m.blocks))
+body last m = mquant_elements m.mquant ++ (elements_of_vector last m ++ (elements_of_pattern m ++ blocks_elements m.blocks))
 
-pub after-body : (before : List Element) (last : Option Macroblock) (m : Macroblock) → after before (body last m) ≡ after (after (after before (mquant_elements m.mquant)) (vector_elements last m)) (cbp_elements m ++ blocks_elements m.blocks)
+pub after-body : (before : List Element) (last : Option Macroblock) (m : Macroblock) → after before (body last m) ≡ after (after (after before (mquant_elements m.mquant)) (elements_of_vector last m)) (elements_of_pattern m ++ blocks_elements m.blocks)
 after-body before last m =
-    after-append before (mquant_elements m.mquant) (vector_elements last m ++ (cbp_elements m ++ blocks_elements m.blocks))
-    ∙ after-append (after before (mquant_elements m.mquant)) (vector_elements last m) (cbp_elements m ++ blocks_elements m.blocks)
+    after-append before (mquant_elements m.mquant) (elements_of_vector last m ++ (elements_of_pattern m ++ blocks_elements m.blocks))
+    ∙ after-append (after before (mquant_elements m.mquant)) (elements_of_vector last m) (elements_of_pattern m ++ blocks_elements m.blocks)
 
 five : (a b c d e f : List Bool) → a ++ (b ++ (c ++ (d ++ (e ++ f)))) ≡ a ++ b ++ c ++ d ++ e ++ f
 five a b c d e f =
@@ -274,17 +274,17 @@ stands-mba format number last m before place rise most = record {
   good = one_pass (nat_lt 33 (address before + (m.address - address_of last))) BadAddress (le-ltb 33 (address before + (m.address - address_of last)) (omega (arith, place.address_is, rise, most)));
 }
 
-pub says-macroblock : (format : Format) (number : ℕ) (last : Option Macroblock) (m : Macroblock) (before : List Element) → IsBehind number last before → address_of last < m.address → m.address ≤ 33 → IsValidMacroblock format number m → Says format before (macroblock_elements last m) (macroblock_text last m) × IsBehind number (Some m) (after before (macroblock_elements last m))
+pub says-macroblock : (format : Format) (number : ℕ) (last : Option Macroblock) (m : Macroblock) (before : List Element) → IsBehind number last before → address_of last < m.address → m.address ≤ 33 → IsValidMacroblock format number m → Says format before (elements_of_macroblock last m) (macroblock_text last m) × IsBehind number (Some m) (after before (elements_of_macroblock last m))
 unfolding macroblock_text
 says-macroblock format number last m before place rise most valid =
     let q = quantiser_says format (headed before last m) (has_mquant m.kind) m.kind m.mquant refl refl valid.mquant in
     let v_at = at-vector number last m before place rise q.1 in
     let v = says-vector format (after (headed before last m) (mquant_elements m.mquant)) number last m place.last_is v_at valid.across valid.down in
-    let count : blocks (after (after (headed before last m) (mquant_elements m.mquant)) (vector_elements last m)) ≡ cond (is_intra m.kind) 6 0 = vector-blocks (after (headed before last m) (mquant_elements m.mquant)) last m ∙ mquant-blocks (headed before last m) m.mquant in
-    let r = says-rest format (after (after (headed before last m) (mquant_elements m.mquant)) (vector_elements last m)) number m v.1 count valid.six valid.blocks in
-    let parts = says-append format (headed before last m) (mquant_elements m.mquant) _ (mquant_text m.mquant) _ q.0 (says-append format (after (headed before last m) (mquant_elements m.mquant)) (vector_elements last m) _ (mvd_text last m) _ v.0 r.0) in
+    let count : blocks (after (after (headed before last m) (mquant_elements m.mquant)) (elements_of_vector last m)) ≡ cond (is_intra m.kind) 6 0 = vector-blocks (after (headed before last m) (mquant_elements m.mquant)) last m ∙ mquant-blocks (headed before last m) m.mquant in
+    let r = says-rest format (after (after (headed before last m) (mquant_elements m.mquant)) (elements_of_vector last m)) number m v.1 count valid.six valid.blocks in
+    let parts = says-append format (headed before last m) (mquant_elements m.mquant) _ (mquant_text m.mquant) _ q.0 (says-append format (after (headed before last m) (mquant_elements m.mquant)) (elements_of_vector last m) _ (mvd_text last m) _ v.0 r.0) in
     let mtype : Stands format (Mba (m.address - address_of last) ∷ before) (Mtype m.kind) = record { takes = (m.kind, refl); good = refl } in
     let whole = says-cons format before (Mba (m.address - address_of last)) (Mtype m.kind ∷ body last m) (mba_word last m) _ (stands-mba format number last m before place rise most) refl (says-cons format (Mba (m.address - address_of last) ∷ before) (Mtype m.kind) (body last m) (mtype_word m.kind) _ mtype refl parts) in (
-      says-text format before (macroblock_elements last m) _ _ (five (mba_word last m) (mtype_word m.kind) (mquant_text m.mquant) (mvd_text last m) (cbp_text m) (flat_map sent_block_text m.blocks)) whole,
-      done-behind format number m (after before (macroblock_elements last m)) (omega (arith, rise)) valid (subst (λ b. IsDone number m b) (sym (after-body (headed before last m) last m)) r.1),
+      says-text format before (elements_of_macroblock last m) _ _ (five (mba_word last m) (mtype_word m.kind) (mquant_text m.mquant) (mvd_text last m) (cbp_text m) (flat_map sent_block_text m.blocks)) whole,
+      done-behind format number m (after before (elements_of_macroblock last m)) (omega (arith, rise)) valid (subst (λ b. IsDone number m b) (sym (after-body (headed before last m) last m)) r.1),
     )

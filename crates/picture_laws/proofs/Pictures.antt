@@ -17,7 +17,7 @@ use Rattle.pel_model.specs.Walk.{Stop, start, after, Goes, judged, read}
 use Rattle.pel_model.specs.Grammar.{Element, Psc, Tr, Ptype, Pei, Pspare, Gbsc, Gei, Gspare, Stuffing, Cbp, Tcoeff, Eob, Slot, AtGroup, AtMacroblock, slot, begun, faults, first_why, is_group, may_end, is_end, or_no_start, rows, next}
 use Rattle.pel_model.proofs.Walks.{after-append}
 use Rattle.pel_model.specs.Elements.{dc_elements, block_elements, blocks_elements, mquant_elements, spare_elements}
-use Rattle.picture_laws.specs.PictureElements.{mvd_element, vector_elements, cbp_elements, macroblock_elements, macroblocks_elements, group_elements, groups_elements, header_elements, elements}
+use Rattle.picture_laws.specs.PictureElements.{mvd_element, elements_of_vector, elements_of_pattern, elements_of_macroblock, elements_of_macroblocks, elements_of_group, elements_of_groups, elements_of_header, elements_of_picture}
 use Rattle.picture_laws.specs.TextLaws.{ReadInItsForm}
 use Rattle.picture_laws.specs.Laws.{AcceptedIsRead}
 use Rattle.picture_laws.proofs.Slots.{psc}
@@ -91,7 +91,7 @@ type_long : (format : Format) (free : FreeBits) → length (type_text format fre
 type_long Qcif free = refl
 type_long Cif free = refl
 
-pub says-header : (format : Format) (free : FreeBits) (spares : List ℕ) (tr : ℕ) → tr < 32 → Says format [] (header_elements format free spares tr) (picture_header_text format free spares tr) × IsAtGroup 0 (after [] (header_elements format free spares tr))
+pub says-header : (format : Format) (free : FreeBits) (spares : List ℕ) (tr : ℕ) → tr < 32 → Says format [] (elements_of_header format free spares tr) (picture_header_text format free spares tr) × IsAtGroup 0 (after [] (elements_of_header format free spares tr))
 unfolding picture_header_text
 says-header format free spares tr fits =
     let long = type_long format free in
@@ -103,12 +103,12 @@ says-header format free spares tr fits =
       record { at = inl s.1; group_is = (let e = pspares-group (Ptype (number (type_text format free)) ∷ Tr tr ∷ Psc ∷ []) spares in omega (arith, e)) },
     )
 
-pub says-picture : (format : Format) (form : Form) (p : Picture) → GroupsFit form.groups p.groups → IsValid format p → Says format [] (elements format form p) (sent_text format form p) × ((high : ℕ) × IsAtGroup high (after [] (elements format form p)))
+pub says-picture : (format : Format) (form : Form) (p : Picture) → GroupsFit form.groups p.groups → IsValid format p → Says format [] (elements_of_picture format form p) (sent_text format form p) × ((high : ℕ) × IsAtGroup high (after [] (elements_of_picture format form p)))
 says-picture format form p fit valid =
     let h = says-header format form.free form.spares p.tr valid.so_far.tr in
-    let g = says-groups format (after [] (header_elements format form.free form.spares p.tr)) 0 form.groups p.groups h.1 fit (valid-rise format p valid) valid.so_far.groups in (
-      says-append format [] (header_elements format form.free form.spares p.tr) (groups_elements form.groups p.groups) (picture_header_text format form.free form.spares p.tr) (sent_groups_text form.groups p.groups) h.0 g.0,
-      (g.1.0, subst (λ b. IsAtGroup g.1.0 b) (sym (after-append [] (header_elements format form.free form.spares p.tr) (groups_elements form.groups p.groups))) g.1.1),
+    let g = says-groups format (after [] (elements_of_header format form.free form.spares p.tr)) 0 form.groups p.groups h.1 fit (valid-rise format p valid) valid.so_far.groups in (
+      says-append format [] (elements_of_header format form.free form.spares p.tr) (elements_of_groups form.groups p.groups) (picture_header_text format form.free form.spares p.tr) (sent_groups_text form.groups p.groups) h.0 g.0,
+      (g.1.0, subst (λ b. IsAtGroup g.1.0 b) (sym (after-append [] (elements_of_header format form.free form.spares p.tr) (elements_of_groups form.groups p.groups))) g.1.1),
     )
 
 -- ---- how many groups are begun
@@ -148,31 +148,31 @@ none_mquant : (q : Option ℕ) → gbscs (mquant_elements q) ≡ 0
 none_mquant None = refl
 none_mquant (Some q) = refl
 
-none_vector : (last : Option Macroblock) (m : Macroblock) → gbscs (vector_elements last m) ≡ 0
+none_vector : (last : Option Macroblock) (m : Macroblock) → gbscs (elements_of_vector last m) ≡ 0
 none_vector last m = elim (cases_Bool (has_vector m.kind)) [
   | inl has ↦ ap gbscs (cond-true (has_vector m.kind) (mvd_element Across last m ∷ mvd_element Down last m ∷ []) [] has)
   | inr none ↦ ap gbscs (cond-false (has_vector m.kind) (mvd_element Across last m ∷ mvd_element Down last m ∷ []) [] none)
 ]
 
-none_cbp : (m : Macroblock) → gbscs (cbp_elements m) ≡ 0
+none_cbp : (m : Macroblock) → gbscs (elements_of_pattern m) ≡ 0
 none_cbp m = elim (cases_Bool (has_cbp m.kind)) [
   | inl has ↦ ap gbscs (cond-true (has_cbp m.kind) (Cbp (coded_block_pattern m.blocks) ∷ []) [] has)
   | inr none ↦ ap gbscs (cond-false (has_cbp m.kind) (Cbp (coded_block_pattern m.blocks) ∷ []) [] none)
 ]
 
-none_macroblock : (last : Option Macroblock) (m : Macroblock) → gbscs (macroblock_elements last m) ≡ 0
+none_macroblock : (last : Option Macroblock) (m : Macroblock) → gbscs (elements_of_macroblock last m) ≡ 0
 none_macroblock last m =
-    gbscs-append (mquant_elements m.mquant) (vector_elements last m ++ (cbp_elements m ++ blocks_elements m.blocks))
-    ∙ omega (arith, none_mquant m.mquant, gbscs-append (vector_elements last m) (cbp_elements m ++ blocks_elements m.blocks), none_vector last m, gbscs-append (cbp_elements m) (blocks_elements m.blocks), none_cbp m, none_blocks m.blocks)
+    gbscs-append (mquant_elements m.mquant) (elements_of_vector last m ++ (elements_of_pattern m ++ blocks_elements m.blocks))
+    ∙ omega (arith, none_mquant m.mquant, gbscs-append (elements_of_vector last m) (elements_of_pattern m ++ blocks_elements m.blocks), none_vector last m, gbscs-append (elements_of_pattern m) (blocks_elements m.blocks), none_cbp m, none_blocks m.blocks)
 
 none_stuffing : (n : ℕ) → gbscs (replicate n Stuffing) ≡ 0
 none_stuffing zero = refl
 none_stuffing (suc n) = none_stuffing n
 
-none_macroblocks : (last : Option Macroblock) (behind : List ℕ) (ms : List Macroblock) → gbscs (macroblocks_elements last behind ms) ≡ 0
+none_macroblocks : (last : Option Macroblock) (behind : List ℕ) (ms : List Macroblock) → gbscs (elements_of_macroblocks last behind ms) ≡ 0
 none_macroblocks last behind [] = refl
 none_macroblocks last behind (m ∷ ms) =
-    omega (arith, gbscs-append (macroblock_elements last m) (replicate (get_or behind 0 0) Stuffing ++ macroblocks_elements (Some m) (drop 1 behind) ms), none_macroblock last m, gbscs-append (replicate (get_or behind 0 0) Stuffing) (macroblocks_elements (Some m) (drop 1 behind) ms), none_stuffing (get_or behind 0 0), none_macroblocks (Some m) (drop 1 behind) ms)
+    omega (arith, gbscs-append (elements_of_macroblock last m) (replicate (get_or behind 0 0) Stuffing ++ elements_of_macroblocks (Some m) (drop 1 behind) ms), none_macroblock last m, gbscs-append (replicate (get_or behind 0 0) Stuffing) (elements_of_macroblocks (Some m) (drop 1 behind) ms), none_stuffing (get_or behind 0 0), none_macroblocks (Some m) (drop 1 behind) ms)
 
 none_gspares : (spares : List ℕ) → gbscs (spare_elements Gei Gspare spares) ≡ 0
 none_gspares [] = refl
@@ -182,20 +182,20 @@ none_pspares : (spares : List ℕ) → gbscs (spare_elements Pei Pspare spares) 
 none_pspares [] = refl
 none_pspares (n ∷ ns) = none_pspares ns
 
-one_group : (g : Group) (spares : List ℕ) (stuffings : ℕ) (behind : List ℕ) → gbscs (group_elements (Sent spares stuffings behind) g) ≡ 1
+one_group : (g : Group) (spares : List ℕ) (stuffings : ℕ) (behind : List ℕ) → gbscs (elements_of_group (Sent spares stuffings behind) g) ≡ 1
 one_group g spares stuffings behind =
-    omega (arith, gbscs-append (spare_elements Gei Gspare spares) (replicate stuffings Stuffing ++ macroblocks_elements None behind g.macroblocks), none_gspares spares, gbscs-append (replicate stuffings Stuffing) (macroblocks_elements None behind g.macroblocks), none_stuffing stuffings, none_macroblocks None behind g.macroblocks)
+    omega (arith, gbscs-append (spare_elements Gei Gspare spares) (replicate stuffings Stuffing ++ elements_of_macroblocks None behind g.macroblocks), none_gspares spares, gbscs-append (replicate stuffings Stuffing) (elements_of_macroblocks None behind g.macroblocks), none_stuffing stuffings, none_macroblocks None behind g.macroblocks)
 
-all_groups : (forms : List GroupForm) (gs : List Group) → GroupsFit forms gs → gbscs (groups_elements forms gs) + left_out forms ≡ length gs
+all_groups : (forms : List GroupForm) (gs : List Group) → GroupsFit forms gs → gbscs (elements_of_groups forms gs) + left_out forms ≡ length gs
 all_groups [] [] fit = refl
 all_groups [] (g ∷ gs) fit = absurd fit
 all_groups (f ∷ forms) [] fit = absurd fit
 all_groups (LeftOut ∷ forms) (g ∷ gs) fit = omega (arith, all_groups forms gs fit.1)
-all_groups (Sent spares stuffings behind ∷ forms) (g ∷ gs) fit = omega (arith, all_groups forms gs fit.1, gbscs-append (group_elements (Sent spares stuffings behind) g) (groups_elements forms gs), one_group g spares stuffings behind)
+all_groups (Sent spares stuffings behind ∷ forms) (g ∷ gs) fit = omega (arith, all_groups forms gs fit.1, gbscs-append (elements_of_group (Sent spares stuffings behind) g) (elements_of_groups forms gs), one_group g spares stuffings behind)
 
-pub begun-picture : (format : Format) (form : Form) (p : Picture) → GroupsFit form.groups p.groups → begun (after [] (elements format form p)) + left_out form.groups ≡ length p.groups
+pub begun-picture : (format : Format) (form : Form) (p : Picture) → GroupsFit form.groups p.groups → begun (after [] (elements_of_picture format form p)) + left_out form.groups ≡ length p.groups
 begun-picture format form p fit =
-    omega (arith, begun-after [] (elements format form p), gbscs-append (header_elements format form.free form.spares p.tr) (groups_elements form.groups p.groups), none_pspares form.spares, all_groups form.groups p.groups fit)
+    omega (arith, begun-after [] (elements_of_picture format form p), gbscs-append (elements_of_header format form.free form.spares p.tr) (elements_of_groups form.groups p.groups), none_pspares form.spares, all_groups form.groups p.groups fit)
 
 -- ---- the end
 
@@ -221,17 +221,17 @@ pub may-end : (s : Slot) → IsEnding s → (may_end s ≡ true) × (due s ≡ 0
 may-end s h = elim h [ inl g ↦ (ap may_end g, ap due g) | inr m ↦ (ap may_end m, ap due m) ]
 
 -- what spells a valid picture is read to its end, whatever its length
-pub spelled-read : (format : Format) (bits : List Bool) (form : Form) (p : Picture) → IsSpelling format form bits p → IsValid format p → Goes (next format) [] (start bits) (elements format form p) (replicate form.zeros false, 0 + length (sent_text format form p)) × (next format (after [] (elements format form p)) (replicate form.zeros false, 0 + length (sent_text format form p)) ≡ Stop) × (due (slot (after [] (elements format form p))) ≡ 0)
+pub spelled-read : (format : Format) (bits : List Bool) (form : Form) (p : Picture) → IsSpelling format form bits p → IsValid format p → Goes (next format) [] (start bits) (elements_of_picture format form p) (replicate form.zeros false, 0 + length (sent_text format form p)) × (next format (after [] (elements_of_picture format form p)) (replicate form.zeros false, 0 + length (sent_text format form p)) ≡ Stop) × (due (slot (after [] (elements_of_picture format form p))) ≡ 0)
 spelled-read format bits form p spelling valid =
     let says = says-picture format form p spelling.fits valid in
     let end : List Bool × ℕ = (replicate form.zeros false, 0 + length (sent_text format form p)) in
-    let ending = may-end (slot (after [] (elements format form p))) says.1.1.at in (
-      walk-goes format [] (start bits) (elements format form p) end (record {
+    let ending = may-end (slot (after [] (elements_of_picture format form p))) says.1.1.at in (
+      walk-goes format [] (start bits) (elements_of_picture format form p) end (record {
         chain = says.0.chain;
         bits = spelling.text ∙ ap (λ t. t ++ replicate form.zeros false) (sym says.0.text);
         place = ap (λ t. 0 + length t) (sym says.0.text);
       }),
-      stops format (after [] (elements format form p)) end ending.0 (end-of-zeros form.zeros spelling.zeros),
+      stops format (after [] (elements_of_picture format form p)) end ending.0 (end-of-zeros form.zeros spelling.zeros),
       ending.1,
     )
 
@@ -242,13 +242,13 @@ read-in-form format form bits p accepted =
     let read_ = spelled-read format bits form p spelling accepted.valid in
     let end : List Bool × ℕ = (replicate form.zeros false, 0 + length (sent_text format form p)) in
     let begun_is = begun-picture format form p spelling.fits in
-    let fits : claimed format (after [] (elements format form p)) (0 + length (sent_text format form p)) ≤ limit format = omega (arith, read_.2, begun_is, accepted.valid.whole, accepted.short) in
+    let fits : claimed format (after [] (elements_of_picture format form p)) (0 + length (sent_text format form p)) ≤ limit format = omega (arith, read_.2, begun_is, accepted.valid.whole, accepted.short) in
     record {
       end = end;
-      walk = goes-picture format [] (start bits) (elements format form p) end read_.0 fits;
-      stop = picture-stops format (after [] (elements format form p)) end read_.1;
+      walk = goes-picture format [] (start bits) (elements_of_picture format form p) end read_.0 fits;
+      stop = picture-stops format (after [] (elements_of_picture format form p)) end read_.1;
     }
 
 pub accepted-read : AcceptedIsRead
 accepted-read format bits p accepted =
-    (elements format accepted.0 p, read-in-form format accepted.0 bits p accepted.1, (accepted.0, accepted.1.spelling.fits, refl))
+    (elements_of_picture format accepted.0 p, read-in-form format accepted.0 bits p accepted.1, (accepted.0, accepted.1.spelling.fits, refl))

@@ -14,7 +14,7 @@ use Rattle.pel_model.specs.Walk.{after}
 use Rattle.pel_model.specs.Grammar.{Element, Pei, Pspare, Gbsc, Gn, Gquant, Gei, Gspare, Stuffing, Mba, AtPei, AtPspare, AtGn, AtGquant, AtGei, AtGspare, AtMacroblock, slot, group, vector_component, is_group, may_end}
 use Rattle.picture_laws.specs.SoFar.{IsBehind}
 use Rattle.pel_model.specs.Elements.{spare_elements}
-use Rattle.picture_laws.specs.PictureElements.{macroblock_elements, macroblocks_elements, group_elements, groups_elements}
+use Rattle.picture_laws.specs.PictureElements.{elements_of_macroblock, elements_of_macroblocks, elements_of_group, elements_of_groups}
 use Rattle.vlc_codes.proofs.FoundRows.{Among}
 use Rattle.picture_laws.proofs.Slots.{Takes}
 use Rattle.picture_laws.proofs.Blocks.{one_passed}
@@ -33,7 +33,7 @@ pub record ReadsMacroblocks (format : Format) (number : ℕ) (last : Option Macr
   pub ms : List Macroblock
   pub behind : List ℕ
   pub rest : List Element
-  pub is : es ≡ replicate stuffings Stuffing ++ (macroblocks_elements last behind ms ++ rest)
+  pub is : es ≡ replicate stuffings Stuffing ++ (elements_of_macroblocks last behind ms ++ rest)
   pub rise : AddressesRise (address_of last) ms
   pub valid : All (IsValidMacroblock format number) ms
   pub next : IsOpening rest
@@ -50,14 +50,14 @@ one_macroblock format number last all m r = record {
   ms = m.m ∷ r.ms;
   behind = r.stuffings ∷ r.behind;
   rest = r.rest;
-  is = m.is ∙ (ap (λ t. macroblock_elements last m.m ++ t) r.is ∙ join3 (macroblock_elements last m.m) (replicate r.stuffings Stuffing) (macroblocks_elements (Some m.m) r.behind r.ms) r.rest);
+  is = m.is ∙ (ap (λ t. elements_of_macroblock last m.m ++ t) r.is ∙ join3 (elements_of_macroblock last m.m) (replicate r.stuffings Stuffing) (elements_of_macroblocks (Some m.m) r.behind r.ms) r.rest);
   rise = (m.rise, m.most, r.rise);
   valid = All-cons (IsValidMacroblock format number) m.m r.ms m.valid r.valid;
   next = r.next;
 }
 
-shorter : (last : Option Macroblock) (m : Macroblock) (all rest : List Element) → all ≡ macroblock_elements last m ++ rest → length rest < length all
-shorter last m all rest is = omega (arith, ap length is, length-append (macroblock_elements last m) rest)
+shorter : (last : Option Macroblock) (m : Macroblock) (all rest : List Element) → all ≡ elements_of_macroblock last m ++ rest → length rest < length all
+shorter last m all rest is = omega (arith, ap length is, length-append (elements_of_macroblock last m) rest)
 
 pub read-macroblocks : (fuel : ℕ) (format : Format) (before es : List Element) (number : ℕ) (last : Option Macroblock) → length es ≤ fuel → IsBehind number last before → IsRest format before es → ReadsMacroblocks format number last es
 read-macroblocks fuel format before [] number last few place r = none_there format number last [] (inl refl)
@@ -68,10 +68,10 @@ read-macroblocks (suc fuel) format before (e ∷ es) number last few place r =
       | inl a ↦
           let s = rest-step format before e (Mba a.0) es r a.2 in
           let m = read-macroblock format before es number last a.0 place a.1 s.0 s.1 in
-          let all : e ∷ es ≡ macroblock_elements last m.m ++ m.rest = ap (λ x. x ∷ es) a.2 ∙ m.is in
-          let left = rest-after format before (e ∷ es) (macroblock_elements last m.m) m.rest r all in
+          let all : e ∷ es ≡ elements_of_macroblock last m.m ++ m.rest = ap (λ x. x ∷ es) a.2 ∙ m.is in
+          let left = rest-after format before (e ∷ es) (elements_of_macroblock last m.m) m.rest r all in
           let done = (says-macroblock format number last m.m before place m.rise m.most m.valid).1 in
-          let more = read-macroblocks fuel format (after before (macroblock_elements last m.m)) m.rest number (Some m.m) (omega (arith, few, shorter last m.m (e ∷ es) m.rest all)) done left in
+          let more = read-macroblocks fuel format (after before (elements_of_macroblock last m.m)) m.rest number (Some m.m) (omega (arith, few, shorter last m.m (e ∷ es) m.rest all)) done left in
           one_macroblock format number last (e ∷ es) (record { m = m.m; rest = m.rest; is = all; valid = m.valid; rise = m.rise; most = m.most }) more
       | inr a ↦ elim a [
         | inl b ↦
@@ -175,7 +175,7 @@ pub record ReadsGroup (format : Format) (number : ℕ) (es : List Element) : Typ
   pub behind : List ℕ
   pub rest : List Element
   pub number_is : g.number ≡ number
-  pub is : es ≡ group_elements (Sent spares stuffings behind) g ++ rest
+  pub is : es ≡ elements_of_group (Sent spares stuffings behind) g ++ rest
   pub valid : IsValidGroup format g
   pub next : IsOpening rest
 
@@ -187,7 +187,7 @@ group_built format es number quant left is ok s r = record {
   behind = r.behind;
   rest = r.rest;
   number_is = refl;
-  is = is ∙ ap (λ t. Gbsc ∷ (Gn number ∷ (Gquant quant ∷ t))) (s.is ∙ (ap (λ t. spare_elements Gei Gspare s.spares ++ t) r.is ∙ join3 (spare_elements Gei Gspare s.spares) (replicate r.stuffings Stuffing) (macroblocks_elements None r.behind r.ms) r.rest));
+  is = is ∙ ap (λ t. Gbsc ∷ (Gn number ∷ (Gquant quant ∷ t))) (s.is ∙ (ap (λ t. spare_elements Gei Gspare s.spares ++ t) r.is ∙ join3 (spare_elements Gei Gspare s.spares) (replicate r.stuffings Stuffing) (elements_of_macroblocks None r.behind r.ms) r.rest));
   valid = record { quant = ok; addresses = r.rise; macroblocks = r.valid };
   next = r.next;
 }
@@ -237,7 +237,7 @@ OpensAbove format low before es = (es ≡ []) ⊎ ((n : IsGroupNext format befor
 pub record ReadsGroups (format : Format) (numbers : List ℕ) (es : List Element) : Type 0 where
   pub forms : List GroupForm
   pub gs : List Group
-  pub is : es ≡ groups_elements forms gs
+  pub is : es ≡ elements_of_groups forms gs
   pub fits : GroupsFit forms gs
   pub numbers_are : map (λ (g : Group). g.number) gs ≡ numbers
   pub valid : All (IsValidGroup format) gs
@@ -259,7 +259,7 @@ one_sent : (format : Format) (n number : ℕ) (ns : List ℕ) (es : List Element
 one_sent format n number ns es same g r = record {
   forms = Sent g.spares g.stuffings g.behind ∷ r.forms;
   gs = g.g ∷ r.gs;
-  is = g.is ∙ ap (λ t. group_elements (Sent g.spares g.stuffings g.behind) g.g ++ t) r.is;
+  is = g.is ∙ ap (λ t. elements_of_group (Sent g.spares g.stuffings g.behind) g.g ++ t) r.is;
   fits = (tt, r.fits);
   numbers_are = ap (λ k. k ∷ map (λ (g : Group). g.number) r.gs) (g.number_is ∙ same) ∙ ap (λ t. n ∷ t) r.numbers_are;
   valid = All-cons (IsValidGroup format) g.g r.gs g.valid r.valid;
@@ -272,12 +272,12 @@ opens format before es low most opening r = elim opening [
 ]
 
 -- behind a group that was sent
-after_group : (format : Format) (before es : List Element) (low : ℕ) → IsAtGroup low before → IsRest format before es → (n : IsGroupNext format before es) → low < n.number → (g : ReadsGroup format n.number es) → IsAtGroup n.number (after before (group_elements (Sent g.spares g.stuffings g.behind) g.g)) × IsRest format (after before (group_elements (Sent g.spares g.stuffings g.behind) g.g)) g.rest × OpensAbove format n.number (after before (group_elements (Sent g.spares g.stuffings g.behind) g.g)) g.rest
+after_group : (format : Format) (before es : List Element) (low : ℕ) → IsAtGroup low before → IsRest format before es → (n : IsGroupNext format before es) → low < n.number → (g : ReadsGroup format n.number es) → IsAtGroup n.number (after before (elements_of_group (Sent g.spares g.stuffings g.behind) g.g)) × IsRest format (after before (elements_of_group (Sent g.spares g.stuffings g.behind) g.g)) g.rest × OpensAbove format n.number (after before (elements_of_group (Sent g.spares g.stuffings g.behind) g.g)) g.rest
 after_group format before es low place r n above g =
     let known : is_group format g.g.number ≡ true = ap (is_group format) g.number_is ∙ n.known in
     let done = (says-sent format before low g.g g.spares g.stuffings g.behind place known (omega (arith, above, g.number_is)) g.valid).1 in
-    let left = rest-after format before es (group_elements (Sent g.spares g.stuffings g.behind) g.g) g.rest r g.is in
-    (record { at = inr done.at; group_is = omega (arith, done.group_is, g.number_is) }, left, opens format (after before (group_elements (Sent g.spares g.stuffings g.behind) g.g)) g.rest n.number (omega (arith, done.group_is, g.number_is)) g.next left)
+    let left = rest-after format before es (elements_of_group (Sent g.spares g.stuffings g.behind) g.g) g.rest r g.is in
+    (record { at = inr done.at; group_is = omega (arith, done.group_is, g.number_is) }, left, opens format (after before (elements_of_group (Sent g.spares g.stuffings g.behind) g.g)) g.rest n.number (omega (arith, done.group_is, g.number_is)) g.next left)
 
 pub read-groups : (format : Format) (before es : List Element) (low : ℕ) (numbers : List ℕ) → IsAtGroup low before → IsRest format before es → Rising format low numbers → Covers format low numbers → OpensAbove format low before es → ReadsGroups format numbers es
 read-groups format before es low [] place r rise covers opening = elim opening [
@@ -290,9 +290,9 @@ read-groups format before es low (m ∷ numbers) place r rise covers opening = e
     | inl same ↦
         let g = read-group format before es n.0 in
         let a = after_group format before es low place r n.0 n.1 g in
-        let place2 = subst (λ k. IsAtGroup k (after before (group_elements (Sent g.spares g.stuffings g.behind) g.g))) same a.0 in
-        let open2 = subst (λ k. OpensAbove format k (after before (group_elements (Sent g.spares g.stuffings g.behind) g.g)) g.rest) same a.2 in
-        one_sent format m n.0.number numbers es same g (read-groups format (after before (group_elements (Sent g.spares g.stuffings g.behind) g.g)) g.rest m numbers place2 a.1 rise.2 (covers_next format low m numbers rise.1 covers) open2)
+        let place2 = subst (λ k. IsAtGroup k (after before (elements_of_group (Sent g.spares g.stuffings g.behind) g.g))) same a.0 in
+        let open2 = subst (λ k. OpensAbove format k (after before (elements_of_group (Sent g.spares g.stuffings g.behind) g.g)) g.rest) same a.2 in
+        one_sent format m n.0.number numbers es same g (read-groups format (after before (elements_of_group (Sent g.spares g.stuffings g.behind) g.g)) g.rest m numbers place2 a.1 rise.2 (covers_next format low m numbers rise.1 covers) open2)
     | inr later ↦
         one_left_out format m numbers es (read-groups format before es m numbers (higher low m before (omega (arith, rise.1)) place) r rise.2 (covers_next format low m numbers rise.1 covers) (inr (n.0, rises_above format m numbers n.0.number rise.2 later)))
   ]

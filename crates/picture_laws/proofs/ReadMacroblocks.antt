@@ -13,8 +13,8 @@ use Rattle.pel_model.specs.Valid.{IsQuantiser, MquantFits, side, corner, Compone
 use Rattle.pel_model.specs.Walk.{after}
 use Rattle.pel_model.specs.Grammar.{Element, Mba, Mtype, Mquant, Mvd, Cbp, AtMtype, AtMquant, AtMvd, AtCbp, slot, kind, blocks, group, address, vector_component, block_slot, cbp_slot, vector_slot, ones, component_from, in_range}
 use Rattle.pel_model.specs.Elements.{mquant_elements, blocks_elements}
-use Rattle.picture_laws.specs.SoFar.{IsBehind, IsLast}
-use Rattle.picture_laws.specs.PictureElements.{pair_in, mvd_element, vector_elements, cbp_elements, macroblock_elements}
+use Rattle.picture_laws.specs.SoFar.{IsBehind, IsSentBefore}
+use Rattle.picture_laws.specs.PictureElements.{pair_in, mvd_element, elements_of_vector, elements_of_pattern, elements_of_macroblock}
 use Rattle.vlc_codes.proofs.FoundRows.{Among}
 use Rattle.picture_laws.proofs.Slots.{IsStep, IsPattern}
 use Rattle.picture_laws.proofs.Words.{number-fits, length-field}
@@ -56,7 +56,7 @@ pub record ReadsComponent (format : Format) (number : ℕ) (axis : Axis) (last :
   pub is : es ≡ Mvd axis (pair_in (c -ℤ predictor axis last m) mvd_table) ∷ rest
   pub fit : IsFit format number axis m.address c
 
-read_component : (format : Format) (before es : List Element) (number : ℕ) (axis : Axis) (last : Option Macroblock) (m : Macroblock) → IsLast last → group before ≡ number → address before ≡ m.address → vector_component axis before ≡ predictor axis last m → (row : List Bool × (ℤ × ℤ)) → Among row mvd_table → Stands format before (Mvd axis row.1) → es ≡ es → (all : List Element) → all ≡ Mvd axis row.1 ∷ es → ReadsComponent format number axis last m all
+read_component : (format : Format) (before es : List Element) (number : ℕ) (axis : Axis) (last : Option Macroblock) (m : Macroblock) → IsSentBefore last → group before ≡ number → address before ≡ m.address → vector_component axis before ≡ predictor axis last m → (row : List Bool × (ℤ × ℤ)) → Among row mvd_table → Stands format before (Mvd axis row.1) → es ≡ es → (all : List Element) → all ≡ Mvd axis row.1 ∷ es → ReadsComponent format number axis last m all
 read_component format before es number axis last m is group_is address_is vector_is row among stands same all all_is =
     let both = two_passed (not (in_range (component_from (vector_component axis before) row.1))) (not (stays_within (side format axis) (corner axis (group before) (address before)) (component_from (vector_component axis before) row.1))) BadVector VectorOutside stands.good in
     let inside : in_range (component_from (predictor axis last m) row.1) ≡ true = ap (λ v. in_range (component_from v row.1)) (sym vector_is) ∙ not-false (in_range (component_from (vector_component axis before) row.1)) both.0 in
@@ -72,7 +72,7 @@ read_component format before es number axis last m is group_is address_is vector
       fit = (range-in (component_from (predictor axis last m) row.1) inside, within);
     }
 
-read-component : (format : Format) (before es : List Element) (number : ℕ) (axis : Axis) (last : Option Macroblock) (m : Macroblock) → IsLast last → slot before ≡ AtMvd axis → group before ≡ number → address before ≡ m.address → vector_component axis before ≡ predictor axis last m → IsRest format before es → ReadsComponent format number axis last m es
+read-component : (format : Format) (before es : List Element) (number : ℕ) (axis : Axis) (last : Option Macroblock) (m : Macroblock) → IsSentBefore last → slot before ≡ AtMvd axis → group before ≡ number → address before ≡ m.address → vector_component axis before ≡ predictor axis last m → IsRest format before es → ReadsComponent format number axis last m es
 read-component format before es number axis last m is at group_is address_is vector_is r =
     let more = rest-more format before es (AtMvd axis) at refl r in
     let s = rest-step format before more.first (Mvd axis more.takes.0.1) more.rest more.left more.takes.2 in
@@ -85,7 +85,7 @@ pub record ReadsVector (format : Format) (number : ℕ) (last : Option Macrobloc
   pub a : ℤ
   pub d : ℤ
   pub rest : List Element
-  pub is : es ≡ vector_elements last (with_vector m a d) ++ rest
+  pub is : es ≡ elements_of_vector last (with_vector m a d) ++ rest
   pub across : ComponentFits format number Across (with_vector m a d)
   pub down : ComponentFits format number Down (with_vector m a d)
 
@@ -105,7 +105,7 @@ vector_read format number last m es has a d =
       down = subst (λ b. MatchBool b (IsFit format number Down m.address d.c) (d.c ≡ pos 0)) (sym has) d.fit;
     }
 
-pub read-vector : (format : Format) (before es : List Element) (number : ℕ) (last : Option Macroblock) (m : Macroblock) → IsLast last → IsAtVector number last m before → IsRest format before es → ReadsVector format number last m es
+pub read-vector : (format : Format) (before es : List Element) (number : ℕ) (last : Option Macroblock) (m : Macroblock) → IsSentBefore last → IsAtVector number last m before → IsRest format before es → ReadsVector format number last m es
 read-vector format before es number last m is place r = elim (cases_Bool (has_vector m.kind)) [
   | inl has ↦
       let at : slot before ≡ AtMvd Across = place.at ∙ ap (λ b. cond b (AtMvd Across) (cbp_slot m.kind)) has in
@@ -132,7 +132,7 @@ with_blocks m bs = record { address = m.address; kind = m.kind; mquant = m.mquan
 pub record ReadsRest (m : Macroblock) (es : List Element) : Type 0 where
   pub bs : List (Option Block)
   pub rest : List Element
-  pub is : es ≡ (cbp_elements (with_blocks m bs) ++ blocks_elements bs) ++ rest
+  pub is : es ≡ (elements_of_pattern (with_blocks m bs) ++ blocks_elements bs) ++ rest
   pub six : length bs ≡ 6
   pub fits : BlocksFit m.kind bs
 
@@ -196,12 +196,12 @@ read-rest format before es number m place count r = elim (cases_Bool (has_cbp m.
 pub record ReadsMacroblock (format : Format) (number : ℕ) (last : Option Macroblock) (es : List Element) : Type 0 where
   pub m : Macroblock
   pub rest : List Element
-  pub is : es ≡ macroblock_elements last m ++ rest
+  pub is : es ≡ elements_of_macroblock last m ++ rest
   pub valid : IsValidMacroblock format number m
   pub rise : address_of last < m.address
   pub most : m.address ≤ 33
 
-vector_same : (last : Option Macroblock) (m : Macroblock) (bs : List (Option Block)) → vector_elements last m ≡ vector_elements last (with_blocks m bs)
+vector_same : (last : Option Macroblock) (m : Macroblock) (bs : List (Option Block)) → elements_of_vector last m ≡ elements_of_vector last (with_blocks m bs)
 vector_same last m bs =
     ap (λ p. if has_vector m.kind then Mvd Across (pair_in (m.across -ℤ p) mvd_table) ∷ mvd_element Down last m ∷ [] else []) (predictor_same Across last m (with_blocks m bs) refl)
     ∙ ap (λ p. if has_vector m.kind then mvd_element Across last (with_blocks m bs) ∷ Mvd Down (pair_in (m.down -ℤ p) mvd_table) ∷ [] else []) (predictor_same Down last m (with_blocks m bs) refl)
@@ -220,9 +220,9 @@ built format number last es m left is mquant rise most v r =
       rest = r.rest;
       is = is ∙ ap (λ t. Mba (m.address - address_of last) ∷ (Mtype m.kind ∷ t))
           (ap (λ t. mquant_elements m.mquant ++ t) (v.is
-          ∙ (ap (λ t. vector_elements last (with_vector m v.a v.d) ++ t) r.is
-          ∙ ap (λ t. t ++ ((cbp_elements (with_blocks (with_vector m v.a v.d) r.bs) ++ blocks_elements r.bs) ++ r.rest)) (vector_same last (with_vector m v.a v.d) r.bs)))
-          ∙ join3 (mquant_elements m.mquant) (vector_elements last (with_blocks (with_vector m v.a v.d) r.bs)) (cbp_elements (with_blocks (with_vector m v.a v.d) r.bs) ++ blocks_elements r.bs) r.rest);
+          ∙ (ap (λ t. elements_of_vector last (with_vector m v.a v.d) ++ t) r.is
+          ∙ ap (λ t. t ++ ((elements_of_pattern (with_blocks (with_vector m v.a v.d) r.bs) ++ blocks_elements r.bs) ++ r.rest)) (vector_same last (with_vector m v.a v.d) r.bs)))
+          ∙ join3 (mquant_elements m.mquant) (elements_of_vector last (with_blocks (with_vector m v.a v.d) r.bs)) (elements_of_pattern (with_blocks (with_vector m v.a v.d) r.bs) ++ blocks_elements r.bs) r.rest);
       valid = record { mquant = mquant; across = v.across; down = v.down; six = r.six; blocks = r.fits };
       rise = rise;
       most = most;
@@ -233,9 +233,9 @@ read_behind : (format : Format) (before all : List Element) (number : ℕ) (last
 read_behind format before all number last m es place rise most all_is mquant r at v =
     let place2 = at-vector number last (with_vector m v.a v.d) before place rise at in
     let says = says-vector format (after (headed before last m) (mquant_elements m.mquant)) number last (with_vector m v.a v.d) place.last_is place2 v.across v.down in
-    let left = rest-after format (after (headed before last m) (mquant_elements m.mquant)) es (vector_elements last (with_vector m v.a v.d)) v.rest r v.is in
-    let count : blocks (after (after (headed before last m) (mquant_elements m.mquant)) (vector_elements last (with_vector m v.a v.d))) ≡ cond (is_intra m.kind) 6 0 = vector-blocks (after (headed before last m) (mquant_elements m.mquant)) last (with_vector m v.a v.d) ∙ mquant-blocks (headed before last m) m.mquant in
-    built format number last all m es all_is mquant rise most v (read-rest format (after (after (headed before last m) (mquant_elements m.mquant)) (vector_elements last (with_vector m v.a v.d))) v.rest number (with_vector m v.a v.d) says.1 count left)
+    let left = rest-after format (after (headed before last m) (mquant_elements m.mquant)) es (elements_of_vector last (with_vector m v.a v.d)) v.rest r v.is in
+    let count : blocks (after (after (headed before last m) (mquant_elements m.mquant)) (elements_of_vector last (with_vector m v.a v.d))) ≡ cond (is_intra m.kind) 6 0 = vector-blocks (after (headed before last m) (mquant_elements m.mquant)) last (with_vector m v.a v.d) ∙ mquant-blocks (headed before last m) m.mquant in
+    built format number last all m es all_is mquant rise most v (read-rest format (after (after (headed before last m) (mquant_elements m.mquant)) (elements_of_vector last (with_vector m v.a v.d))) v.rest number (with_vector m v.a v.d) says.1 count left)
 
 -- behind MTYPE
 read_headed : (format : Format) (before es all : List Element) (number : ℕ) (last : Option Macroblock) (at : ℕ) (k : MbKind) → IsBehind number last before → address_of last < at → at ≤ 33 → all ≡ Mba (at - address_of last) ∷ (Mtype k ∷ es) → IsRest format (headed before last (begun_macroblock at k None)) es → (q : ReadsMquant (has_mquant k) es) → ReadsMacroblock format number last all

@@ -16,7 +16,7 @@ use Rattle.pel_model.specs.Spelling.{Form, GroupsFit, sent_text}
 use Rattle.pel_model.specs.Accepts.{Accepts}
 use Rattle.pel_model.specs.Walk.{Standing, Good, Stop, Bad, Row, start, after, read, word_at, whole_word}
 use Rattle.pel_model.specs.Grammar.{Element, Psc, Tr, Ptype, Pei, Pspare, Slot, AtPsc, AtTr, AtPtype, AtGroup, slot, begun, rows, faults, first_why, names_format, may_end, is_end, or_no_start, at_slot, next, counted}
-use Rattle.picture_laws.specs.PictureElements.{header_elements, elements, Tells}
+use Rattle.picture_laws.specs.PictureElements.{elements_of_header, elements_of_picture, Tells}
 use Rattle.picture_laws.specs.TextLaws.{IsReadInForm, WalkHasForm}
 use Rattle.picture_laws.specs.Laws.{WalkHasRecord}
 use Rattle.picture_laws.proofs.Slots.{Takes}
@@ -56,7 +56,7 @@ pub record ReadsHeader (format : Format) (es : List Element) : Type 0 where
   pub spares : List ℕ
   pub tr : ℕ
   pub rest : List Element
-  pub is : es ≡ header_elements format free spares tr ++ rest
+  pub is : es ≡ elements_of_header format free spares tr ++ rest
   pub fits : tr < 32
 
 header_built : (format : Format) (es left : List Element) (tr p : ℕ) → tr < 32 → p ≡ number (type_text format (free_of p)) → es ≡ Psc ∷ (Tr tr ∷ (Ptype p ∷ left)) → ReadsSpares Pei Pspare left → ReadsHeader format es
@@ -82,7 +82,7 @@ read_header format es r =
     header_built format es m2.rest m1.takes.0 m2.takes.0 m1.takes.1 (type_is format m2.takes.0 m2.takes.1 ok.0 ok.1)
     (m0.is ∙ (ap (λ x. x ∷ m0.rest) m0.takes ∙ ap (λ t. Psc ∷ t) (m1.is ∙ (ap (λ x. x ∷ m1.rest) m1.takes.2 ∙ ap (λ t. Tr m1.takes.0 ∷ t) (m2.is ∙ ap (λ x. x ∷ m2.rest) m2.takes.2))))) s
 
-pub header_slot : (format : Format) (free : FreeBits) (spares : List ℕ) (tr : ℕ) → tr < 32 → slot (after [] (header_elements format free spares tr)) ≡ AtGroup
+pub header_slot : (format : Format) (free : FreeBits) (spares : List ℕ) (tr : ℕ) → tr < 32 → slot (after [] (elements_of_header format free spares tr)) ≡ AtGroup
 header_slot format free spares tr fits = (says-pspares format (Ptype (number (type_text format free)) ∷ Tr tr ∷ Psc ∷ []) spares refl).1
 
 opening_at : (format : Format) (before es : List Element) → slot before ≡ AtGroup → IsRest format before es → IsOpening es
@@ -95,7 +95,7 @@ record ReadsPicture (format : Format) (es : List Element) (zeros : ℕ) : Type 0
   pub form : Form
   pub zeros_are : form.zeros ≡ zeros
   pub pic : Picture
-  pub is : es ≡ elements format form pic
+  pub is : es ≡ elements_of_picture format form pic
   pub fits : GroupsFit form.groups pic.groups
   pub valid : IsValid format pic
 
@@ -106,7 +106,7 @@ picture_built format es zeros h g =
       form = record { free = h.free; spares = h.spares; groups = g.forms; zeros = zeros };
       zeros_are = refl;
       pic = record { tr = h.tr; groups = g.gs };
-      is = h.is ∙ ap (λ t. header_elements format h.free h.spares h.tr ++ t) g.is;
+      is = h.is ∙ ap (λ t. elements_of_header format h.free h.spares h.tr ++ t) g.is;
       fits = g.fits;
       valid = record {
         so_far = record { tr = h.fits; numbers = g.numbers_are ∙ sym (ap (λ k. take k (group_numbers format)) whole ∙ take_all (group_numbers format)); groups = g.valid };
@@ -117,10 +117,10 @@ picture_built format es zeros h g =
 read_picture : (format : Format) (es : List Element) (zeros : ℕ) → IsRest format [] es → ReadsPicture format es zeros
 read_picture format es zeros r =
     let h = read_header format es r in
-    let left = rest-after format [] es (header_elements format h.free h.spares h.tr) h.rest r h.is in
+    let left = rest-after format [] es (elements_of_header format h.free h.spares h.tr) h.rest r h.is in
     let place = (says-header format h.free h.spares h.tr h.fits).1 in
-    picture_built format es zeros h (read-groups format (after [] (header_elements format h.free h.spares h.tr)) h.rest 0 (group_numbers format) place left (numbers_rise format) (λ n known above. among_numbers (group_numbers format) n known)
-    (opens format (after [] (header_elements format h.free h.spares h.tr)) h.rest 0 (omega arith) (opening_at format (after [] (header_elements format h.free h.spares h.tr)) h.rest (header_slot format h.free h.spares h.tr h.fits) left) left))
+    picture_built format es zeros h (read-groups format (after [] (elements_of_header format h.free h.spares h.tr)) h.rest 0 (group_numbers format) place left (numbers_rise format) (λ n known above. among_numbers (group_numbers format) n known)
+    (opens format (after [] (elements_of_header format h.free h.spares h.tr)) h.rest 0 (omega arith) (opening_at format (after [] (elements_of_header format h.free h.spares h.tr)) h.rest (header_slot format h.free h.spares h.tr h.fits) left) left))
 
 -- ---- the end
 
@@ -175,7 +175,7 @@ accepted_built format bits es end walk short ends p =
     let says = (says-picture format p.form p.pic p.fits p.valid).0 in
     let text : words [] es ≡ sent_text format p.form p.pic = ap (words []) p.is ∙ says.text in
     let begun_is = begun-picture format p.form p.pic p.fits in
-    let begun_same : begun (after [] es) ≡ begun (after [] (elements format p.form p.pic)) = ap (λ es. begun (after [] es)) p.is in
+    let begun_same : begun (after [] es) ≡ begun (after [] (elements_of_picture format p.form p.pic)) = ap (λ es. begun (after [] es)) p.is in
     record {
       picture = p.pic;
       form = p.form;

@@ -14,8 +14,8 @@ use Rattle.pel_model.specs.Valid.{IsQuantiser, ComponentFits, IsIntraBlock, IsCo
 use Rattle.pel_model.specs.Spelling.{GroupForm, LeftOut, Sent, Form, GroupsFit}
 use Rattle.pel_model.specs.Grammar.{Element, Psc, Tr, Ptype, Pei, Pspare, Gbsc, Gn, Gquant, Gei, Gspare, Stuffing, Mba, Mtype, Mquant, Mvd, Cbp, Dc, Tcoeff, Eob, component_from}
 use Rattle.pel_model.specs.Elements.{block_elements, blocks_elements, mquant_elements, spare_elements}
-use Rattle.picture_laws.specs.SoFar.{IsLast}
-use Rattle.picture_laws.specs.PictureElements.{pair_in, mvd_element, vector_elements, cbp_elements, macroblock_elements, macroblocks_elements, group_elements, groups_elements, elements, Tells}
+use Rattle.picture_laws.specs.SoFar.{IsSentBefore}
+use Rattle.picture_laws.specs.PictureElements.{pair_in, mvd_element, elements_of_vector, elements_of_pattern, elements_of_macroblock, elements_of_macroblocks, elements_of_group, elements_of_groups, elements_of_picture, Tells}
 use Rattle.picture_laws.proofs.Words.{field-number}
 use Rattle.picture_laws.proofs.Vectors.{pair-of, predictor-small}
 use Rattle.picture_laws.proofs.Macroblocks.{component_small, both_axes, body}
@@ -83,7 +83,7 @@ told_vector : Bool → ℤ → ℤ → List Element → ℤ × ℤ × List Eleme
 told_vector true p q (Mvd a v ∷ Mvd d w ∷ es) = (component_from p v, component_from q w, es)
 told_vector _ p q es = (pos 0, pos 0, es)
 
-vector_again : (format : Format) (number : ℕ) (last : Option Macroblock) (m : Macroblock) (rest : List Element) → IsLast last → ComponentFits format number Across m → ComponentFits format number Down m → told_vector (has_vector m.kind) (predictor Across last m) (predictor Down last m) (vector_elements last m ++ rest) ≡ (m.across, m.down, rest)
+vector_again : (format : Format) (number : ℕ) (last : Option Macroblock) (m : Macroblock) (rest : List Element) → IsSentBefore last → ComponentFits format number Across m → ComponentFits format number Down m → told_vector (has_vector m.kind) (predictor Across last m) (predictor Down last m) (elements_of_vector last m ++ rest) ≡ (m.across, m.down, rest)
 unfolding told_vector
 vector_again format number last m rest is across down =
     let a = component_small format number Across m across in
@@ -92,12 +92,12 @@ vector_again format number last m rest is across down =
       | inl has ↦
           let pa = pair-of Across (predictor Across last m) m.across (predictor-small Across last m is) a.0 in
           let pd = pair-of Down (predictor Down last m) m.down (predictor-small Down last m is) d.0 in
-          ap (λ b. told_vector b (predictor Across last m) (predictor Down last m) (vector_elements last m ++ rest)) has
+          ap (λ b. told_vector b (predictor Across last m) (predictor Down last m) (elements_of_vector last m ++ rest)) has
           ∙ (ap (λ t. told_vector true (predictor Across last m) (predictor Down last m) (t ++ rest)) (cond-true (has_vector m.kind) (mvd_element Across last m ∷ mvd_element Down last m ∷ []) [] has)
           ∙ (ap (λ (z : ℤ). (z, component_from (predictor Down last m) (pair_in (m.down -ℤ predictor Down last m) mvd_table), rest)) pa.gives
           ∙ ap (λ (z : ℤ). (m.across, z, rest)) pd.gives))
       | inr none ↦
-          ap (λ b. told_vector b (predictor Across last m) (predictor Down last m) (vector_elements last m ++ rest)) none
+          ap (λ b. told_vector b (predictor Across last m) (predictor Down last m) (elements_of_vector last m ++ rest)) none
           ∙ (ap (λ t. told_vector false (predictor Across last m) (predictor Down last m) (t ++ rest)) (cond-false (has_vector m.kind) (mvd_element Across last m ∷ mvd_element Down last m ∷ []) [] none)
           ∙ (ap (λ (z : ℤ). (z, pos 0, rest)) (sym (a.1 none)) ∙ ap (λ (z : ℤ). (m.across, z, rest)) (sym (d.1 none))))
     ]
@@ -132,16 +132,16 @@ flags_alone m six none fit = elim (cases_Bool (is_intra m.kind)) [
       ap (replicate 6) inter ∙ sym (all_none m.blocks 6 six all)
 ]
 
-flags_again : (m : Macroblock) (rest : List Element) → length m.blocks ≡ 6 → BlocksFit m.kind m.blocks → told_flags (has_cbp m.kind) m.kind (cbp_elements m ++ rest) ≡ (map is_some m.blocks, rest)
+flags_again : (m : Macroblock) (rest : List Element) → length m.blocks ≡ 6 → BlocksFit m.kind m.blocks → told_flags (has_cbp m.kind) m.kind (elements_of_pattern m ++ rest) ≡ (map is_some m.blocks, rest)
 unfolding told_flags
 flags_again m rest six fit = elim (cases_Bool (has_cbp m.kind)) [
   | inl has ↦
       let long : length (map is_some m.blocks) ≡ 6 = length-map m.blocks is_some ∙ six in
-      ap (λ b. told_flags b m.kind (cbp_elements m ++ rest)) has
+      ap (λ b. told_flags b m.kind (elements_of_pattern m ++ rest)) has
       ∙ (ap (λ t. told_flags true m.kind (t ++ rest)) (cond-true (has_cbp m.kind) (Cbp (coded_block_pattern m.blocks) ∷ []) [] has)
       ∙ ap (λ (flags : List Bool). (flags, rest)) (ap (field (coded_block_pattern m.blocks)) (sym long) ∙ field-number (map is_some m.blocks)))
   | inr none ↦
-      ap (λ b. told_flags b m.kind (cbp_elements m ++ rest)) none
+      ap (λ b. told_flags b m.kind (elements_of_pattern m ++ rest)) none
       ∙ (ap (λ t. told_flags false m.kind (t ++ rest)) (cond-false (has_cbp m.kind) (Cbp (coded_block_pattern m.blocks) ∷ []) [] none)
       ∙ ap (λ (flags : List Bool). (flags, rest)) (flags_alone m six none fit))
 ]
@@ -164,27 +164,27 @@ told_macroblock : Option Macroblock → List Element → Macroblock × List Elem
 told_macroblock last (Mba n ∷ Mtype k ∷ es) = told_body last (address_of last + n) k es
 told_macroblock last es = (begun_macroblock 0 Intra None, es)
 
-body_again : (format : Format) (number : ℕ) (last : Option Macroblock) (m : Macroblock) (rest : List Element) → IsLast last → IsValidMacroblock format number m → told_body last m.address m.kind (mquant_elements m.mquant ++ (vector_elements last m ++ (cbp_elements m ++ (blocks_elements m.blocks ++ rest)))) ≡ (m, rest)
+body_again : (format : Format) (number : ℕ) (last : Option Macroblock) (m : Macroblock) (rest : List Element) → IsSentBefore last → IsValidMacroblock format number m → told_body last m.address m.kind (mquant_elements m.mquant ++ (elements_of_vector last m ++ (elements_of_pattern m ++ (blocks_elements m.blocks ++ rest)))) ≡ (m, rest)
 unfolding told_body
 body_again format number last m rest is valid =
     let pa : predictor Across last (begun_macroblock m.address m.kind None) ≡ predictor Across last m = predictor_same Across last (begun_macroblock m.address m.kind None) m refl in
     let pd : predictor Down last (begun_macroblock m.address m.kind None) ≡ predictor Down last m = predictor_same Down last (begun_macroblock m.address m.kind None) m refl in
-    ap (behind_mquant last m.address m.kind) (mquant_again (has_mquant m.kind) m.mquant (vector_elements last m ++ (cbp_elements m ++ (blocks_elements m.blocks ++ rest))) valid.mquant)
-    ∙ (ap (λ p. behind_vector m.address m.kind m.mquant (told_vector (has_vector m.kind) p (predictor Down last (begun_macroblock m.address m.kind None)) (vector_elements last m ++ (cbp_elements m ++ (blocks_elements m.blocks ++ rest))))) pa
-    ∙ (ap (λ p. behind_vector m.address m.kind m.mquant (told_vector (has_vector m.kind) (predictor Across last m) p (vector_elements last m ++ (cbp_elements m ++ (blocks_elements m.blocks ++ rest))))) pd
-    ∙ (ap (behind_vector m.address m.kind m.mquant) (vector_again format number last m (cbp_elements m ++ (blocks_elements m.blocks ++ rest)) is valid.across valid.down)
+    ap (behind_mquant last m.address m.kind) (mquant_again (has_mquant m.kind) m.mquant (elements_of_vector last m ++ (elements_of_pattern m ++ (blocks_elements m.blocks ++ rest))) valid.mquant)
+    ∙ (ap (λ p. behind_vector m.address m.kind m.mquant (told_vector (has_vector m.kind) p (predictor Down last (begun_macroblock m.address m.kind None)) (elements_of_vector last m ++ (elements_of_pattern m ++ (blocks_elements m.blocks ++ rest))))) pa
+    ∙ (ap (λ p. behind_vector m.address m.kind m.mquant (told_vector (has_vector m.kind) (predictor Across last m) p (elements_of_vector last m ++ (elements_of_pattern m ++ (blocks_elements m.blocks ++ rest))))) pd
+    ∙ (ap (behind_vector m.address m.kind m.mquant) (vector_again format number last m (elements_of_pattern m ++ (blocks_elements m.blocks ++ rest)) is valid.across valid.down)
     ∙ (ap (λ (f : List Bool × List Element). behind_flags m.address m.kind m.mquant m.across m.down (told_blocks f.0 f.1)) (flags_again m (blocks_elements m.blocks ++ rest) valid.six valid.blocks)
     ∙ ap (behind_flags m.address m.kind m.mquant m.across m.down) (blocks_again m.blocks rest)))))
 
-macroblock_again : (format : Format) (number : ℕ) (last : Option Macroblock) (m : Macroblock) (rest : List Element) → IsLast last → address_of last < m.address → IsValidMacroblock format number m → told_macroblock last (macroblock_elements last m ++ rest) ≡ (m, rest)
+macroblock_again : (format : Format) (number : ℕ) (last : Option Macroblock) (m : Macroblock) (rest : List Element) → IsSentBefore last → address_of last < m.address → IsValidMacroblock format number m → told_macroblock last (elements_of_macroblock last m ++ rest) ≡ (m, rest)
 unfolding told_macroblock
 macroblock_again format number last m rest is rise valid =
     let at : address_of last + (m.address - address_of last) ≡ m.address = omega (arith, rise) in
-    let parts : (mquant_elements m.mquant ++ (vector_elements last m ++ (cbp_elements m ++ blocks_elements m.blocks))) ++ rest ≡ mquant_elements m.mquant ++ (vector_elements last m ++ (cbp_elements m ++ (blocks_elements m.blocks ++ rest))) =
-    append_assoc (mquant_elements m.mquant) (vector_elements last m ++ (cbp_elements m ++ blocks_elements m.blocks)) rest
-    ∙ ap (λ t. mquant_elements m.mquant ++ t) (append_assoc (vector_elements last m) (cbp_elements m ++ blocks_elements m.blocks) rest
-    ∙ ap (λ t. vector_elements last m ++ t) (append_assoc (cbp_elements m) (blocks_elements m.blocks) rest)) in
-    ap (λ k. told_body last k m.kind ((mquant_elements m.mquant ++ (vector_elements last m ++ (cbp_elements m ++ blocks_elements m.blocks))) ++ rest)) at
+    let parts : (mquant_elements m.mquant ++ (elements_of_vector last m ++ (elements_of_pattern m ++ blocks_elements m.blocks))) ++ rest ≡ mquant_elements m.mquant ++ (elements_of_vector last m ++ (elements_of_pattern m ++ (blocks_elements m.blocks ++ rest))) =
+    append_assoc (mquant_elements m.mquant) (elements_of_vector last m ++ (elements_of_pattern m ++ blocks_elements m.blocks)) rest
+    ∙ ap (λ t. mquant_elements m.mquant ++ t) (append_assoc (elements_of_vector last m) (elements_of_pattern m ++ blocks_elements m.blocks) rest
+    ∙ ap (λ t. elements_of_vector last m ++ t) (append_assoc (elements_of_pattern m) (blocks_elements m.blocks) rest)) in
+    ap (λ k. told_body last k m.kind ((mquant_elements m.mquant ++ (elements_of_vector last m ++ (elements_of_pattern m ++ blocks_elements m.blocks))) ++ rest)) at
     ∙ (ap (told_body last m.address m.kind) parts ∙ body_again format number last m rest is valid)
 
 -- ---- macroblocks and their stuffing
@@ -209,7 +209,7 @@ opens_none (suc fuel) last [] h = refl
 opens_none (suc fuel) last (Gbsc ∷ rest) h = refl
 opens_none (suc fuel) last (_ ∷ rest) h = absurd h
 
-last_of : (format : Format) (number : ℕ) (m : Macroblock) → 0 < m.address → IsValidMacroblock format number m → IsLast (Some m)
+last_of : (format : Format) (number : ℕ) (m : Macroblock) → 0 < m.address → IsValidMacroblock format number m → IsSentBefore (Some m)
 last_of format number m some valid =
     let a = component_small format number Across m valid.across in
     let d = component_small format number Down m valid.down in
@@ -223,16 +223,16 @@ told_next fuel n last es more rest m ms one later =
 
 -- what stands behind a macroblock
 abbrev behind_one : Macroblock → List ℕ → List Macroblock → List Element → List Element
-behind_one m behind ms rest = replicate (get_or behind 0 0) Stuffing ++ (macroblocks_elements (Some m) (drop 1 behind) ms ++ rest)
+behind_one m behind ms rest = replicate (get_or behind 0 0) Stuffing ++ (elements_of_macroblocks (Some m) (drop 1 behind) ms ++ rest)
 
-first_apart : (last : Option Macroblock) (behind : List ℕ) (m : Macroblock) (ms : List Macroblock) (rest : List Element) → macroblocks_elements last behind (m ∷ ms) ++ rest ≡ macroblock_elements last m ++ behind_one m behind ms rest
-first_apart last behind m ms rest = sym (join3 (macroblock_elements last m) (replicate (get_or behind 0 0) Stuffing) (macroblocks_elements (Some m) (drop 1 behind) ms) rest)
+first_apart : (last : Option Macroblock) (behind : List ℕ) (m : Macroblock) (ms : List Macroblock) (rest : List Element) → elements_of_macroblocks last behind (m ∷ ms) ++ rest ≡ elements_of_macroblock last m ++ behind_one m behind ms rest
+first_apart last behind m ms rest = sym (join3 (elements_of_macroblock last m) (replicate (get_or behind 0 0) Stuffing) (elements_of_macroblocks (Some m) (drop 1 behind) ms) rest)
 
-fewer_behind : (fuel : ℕ) (last : Option Macroblock) (behind : List ℕ) (m : Macroblock) (ms : List Macroblock) (rest : List Element) → length (macroblocks_elements last behind (m ∷ ms) ++ rest) ≤ suc fuel → length (behind_one m behind ms rest) ≤ fuel
+fewer_behind : (fuel : ℕ) (last : Option Macroblock) (behind : List ℕ) (m : Macroblock) (ms : List Macroblock) (rest : List Element) → length (elements_of_macroblocks last behind (m ∷ ms) ++ rest) ≤ suc fuel → length (behind_one m behind ms rest) ≤ fuel
 fewer_behind fuel last behind m ms rest few =
-    omega (arith, few, ap length (first_apart last behind m ms rest), length-append (macroblock_elements last m) (behind_one m behind ms rest))
+    omega (arith, few, ap length (first_apart last behind m ms rest), length-append (elements_of_macroblock last m) (behind_one m behind ms rest))
 
-macroblocks_again : (fuel : ℕ) (format : Format) (number : ℕ) (last : Option Macroblock) (n : ℕ) (behind : List ℕ) (ms : List Macroblock) (rest : List Element) → length (replicate n Stuffing ++ (macroblocks_elements last behind ms ++ rest)) ≤ fuel → IsLast last → AddressesRise (address_of last) ms → All (IsValidMacroblock format number) ms → Opens rest → told_macroblocks fuel last (replicate n Stuffing ++ (macroblocks_elements last behind ms ++ rest)) ≡ (ms, rest)
+macroblocks_again : (fuel : ℕ) (format : Format) (number : ℕ) (last : Option Macroblock) (n : ℕ) (behind : List ℕ) (ms : List Macroblock) (rest : List Element) → length (replicate n Stuffing ++ (elements_of_macroblocks last behind ms ++ rest)) ≤ fuel → IsSentBefore last → AddressesRise (address_of last) ms → All (IsValidMacroblock format number) ms → Opens rest → told_macroblocks fuel last (replicate n Stuffing ++ (elements_of_macroblocks last behind ms ++ rest)) ≡ (ms, rest)
 unfolding told_macroblocks
 macroblocks_again fuel format number last zero behind [] rest few is rise valid opening = opens_none fuel last rest opening
 macroblocks_again zero format number last (suc n) behind ms rest few is rise valid opening = absurd (omega (arith, few))
@@ -290,10 +290,10 @@ is_prefix_lower low high [] h b = tt
 is_prefix_lower low high (Gbsc ∷ Gn g ∷ Gquant q ∷ es) h b = omega (arith, h, b)
 is_prefix_lower low high _ h b = absurd b
 
-is_prefix_above : (format : Format) (low : ℕ) (forms : List GroupForm) (gs : List Group) → GroupsFit forms gs → RiseFrom format low gs → BeginsAbove low (groups_elements forms gs)
+is_prefix_above : (format : Format) (low : ℕ) (forms : List GroupForm) (gs : List Group) → GroupsFit forms gs → RiseFrom format low gs → BeginsAbove low (elements_of_groups forms gs)
 is_prefix_above format low [] gs fit rise = tt
 is_prefix_above format low (f ∷ forms) [] fit rise = tt
-is_prefix_above format low (LeftOut ∷ forms) (g ∷ gs) fit rise = is_prefix_lower low g.number (groups_elements forms gs) (omega (arith, rise.1)) (is_prefix_above format g.number forms gs fit.1 rise.2)
+is_prefix_above format low (LeftOut ∷ forms) (g ∷ gs) fit rise = is_prefix_lower low g.number (elements_of_groups forms gs) (omega (arith, rise.1)) (is_prefix_above format g.number forms gs fit.1 rise.2)
 is_prefix_above format low (Sent spares stuffings behind ∷ forms) (g ∷ gs) fit rise = rise.1
 
 is_prefix_opens : (low : ℕ) (es : List Element) → BeginsAbove low es → Opens es
@@ -312,15 +312,15 @@ left_again n ns (Gbsc ∷ Gn g ∷ Gquant q ∷ es) b =
     ap (λ c. cond c (record { number = n; quant = q; macroblocks = (told_sent (past_gspares es)).0 } ∷ told_groups ns (told_sent (past_gspares es)).1) (empty n ∷ told_groups ns (Gbsc ∷ Gn g ∷ Gquant q ∷ es))) (not_number g n b)
 left_again n ns _ b = absurd b
 
-sent_again : (format : Format) (g : Group) (spares : List ℕ) (stuffings : ℕ) (behind : List ℕ) (ns : List ℕ) (rest : List Element) → IsValidGroup format g → Opens rest → told_groups (g.number ∷ ns) (group_elements (Sent spares stuffings behind) g ++ rest) ≡ g ∷ told_groups ns rest
+sent_again : (format : Format) (g : Group) (spares : List ℕ) (stuffings : ℕ) (behind : List ℕ) (ns : List ℕ) (rest : List Element) → IsValidGroup format g → Opens rest → told_groups (g.number ∷ ns) (elements_of_group (Sent spares stuffings behind) g ++ rest) ≡ g ∷ told_groups ns rest
 unfolding told_groups
 sent_again format g spares stuffings behind ns rest valid opening =
-    let parts : (spare_elements Gei Gspare spares ++ (replicate stuffings Stuffing ++ macroblocks_elements None behind g.macroblocks)) ++ rest ≡ spare_elements Gei Gspare spares ++ (replicate stuffings Stuffing ++ (macroblocks_elements None behind g.macroblocks ++ rest)) =
-    sym (join3 (spare_elements Gei Gspare spares) (replicate stuffings Stuffing) (macroblocks_elements None behind g.macroblocks) rest) in
-    let past : past_gspares ((spare_elements Gei Gspare spares ++ (replicate stuffings Stuffing ++ macroblocks_elements None behind g.macroblocks)) ++ rest) ≡ replicate stuffings Stuffing ++ (macroblocks_elements None behind g.macroblocks ++ rest) = ap past_gspares parts ∙ gspares_again spares (replicate stuffings Stuffing ++ (macroblocks_elements None behind g.macroblocks ++ rest)) in
-    let told = macroblocks_again (length (replicate stuffings Stuffing ++ (macroblocks_elements None behind g.macroblocks ++ rest))) format g.number None stuffings behind g.macroblocks rest (omega arith) tt valid.addresses valid.macroblocks opening in
-    let sent_ : told_sent (past_gspares ((spare_elements Gei Gspare spares ++ (replicate stuffings Stuffing ++ macroblocks_elements None behind g.macroblocks)) ++ rest)) ≡ (g.macroblocks, rest) = ap told_sent past ∙ told in
-    ap (λ c. cond c (record { number = g.number; quant = g.quant; macroblocks = (told_sent (past_gspares ((spare_elements Gei Gspare spares ++ (replicate stuffings Stuffing ++ macroblocks_elements None behind g.macroblocks)) ++ rest))).0 } ∷ told_groups ns (told_sent (past_gspares ((spare_elements Gei Gspare spares ++ (replicate stuffings Stuffing ++ macroblocks_elements None behind g.macroblocks)) ++ rest))).1) (empty g.number ∷ told_groups ns (Gbsc ∷ Gn g.number ∷ Gquant g.quant ∷ ((spare_elements Gei Gspare spares ++ (replicate stuffings Stuffing ++ macroblocks_elements None behind g.macroblocks)) ++ rest)))) (eq-eqb g.number g.number refl)
+    let parts : (spare_elements Gei Gspare spares ++ (replicate stuffings Stuffing ++ elements_of_macroblocks None behind g.macroblocks)) ++ rest ≡ spare_elements Gei Gspare spares ++ (replicate stuffings Stuffing ++ (elements_of_macroblocks None behind g.macroblocks ++ rest)) =
+    sym (join3 (spare_elements Gei Gspare spares) (replicate stuffings Stuffing) (elements_of_macroblocks None behind g.macroblocks) rest) in
+    let past : past_gspares ((spare_elements Gei Gspare spares ++ (replicate stuffings Stuffing ++ elements_of_macroblocks None behind g.macroblocks)) ++ rest) ≡ replicate stuffings Stuffing ++ (elements_of_macroblocks None behind g.macroblocks ++ rest) = ap past_gspares parts ∙ gspares_again spares (replicate stuffings Stuffing ++ (elements_of_macroblocks None behind g.macroblocks ++ rest)) in
+    let told = macroblocks_again (length (replicate stuffings Stuffing ++ (elements_of_macroblocks None behind g.macroblocks ++ rest))) format g.number None stuffings behind g.macroblocks rest (omega arith) tt valid.addresses valid.macroblocks opening in
+    let sent_ : told_sent (past_gspares ((spare_elements Gei Gspare spares ++ (replicate stuffings Stuffing ++ elements_of_macroblocks None behind g.macroblocks)) ++ rest)) ≡ (g.macroblocks, rest) = ap told_sent past ∙ told in
+    ap (λ c. cond c (record { number = g.number; quant = g.quant; macroblocks = (told_sent (past_gspares ((spare_elements Gei Gspare spares ++ (replicate stuffings Stuffing ++ elements_of_macroblocks None behind g.macroblocks)) ++ rest))).0 } ∷ told_groups ns (told_sent (past_gspares ((spare_elements Gei Gspare spares ++ (replicate stuffings Stuffing ++ elements_of_macroblocks None behind g.macroblocks)) ++ rest))).1) (empty g.number ∷ told_groups ns (Gbsc ∷ Gn g.number ∷ Gquant g.quant ∷ ((spare_elements Gei Gspare spares ++ (replicate stuffings Stuffing ++ elements_of_macroblocks None behind g.macroblocks)) ++ rest)))) (eq-eqb g.number g.number refl)
     ∙ ap (λ (r : List Macroblock × List Element). record { number = g.number; quant = g.quant; macroblocks = r.0 } ∷ told_groups ns r.1) sent_
 
 left_out_is : (g : Group) → g.quant ≡ 1 → g.macroblocks ≡ [] → empty g.number ≡ g
@@ -330,16 +330,16 @@ none_again : told_groups [] [] ≡ []
 unfolding told_groups
 none_again = refl
 
-groups_again : (format : Format) (low : ℕ) (forms : List GroupForm) (gs : List Group) → GroupsFit forms gs → RiseFrom format low gs → All (IsValidGroup format) gs → told_groups (map (λ (g : Group). g.number) gs) (groups_elements forms gs) ≡ gs
+groups_again : (format : Format) (low : ℕ) (forms : List GroupForm) (gs : List Group) → GroupsFit forms gs → RiseFrom format low gs → All (IsValidGroup format) gs → told_groups (map (λ (g : Group). g.number) gs) (elements_of_groups forms gs) ≡ gs
 groups_again format low [] [] fit rise valid = none_again
 groups_again format low [] (g ∷ gs) fit rise valid = absurd fit
 groups_again format low (f ∷ forms) [] fit rise valid = absurd fit
 groups_again format low (LeftOut ∷ forms) (g ∷ gs) fit rise valid =
-    left_again g.number (map (λ (g : Group). g.number) gs) (groups_elements forms gs) (is_prefix_above format g.number forms gs fit.1 rise.2)
-    ∙ (ap (λ (x : Group). x ∷ told_groups (map (λ (g : Group). g.number) gs) (groups_elements forms gs)) (left_out_is g fit.0.0 fit.0.1)
+    left_again g.number (map (λ (g : Group). g.number) gs) (elements_of_groups forms gs) (is_prefix_above format g.number forms gs fit.1 rise.2)
+    ∙ (ap (λ (x : Group). x ∷ told_groups (map (λ (g : Group). g.number) gs) (elements_of_groups forms gs)) (left_out_is g fit.0.0 fit.0.1)
     ∙ ap (λ t. g ∷ t) (groups_again format g.number forms gs fit.1 rise.2 (All-tail (IsValidGroup format) g gs valid)))
 groups_again format low (Sent spares stuffings behind ∷ forms) (g ∷ gs) fit rise valid =
-    sent_again format g spares stuffings behind (map (λ (g : Group). g.number) gs) (groups_elements forms gs) (All-head (IsValidGroup format) g gs valid) (is_prefix_opens g.number (groups_elements forms gs) (is_prefix_above format g.number forms gs fit.1 rise.2))
+    sent_again format g spares stuffings behind (map (λ (g : Group). g.number) gs) (elements_of_groups forms gs) (All-head (IsValidGroup format) g gs valid) (is_prefix_opens g.number (elements_of_groups forms gs) (is_prefix_above format g.number forms gs fit.1 rise.2))
     ∙ ap (λ t. g ∷ t) (groups_again format g.number forms gs fit.1 rise.2 (All-tail (IsValidGroup format) g gs valid))
 
 -- ---- the picture
@@ -348,13 +348,13 @@ pub told_picture : Format → List Element → Picture
 told_picture format (Psc ∷ Tr tr ∷ Ptype p ∷ es) = record { tr = tr; groups = told_groups (group_numbers format) (past_pspares es) }
 told_picture format _ = record { tr = 0; groups = [] }
 
-pub picture-again : (format : Format) (form : Form) (p : Picture) → GroupsFit form.groups p.groups → IsValid format p → told_picture format (elements format form p) ≡ p
+pub picture-again : (format : Format) (form : Form) (p : Picture) → GroupsFit form.groups p.groups → IsValid format p → told_picture format (elements_of_picture format form p) ≡ p
 unfolding told_picture
 picture-again format form p fit valid =
     let numbers : map (λ (g : Group). g.number) p.groups ≡ group_numbers format = valid.so_far.numbers ∙ (ap (λ k. take k (group_numbers format)) valid.whole ∙ take_all (group_numbers format)) in
     ap (λ (gs : List Group). record { tr = p.tr; groups = gs })
-    (ap (told_groups (group_numbers format)) (pspares_again form.spares (groups_elements form.groups p.groups))
-    ∙ (ap (λ ns. told_groups ns (groups_elements form.groups p.groups)) (sym numbers) ∙ groups_again format 0 form.groups p.groups fit (valid-rise format p valid) valid.so_far.groups))
+    (ap (told_groups (group_numbers format)) (pspares_again form.spares (elements_of_groups form.groups p.groups))
+    ∙ (ap (λ ns. told_groups ns (elements_of_groups form.groups p.groups)) (sym numbers) ∙ groups_again format 0 form.groups p.groups fit (valid-rise format p valid) valid.so_far.groups))
 
 -- elements tell one picture
 pub told-one : (format : Format) (es : List Element) (p q : Picture) → Tells format es p → IsValid format p → Tells format es q → IsValid format q → p ≡ q

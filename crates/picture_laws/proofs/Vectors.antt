@@ -8,7 +8,7 @@ use Rattle.pel_model.specs.Codes.{mvd_table, has_vector}
 use Rattle.pel_model.specs.Records.{Axis, Macroblock, component}
 use Rattle.pel_model.specs.Text.{word_of, address_of, predictor, resets_predictor}
 use Rattle.pel_model.specs.Grammar.{Mvd, AtMvd, in_range, component_from}
-use Rattle.picture_laws.specs.SoFar.{IsLast, last_component}
+use Rattle.picture_laws.specs.SoFar.{IsSentBefore, last_component}
 use Rattle.picture_laws.specs.PictureElements.{pair_in}
 use Rattle.vlc_codes.proofs.FoundRows.{Among, among-all, among-left, among-right, among-mapped}
 use Rattle.picture_laws.proofs.Slots.{word_at, same_pair, same_bits-true, mvd_words}
@@ -110,7 +110,7 @@ or_nothing true = refl
 or_nothing false = refl
 
 -- the vector before, or nothing, predicts
-pub predicted : (axis : Axis) (last : Option Macroblock) (m : Macroblock) → IsLast last → predictor axis last m ≡ cond (resets_predictor (m.address - address_of last) m.address) (pos 0) (last_component axis last)
+pub predicted : (axis : Axis) (last : Option Macroblock) (m : Macroblock) → IsSentBefore last → predictor axis last m ≡ cond (resets_predictor (m.address - address_of last) m.address) (pos 0) (last_component axis last)
 predicted axis None m is = sym (same_either (resets_predictor (m.address - 0) m.address) (pos 0) refl)
 predicted axis (Some l) m is = elim (cases_Bool (has_vector l.kind)) [
   | inl has ↦
@@ -125,6 +125,6 @@ small_either : (b : Bool) (z : ℤ) → nat_abs z ≤ 15 → nat_abs (cond b (po
 small_either true z h = omega arith
 small_either false z h = h
 
-pub predictor-small : (axis : Axis) (last : Option Macroblock) (m : Macroblock) → IsLast last → nat_abs (predictor axis last m) ≤ 15
+pub predictor-small : (axis : Axis) (last : Option Macroblock) (m : Macroblock) → IsSentBefore last → nat_abs (predictor axis last m) ≤ 15
 predictor-small axis None m is = omega arith
 predictor-small axis (Some l) m is = small_either (resets_predictor (m.address - l.address) m.address || not (has_vector l.kind)) (component axis l) (is.1 axis)

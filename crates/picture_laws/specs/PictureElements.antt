@@ -25,44 +25,44 @@ mvd_pair axis last m = pair_in (component axis m -ℤ predictor axis last m) mvd
 abbrev pub mvd_element : Axis → Option Macroblock → Macroblock → Element
 mvd_element axis last m = Mvd axis (mvd_pair axis last m)
 
-abbrev pub vector_elements : Option Macroblock → Macroblock → List Element
-vector_elements last m = by_words.vector_elements m.kind (mvd_pair Across last m) (mvd_pair Down last m)
+abbrev pub elements_of_vector : Option Macroblock → Macroblock → List Element
+elements_of_vector last m = by_words.vector_elements m.kind (mvd_pair Across last m) (mvd_pair Down last m)
 
-abbrev pub cbp_elements : Macroblock → List Element
-cbp_elements m = by_words.cbp_elements m.kind (coded_block_pattern m.blocks)
+abbrev pub elements_of_pattern : Macroblock → List Element
+elements_of_pattern m = by_words.cbp_elements m.kind (coded_block_pattern m.blocks)
 
 -- a macroblock behind the one that was sent before it in its group
-abbrev pub macroblock_elements : Option Macroblock → Macroblock → List Element
-macroblock_elements last m = by_words.macroblock_elements (m.address - address_of last) (mvd_pair Across last m) (mvd_pair Down last m) m
+abbrev pub elements_of_macroblock : Option Macroblock → Macroblock → List Element
+elements_of_macroblock last m = by_words.macroblock_elements (m.address - address_of last) (mvd_pair Across last m) (mvd_pair Down last m) m
 
 -- macroblocks, each with so many stuffings behind it
-abbrev pub macroblocks_elements : Option Macroblock → List ℕ → List Macroblock → List Element
-macroblocks_elements last behind [] = []
-macroblocks_elements last behind (m ∷ ms) =
-    macroblock_elements last m ++ (replicate (get_or behind 0 0) Stuffing ++ macroblocks_elements (Some m) (drop 1 behind) ms)
+abbrev pub elements_of_macroblocks : Option Macroblock → List ℕ → List Macroblock → List Element
+elements_of_macroblocks last behind [] = []
+elements_of_macroblocks last behind (m ∷ ms) =
+    elements_of_macroblock last m ++ (replicate (get_or behind 0 0) Stuffing ++ elements_of_macroblocks (Some m) (drop 1 behind) ms)
 
 -- ---- groups and pictures
 
-abbrev pub group_elements : GroupForm → Group → List Element
-group_elements LeftOut g = []
-group_elements (Sent spares stuffings behind) g =
-    Gbsc ∷ (Gn g.number ∷ (Gquant g.quant ∷ (spare_elements Gei Gspare spares ++ (replicate stuffings Stuffing ++ macroblocks_elements None behind g.macroblocks))))
+abbrev pub elements_of_group : GroupForm → Group → List Element
+elements_of_group LeftOut g = []
+elements_of_group (Sent spares stuffings behind) g =
+    Gbsc ∷ (Gn g.number ∷ (Gquant g.quant ∷ (spare_elements Gei Gspare spares ++ (replicate stuffings Stuffing ++ elements_of_macroblocks None behind g.macroblocks))))
 
-abbrev pub groups_elements : List GroupForm → List Group → List Element
-groups_elements [] gs = []
-groups_elements (f ∷ fs) [] = []
-groups_elements (f ∷ fs) (g ∷ gs) = group_elements f g ++ groups_elements fs gs
+abbrev pub elements_of_groups : List GroupForm → List Group → List Element
+elements_of_groups [] gs = []
+elements_of_groups (f ∷ fs) [] = []
+elements_of_groups (f ∷ fs) (g ∷ gs) = elements_of_group f g ++ elements_of_groups fs gs
 
-abbrev pub header_elements : Format → FreeBits → List ℕ → ℕ → List Element
-header_elements format free spares tr =
+abbrev pub elements_of_header : Format → FreeBits → List ℕ → ℕ → List Element
+elements_of_header format free spares tr =
     Psc ∷ Tr tr ∷ Ptype (number (type_text format free)) ∷ spare_elements Pei Pspare spares
 
-abbrev pub elements : Format → Form → Picture → List Element
-elements format form picture =
-    header_elements format form.free form.spares picture.tr ++ groups_elements form.groups picture.groups
+abbrev pub elements_of_picture : Format → Form → Picture → List Element
+elements_of_picture format form picture =
+    elements_of_header format form.free form.spares picture.tr ++ elements_of_groups form.groups picture.groups
 
 -- ---- what elements tell
 
 -- these are the elements of the picture in some input form
 abbrev pub Tells : Format → List Element → Picture → Type 0
-Tells format es picture = (form : Form) × GroupsFit form.groups picture.groups × (es ≡ elements format form picture)
+Tells format es picture = (form : Form) × GroupsFit form.groups picture.groups × (es ≡ elements_of_picture format form picture)

@@ -13,7 +13,7 @@ use Rattle.pel_model.specs.Walk.{after, Goes, Reads}
 use Rattle.pel_model.specs.Elements.{AreInside}
 use Rattle.pel_model.specs.Grammar.{Element, Psc, Tr, Ptype, Gbsc, Gn, Gquant, Stuffing, Mba, slot, AtGroup, AtMacroblock, group, address, quantiser, vector_component, next, next_within_limit}
 use Rattle.picture_laws.specs.Laws.{StandInside}
-use Rattle.picture_laws.specs.PictureElements.{macroblock_elements, group_elements, groups_elements, header_elements, Tells}
+use Rattle.picture_laws.specs.PictureElements.{elements_of_macroblock, elements_of_group, elements_of_groups, elements_of_header, Tells}
 
 -- ---- behind a macroblock
 
@@ -23,9 +23,9 @@ last_component axis None = pos 0
 last_component axis (Some m) = component axis m
 
 -- what is known of the macroblock before, where there is one
-abbrev pub IsLast : Option Macroblock → Type 0
-IsLast None = Unit {0}
-IsLast (Some m) =
+abbrev pub IsSentBefore : Option Macroblock → Type 0
+IsSentBefore None = Unit {0}
+IsSentBefore (Some m) =
     (0 < m.address)
     × ((axis : Axis) → nat_abs (component axis m) ≤ 15)
     × ((axis : Axis) → has_vector m.kind ≡ false → component axis m ≡ pos 0)
@@ -36,17 +36,17 @@ pub record IsBehind (number : ℕ) (last : Option Macroblock) (before : List Ele
   pub group_is : group before ≡ number
   pub address_is : address before ≡ address_of last
   pub vector_is : (axis : Axis) → vector_component axis before ≡ last_component axis last
-  pub last_is : IsLast last
+  pub last_is : IsSentBefore last
 
 -- the last of these macroblocks, or `last` where there is none
-abbrev pub last_of : Option Macroblock → List Macroblock → Option Macroblock
-last_of last [] = last
-last_of last (m ∷ ms) = last_of (Some m) ms
+abbrev pub last_sent : Option Macroblock → List Macroblock → Option Macroblock
+last_sent last [] = last
+last_sent last (m ∷ ms) = last_sent (Some m) ms
 
 -- ---- a group so far
 
-abbrev pub group_of : ℕ → ℕ → List Macroblock → Group
-group_of number quant ms = record { number = number; quant = quant; macroblocks = ms }
+abbrev pub group_with : ℕ → ℕ → List Macroblock → Group
+group_with number quant ms = record { number = number; quant = quant; macroblocks = ms }
 
 -- behind `before`, the elements are a group's header and these macroblocks, with spare octets and stuffing
 pub record IsGroupSoFar (format : Format) (before : List Element) (number quant : ℕ) (ms : List Macroblock) (es : List Element) : Type 0 where
@@ -54,9 +54,9 @@ pub record IsGroupSoFar (format : Format) (before : List Element) (number quant 
   pub stuffings : ℕ
   pub behind : List ℕ
   pub each : length behind ≡ length ms
-  pub elements : es ≡ group_elements (Sent spares stuffings behind) (group_of number quant ms)
-  pub valid : IsValidGroup format (group_of number quant ms)
-  pub place : IsBehind number (last_of None ms) (after before es)
+  pub elements : es ≡ elements_of_group (Sent spares stuffings behind) (group_with number quant ms)
+  pub valid : IsValidGroup format (group_with number quant ms)
+  pub place : IsBehind number (last_sent None ms) (after before es)
   pub quant_is : quantiser (after before es) ≡ quantiser_behind quant ms
 
 -- good elements with none of which a group, stuffing or a macroblock begins stand at no place where an end can be
@@ -83,9 +83,9 @@ StuffingJoins =
 -- elements say, and it is the group's next
 pub record IsJoined (format : Format) (before : List Element) (number quant : ℕ) (ms : List Macroblock) (es more : List Element) (r end : List Bool × ℕ) : Type 0 where
   pub macroblock : Macroblock
-  pub elements : more ≡ macroblock_elements (last_of None ms) macroblock
-  pub bits : r.0 ≡ macroblock_text (last_of None ms) macroblock ++ end.0
-  pub text : macroblocks_text None (ms ++ macroblock ∷ []) ≡ macroblocks_text None ms ++ macroblock_text (last_of None ms) macroblock
+  pub elements : more ≡ elements_of_macroblock (last_sent None ms) macroblock
+  pub bits : r.0 ≡ macroblock_text (last_sent None ms) macroblock ++ end.0
+  pub text : macroblocks_text None (ms ++ macroblock ∷ []) ≡ macroblocks_text None ms ++ macroblock_text (last_sent None ms) macroblock
   pub address_is : address (after (after before es) more) ≡ macroblock.address
   pub vector_is : (axis : Axis) → vector_component axis (after (after before es) more) ≡ component axis macroblock
   pub quant_is : quantiser (after (after before es) more) ≡ quantiser_after (quantiser (after before es)) macroblock.mquant
@@ -107,12 +107,12 @@ pub record IsPictureSoFar (format : Format) (picture : Picture) (es : List Eleme
   pub spares : List ℕ
   pub forms : List GroupForm
   pub fits : GroupsFit forms picture.groups
-  pub elements : es ≡ header_elements format free spares picture.tr ++ groups_elements forms picture.groups
+  pub elements : es ≡ elements_of_header format free spares picture.tr ++ elements_of_groups forms picture.groups
   pub valid : IsValidSoFar format picture
 
 -- the number of the group that comes next
-abbrev pub next_number : Format → Picture → ℕ
-next_number format picture = get_or (group_numbers format) (length picture.groups) 0
+abbrev pub number_due : Format → Picture → ℕ
+number_due format picture = get_or (group_numbers format) (length picture.groups) 0
 
 -- the picture header was read
 abbrev pub HeaderBegins : Type 0
@@ -127,15 +127,15 @@ abbrev pub GroupIsLeftOut : Type 0
 GroupIsLeftOut =
     (format : Format) (picture : Picture) (es : List Element)
     → IsPictureSoFar format picture es → length picture.groups < group_count format
-    → IsPictureSoFar format (with_group picture (group_of (next_number format picture) 1 [])) es
+    → IsPictureSoFar format (with_group picture (group_with (number_due format picture) 1 [])) es
 
 -- the next group was read
 abbrev pub GroupIsSent : Type 0
 GroupIsSent =
     (format : Format) (picture : Picture) (es : List Element) (quant : ℕ) (ms : List Macroblock) (more : List Element)
     → IsPictureSoFar format picture es → length picture.groups < group_count format
-    → IsGroupSoFar format (after [] es) (next_number format picture) quant ms more
-    → IsPictureSoFar format (with_group picture (group_of (next_number format picture) quant ms)) (es ++ more)
+    → IsGroupSoFar format (after [] es) (number_due format picture) quant ms more
+    → IsPictureSoFar format (with_group picture (group_with (number_due format picture) quant ms)) (es ++ more)
 
 -- all groups were read or left out
 abbrev pub PictureIsTold : Type 0

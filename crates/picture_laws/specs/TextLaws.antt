@@ -15,7 +15,7 @@ use Rattle.pel_model.specs.Spelling.{Form, GroupsFit, strict_form}
 use Rattle.pel_model.specs.Text.{picture_header, group_header, group_text, macroblock_text, macroblocks_text, text}
 use Rattle.pel_model.specs.Valid.{IsValid, IsValidGroup, limit}
 use Rattle.pel_model.specs.Walk.{Reads}
-use Rattle.picture_laws.specs.PictureElements.{elements}
+use Rattle.picture_laws.specs.PictureElements.{elements_of_picture}
 
 -- ---- lengths
 
@@ -87,14 +87,14 @@ StrictIsOwn = (format : Format) (p q : Picture) → IsValid format p → Accepts
 abbrev pub ReadInItsForm : Type 0
 ReadInItsForm =
     (format : Format) (form : Form) (bits : List Bool) (p : Picture) → IsAccepted format form bits p
-    → Reads (next_within_limit format) bits (elements format form p)
+    → Reads (next_within_limit format) bits (elements_of_picture format form p)
 
 -- elements up to the lawful end are those of a form in which the bits are accepted
 pub record IsReadInForm (format : Format) (bits : List Bool) (es : List Element) : Type 0 where
   pub picture : Picture
   pub form : Form
   pub fits : GroupsFit form.groups picture.groups
-  pub is : es ≡ elements format form picture
+  pub is : es ≡ elements_of_picture format form picture
   pub accepted : IsAccepted format form bits picture
 
 abbrev pub WalkHasForm : Type 0
@@ -106,4 +106,4 @@ WalkHasForm =
 abbrev pub StrictIsRead : Type 0
 StrictIsRead =
     (format : Format) (p : Picture) (es : List Element) → IsValid format p → Reads (next_within_limit format) (text format p) es
-    → es ≡ elements format (strict_form p) p
+    → es ≡ elements_of_picture format (strict_form p) p

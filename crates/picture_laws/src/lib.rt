@@ -3,6 +3,7 @@
 #![tactic(auto)]
 
 ghost use Rattle.picture_laws.specs.Laws.{TextIsAccepted, AcceptedIsRead, WalkHasRecord, HasRecordOrFault, NeverBoth, OneSpelling, OneRecord, OneFault, GoodOverFirst, GoodOverAll, JudgedByTheLimit, WithoutTheLimit, WithinTheLimit, PastTheLimit, KeptLength};
+ghost use Rattle.picture_laws.specs.MacroblockLengths.{MacroblocksAreShort, GroupsAreShort};
 ghost use Rattle.picture_laws.specs.SoFar.{InsideStands, GroupBegins, StuffingJoins, MacroblockJoins, HeaderBegins, GroupIsLeftOut, GroupIsSent, PictureIsTold, PictureIsAccepted};
 ghost use Rattle.picture_laws.specs.TextLaws.{TextsHaveLengths, ValidInEachPlace, MarksCutGroups, MarksCutPictures, OnePicture, StrictIsOwn, ReadInItsForm, WalkHasForm, StrictIsRead};
 
@@ -94,4 +95,10 @@ pub fn read_in_a_form()
     ensures accepted { ReadInItsForm }
     ensures walk { WalkHasForm }
     ensures strict { StrictIsRead }
+{}
+
+/// The text of a valid macroblock has at least 1 bit and at most 7,749, and a valid group has at most 33 macroblocks.
+pub fn lengths_of_macroblocks()
+    ensures macroblocks { MacroblocksAreShort }
+    ensures groups { GroupsAreShort }
 {}

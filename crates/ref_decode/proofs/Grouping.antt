@@ -10,7 +10,7 @@ use Rattle.pel_model.specs.Valid.{AddressesRise, IsValidMacroblock, IsValidGroup
 use Rattle.pel_model.specs.Walk.{after}
 use Rattle.h261_mb.specs.declared.state.MbState.{MbState}
 use Rattle.h261_mb.specs.State.{Stands}
-use Rattle.picture_laws.specs.PictureElements.{macroblock_elements}
+use Rattle.picture_laws.specs.PictureElements.{elements_of_macroblock as macroblock_elements}
 use Rattle.picture_laws.specs.SoFar.{IsBehind}
 use Rattle.picture_laws.proofs.Macroblocks.{says-macroblock, both_axes}
 use Rattle.ref_decode.specs.Drawing.{IsNext, BlocksDrawn, GroupDrawn, MacroblockDrawn}

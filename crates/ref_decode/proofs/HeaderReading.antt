@@ -21,7 +21,7 @@ use Rattle.pel_model.proofs.InsideElements.{inside-right}
 use Rattle.pel_model.proofs.Walks.{after-append, good_same, goes-append}
 use Rattle.vlc_codes.specs.Lookup.{codes_of_rows}
 use Rattle.vlc_codes.proofs.FoundRows.{Among, read-row, among-left, among-mapped}
-use Rattle.picture_laws.specs.PictureElements.{mvd_pair, vector_elements, cbp_elements, macroblock_elements}
+use Rattle.picture_laws.specs.PictureElements.{mvd_pair, elements_of_vector as vector_elements, elements_of_pattern as cbp_elements, elements_of_macroblock as macroblock_elements}
 use Rattle.picture_laws.proofs.Blocks.{sent, AreBlocksOf, says-blocks}
 use Rattle.picture_laws.proofs.Chains.{goes-walk, walk-goes, next-is, words}
 use Rattle.picture_laws.proofs.Macroblocks.{IsBehindVector, quantiser_says, says-vector, at-vector, vector-blocks, mquant-blocks, headed, says-macroblock}

@@ -17,7 +17,7 @@ use Rattle.pel_model.specs.Valid.{corner, IsValidMacroblock}
 use Rattle.h261_mb.specs.declared.header.Header.{Header}
 use Rattle.h261_mb.specs.declared.state.MbState.{MbState}
 use Rattle.h261_mb.specs.State.{Stands}
-use Rattle.picture_laws.specs.PictureElements.{macroblock_elements}
+use Rattle.picture_laws.specs.PictureElements.{elements_of_macroblock as macroblock_elements}
 use Rattle.picture_laws.specs.SoFar.{IsBehind}
 use Rattle.ref_decode.specs.declared.macroblock.Spot.{Spot}
 use Rattle.ref_decode.specs.Blocks.{IsBlockOf, block_at, filtered_if}

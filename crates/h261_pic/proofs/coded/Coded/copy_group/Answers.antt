@@ -26,7 +26,7 @@ parts c =
     let views_are : c.deref.result.now ≡ c.args.from.now.groups = c.deref.ensures.0 ∙ ap (λ (k : Coding). k.groups) c.from.view_is in
     let few : length c.from.inside.marks.items ≤ 396 = omega (arith, few_groups c.from.inside.format, c.from.invariant.marks, c.from.invariant.groups) in
     record {
-      has = subst (λ (k : Coding). 0 < length k.bits → HasPicture k) c.from.view_is c.from.invariant.picture c.requires.finished.0;
+      has = subst (λ (k : Coding). 0 < length k.bits → HasPicture k) c.from.view_is c.from.invariant.picture c.requires.copied.finished.0;
       views = views_are;
       marks = c.deref-2.ensures.0 ∙ ap (λ (k : Coding). k.marks) c.from.view_is;
       first = c.from-first.ensures ∙ ap (λ (vs : List GroupView). (slice_index_or vs c.args.i no_view).first_mark) views_are;
@@ -47,7 +47,7 @@ slice-is c =
     part-is c.deref-2.result.now c.args.from.now.marks c.from-first.result view.first_mark c.from-2.result view.marks p.marks p.first p.count
 
 holds : (c : After-from-2) → HoldsMarks c.args.from.now c.args.i
-holds c = group-marks c.args.from.now c.args.i (parts c).has c.requires.there
+holds c = group-marks c.args.from.now c.args.i (parts c).has c.requires.copied.there
 
 pub overflow_add-marks : goal.overflow_add-marks
 overflow_add-marks c = let p = parts c in omega (arith, p.first, p.count, p.few, (holds c).within)
@@ -78,7 +78,7 @@ add_group-requires-clause-room c =
     let b = (goal.at.add_group-requires-clause-room c).After-from-2 in
     let bits_are : c.bits.result ≡ c.args.from.now.bits = c.bits.ensures ∙ ap (λ (k : Coding). k.bits) c.from.view_is in
     let same = found c.bits.result c.args.from.now c.args.i _ bits_are (slice-is b) (holds b) in
-    omega (arith, ap length same, (holds b).long, c.requires.room)
+    omega (arith, ap length same, (holds b).long, c.requires.copied.room)
 
 same_group_text : (c : Coding) (number quant quant' : ℕ) (bits bits' : List Bool) (marks marks' : List Mark) → quant ≡ quant' → bits ≡ bits' → marks ≡ marks'
     → IsGroupText c.format number quant' bits' marks' → IsGroupText c.format number quant bits marks
@@ -97,7 +97,7 @@ add_group-requires-clause-text c =
     (bits_at c.bits.result ms) (macroblock_bits c.args.from.now c.args.i) ms (marks_in c.args.from.now c.args.i)
     (ap (λ (vs : List GroupView). (slice_index_or vs c.args.i no_view).quant) (parts b).views)
     (found c.bits.result c.args.from.now c.args.i ms bits_are (slice-is b) (holds b)) (slice-is b)
-    (copied-text c.args.from.now c.args.self.now.format c.args.i number (parts b).has c.requires.finished c.requires.there c.requires.belongs)
+    (copied-text c.args.from.now c.args.self.now.format c.args.i number (parts b).has c.requires.copied.finished c.requires.copied.there c.requires.copied.belongs)
 
 same_grown : (c : Coding) (quant quant' : ℕ) (bits bits' : List Bool) (marks marks' : List Mark) → quant ≡ quant' → bits ≡ bits' → marks ≡ marks'
     → grown c quant bits marks ≡ grown c quant' bits' marks'
@@ -114,4 +114,4 @@ returns-clause-grown c =
 
 pub returns-clause-picture : goal.returns-clause-picture
 returns-clause-picture c =
-    λ p q old_is from_is. copied-added c.args.self.now c.args.from.now _ p q c.args.i c.requires.there old_is from_is (returns-clause-grown c)
+    λ p q old_is from_is. copied-added c.args.self.now c.args.from.now _ p q c.args.i c.requires.copied.there old_is from_is (returns-clause-grown c)

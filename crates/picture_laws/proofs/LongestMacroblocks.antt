@@ -10,7 +10,8 @@ use Rattle.pel_model.specs.Codes.{mtype_table, first_one_word, later_one_word, e
 use Rattle.pel_model.specs.Records.{Coefficient, Block, Macroblock, Group}
 use Rattle.pel_model.specs.Text.{coefficient_word, coefficients_text, dc_text, one_word, block_text, sent_block_text, mba_word, mtype_word, mquant_text, mvd_text, cbp_text, macroblock_text}
 use Rattle.pel_model.specs.Valid.{IsIntraBlock, IsCodedBlock, BlocksFit, AddressesRise, IsValidMacroblock, IsValidGroup}
-use Rattle.atom_laws.proofs.Words.{length-field, mba_is_short, mtype_is_short, mquant_is_short, mvd_is_short, cbp_is_short, coefficient_is_short}
+use Rattle.picture_laws.proofs.Words.{length-field}
+use Rattle.picture_laws.proofs.LongestWords.{mba_is_short, mtype_is_short, mquant_is_short, mvd_is_short, cbp_is_short, coefficient_is_short}
 
 abbrev places : List Coefficient → ℕ
 places cs = sum_by (λ (c : Coefficient). c.run + 1) cs
@@ -113,7 +114,7 @@ macroblock_is_short format group last m valid =
     six_sums (mba_word last m) (mtype_word m.kind) (mquant_text m.mquant) (mvd_text last m) (cbp_text m) blocks in
     (omega (arith, g, long), omega (arith, a, b, c, d, e, f, valid.six, long))
 
-few_addresses : (last : ℕ) (ms : List Macroblock) → last ≤ 33 → AddressesRise last ms → last + length ms ≤ 33
+pub few_addresses : (last : ℕ) (ms : List Macroblock) → last ≤ 33 → AddressesRise last ms → last + length ms ≤ 33
 few_addresses last [] within rise = omega (arith, within)
 few_addresses last (m ∷ ms) within rise = omega (arith, rise.0, few_addresses m.address ms rise.1 rise.2)
 

@@ -1,5 +1,5 @@
-use Rattle.atom_laws.proofs.Macroblocks.{macroblock_is_short, group_is_short}
-use Rattle.atom_laws.proofs.lengths_of_macroblocks.Goals as goal
+use Rattle.picture_laws.proofs.LongestMacroblocks.{macroblock_is_short, group_is_short}
+use Rattle.picture_laws.proofs.lengths_of_macroblocks.Goals as goal
 
 pub returns-clause-macroblocks : goal.returns-clause-macroblocks
 returns-clause-macroblocks c = macroblock_is_short

@@ -1,4 +1,4 @@
--- The laws of what decoders show.
+-- The laws of what decoders show: decoded frames, cut into places.
 use Rattle.std.specs.Prelude.{◌≡◌, ◌⊎◌, ℕ, pos, true, All}
 use Rattle.pel_model.specs.declared.Format.TheVariants.{Qcif, Cif}
 use Rattle.pel_model.specs.declared.Quad.{Quad}
@@ -15,13 +15,16 @@ use Rattle.pel_model.specs.Valid.{side, corner, stays_within, IsValid}
 -- ---- the law of the quadrant
 
 -- a component of a vector refers to samples of the QCIF picture alone (H.261, 3.2.2), or is 0
-abbrev pub StaysInside : (group : ℕ) → Macroblock → Axis → Type 0
-StaysInside group m axis =
+abbrev pub KeepsInside : (group : ℕ) → Macroblock → Axis → Type 0
+KeepsInside group m axis =
     (stays_within (side Qcif axis) (corner axis group m.address) (component axis m) ≡ true) ⊎ (component axis m ≡ pos 0)
 
+-- both components do
+abbrev pub BothKeepInside : (group : ℕ) → Macroblock → Type 0
+BothKeepInside group m = KeepsInside group m Across × KeepsInside group m Down
+
 abbrev pub VectorsStayInside : Picture → Type 0
-VectorsStayInside picture =
-    All (λ (g : Group). All (λ (m : Macroblock). StaysInside g.number m Across × StaysInside g.number m Down) g.macroblocks) picture.groups
+VectorsStayInside picture = All (λ (g : Group). All (BothKeepInside g.number) g.macroblocks) picture.groups
 
 abbrev pub QuadrantLaw : Type 0
 QuadrantLaw =

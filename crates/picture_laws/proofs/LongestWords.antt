@@ -7,12 +7,8 @@ use Rattle.pel_model.specs.Bits.{field}
 use Rattle.pel_model.specs.Codes.{mba_table, mtype_table, mvd_table, cbp_table, tcoeff_table, first_one_word, later_one_word, escape_word, end_of_block_word, row_of, has_vector, has_cbp}
 use Rattle.pel_model.specs.Records.{Axis, Across, Down, Coefficient, Macroblock, component}
 use Rattle.pel_model.specs.Text.{word_of, address_of, predictor, coded_block_pattern, mba_word, mtype_word, mquant_text, mvd_word, mvd_text, cbp_text, coefficient_word, pair_word, twos_complement, is_negative}
+use Rattle.picture_laws.proofs.Words.{length-field}
 use Rattle.std.specs.Prelude.{nat_abs}
-
-pub length-field : (n w : ℕ) → length (field n w) ≡ w
-unfolding field
-length-field n zero = refl
-length-field n (suc w) = ap suc (length-field n w)
 
 -- no codeword of the rows is longer
 abbrev short_rows : {A : Type 0} → ℕ → List (List Bool × A) → Bool
