@@ -7,8 +7,8 @@ use Rattle.hall_lock.specs.declared.view.Turn.{Turn}
 use Rattle.hall_lock.specs.Turns.{Goes}
 use Rattle.pel_model.specs.History.{Step, Post, Gap, Order, Tick, End, History, has_ended, is_end}
 use Rattle.pel_model.specs.Legal.{Legal}
-use Rattle.seat_turns.specs.Finishing.{EndsByFinish}
-use Rattle.seat_turns.proofs.Finished.{none_ended}
+use Rattle.hall_lock.specs.Finishing.{EndsByFinish}
+use Rattle.hall_lock.proofs.Finished.{none_ended}
 use Rattle.hall_core.specs.declared.machine.HallCall.{HallCall}
 use Rattle.hall_core.specs.declared.machine.HallCall.TheVariants.{Post as AskPost, Gap as AskGap, Order as AskOrder, Tick as AskTick, Finish}
 use Rattle.hall_core.specs.declared.machine.HallReply.{HallReply}

@@ -9,9 +9,9 @@ use Rattle.pel_model.specs.declared.Format.TheVariants.{Qcif}
 use Rattle.pel_model.specs.History.{Step, Post, Gap, Order, Tick, End, History}
 use Rattle.pel_model.specs.Legal.{IsPostable, Legal}
 use Rattle.pel_model.specs.Records.{Picture}
-use Rattle.seat_turns.specs.Asking.{NoneEnded}
-use Rattle.seat_turns.specs.Finishing.{FinishLast}
-use Rattle.seat_turns.specs.Telling.{StepsFrom}
+use Rattle.hall_lock.specs.Asking.{NoneEnded}
+use Rattle.hall_lock.specs.Finishing.{FinishLast}
+use Rattle.hall_lock.specs.Telling.{StepsFrom}
 use Rattle.hall_core.specs.declared.machine.HallCall.{HallCall}
 use Rattle.hall_core.specs.declared.machine.HallCall.TheVariants.{Post as AskPost, Gap as AskGap, Order as AskOrder, Tick as AskTick, Finish}
 use Rattle.hall_core.specs.declared.machine.HallReply.{HallReply}

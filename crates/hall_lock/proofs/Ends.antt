@@ -1,5 +1,5 @@
 -- The lock as it is made, and as it is closed by the seat that has every share.
-use Rattle.std.proofs.Common.{◌≡◌, ◌≢◌, ℕ, ◌≤◌, ◌^◌, Bool, true, false, cond, List, [], ◌∷◌, length, sum_by, sym, ap, refl, ◌∙◌, subst, ⊎_elim, inr, arith, lt_of_not-le, Option, Some, None, Box, unwrap_or, is_some}
+use Rattle.std.proofs.Common.{◌≡◌, ◌≢◌, ℕ, ◌≤◌, ◌^◌, Bool, true, false, cond, List, [], ◌∷◌, ◌++◌, length, sum_by, sym, ap, refl, ◌∙◌, subst, ⊎_elim, inr, arith, lt_of_not-le, Option, Some, None, Box, unwrap_or, is_some}
 use Rattle.std.specs.Global.{Global}
 use Rattle.std.proofs.lemmas.Bool.Decides.{nat_tests}
 use mathlib.Core.Bool.{true≢false}
@@ -13,9 +13,12 @@ use Rattle.atomic_table.proofs.Lists.{at_snoc}
 use Rattle.hall_lock.specs.declared.view.Turn.{Turn}
 use Rattle.hall_lock.specs.declared.view.View.{View}
 use Rattle.hall_lock.specs.Turns.{Leads}
-use Rattle.hall_lock.specs.Places.{one_below}
-use Rattle.hall_lock.specs.Rule.{IsKept, IsSeated, Slot, spent_view, share_of, has_ticket, has_place, turns_at, is_at, waits}
-use Rattle.hall_lock.specs.Steps.{first_view, IsClosing}
+use Rattle.atomic_table.specs.Seated.{TableId}
+use Rattle.hall_lock.specs.Places.{one_below, EachOnce}
+use Rattle.hall_lock.specs.Seats.{Lock, SeatState, IsOf}
+use Rattle.hall_lock.specs.Closing.{Closes}
+use Rattle.hall_lock.specs.Rule.{IsKept, IsSeated, Slot, spent_view, share_of, has_ticket, has_place, has_turn, is_at, waits}
+use Rattle.hall_lock.specs.AtTable.{first_view, IsClosing, shown}
 use Rattle.hall_lock.proofs.Sums.{two_at_least, one_counts}
 use Rattle.hall_lock.proofs.Histories.{prefix_whole, one_below-yes}
 
@@ -86,13 +89,13 @@ module _ {M C R S : Type 0} (shape : M → S) (fits : S → C → Type 0) (steps
       let sum : (f : View M C R → ℕ) → f spent_view ≡ 0 → sum_by f s.views ≡ f v = alone s r i v at whole in
       let no_ticket : has_ticket r.turn v ≡ 0 = ap (λ (o : Option ℕ). one_if (is_at r.turn o)) free in
       let all_passed : r.tickets ≤ r.turn = waits_first r.turn r.tickets (sym (r.queue r.turn) ∙ (sum (has_ticket r.turn) refl ∙ no_ticket)) in
-      let none_there : sum_by turns_at s.views ≡ 0 = sum turns_at refl ∙ ap one_if waits_not in
+      let none_there : sum_by has_turn s.views ≡ 0 = sum has_turn refl ∙ ap one_if waits_not in
       let placed : (y : ℕ) → has_place y v ≡ one_below r.turn y = λ y. sym (sum (has_place y) refl) ∙ r.places y in
       let seen_all : r.turn ≤ length v.seen = dite (dec_le r.turn (length v.seen)) (λ h. h)
       (λ short. absurd (omega (arith, placed (length v.seen), it.places (length v.seen) (omega arith), one_below-yes r.turn (length v.seen) (lt_of_not-le short)))) in
       let whole_log : v.seen ≡ r.log = prefix_whole v.seen r.log it.knows (omega (arith, r.long)) in
       let long : length v.seen ≡ r.turn = ap (λ (ts : List (Turn C R)). length ts) whole_log ∙ r.long in
-      let home = box_there r.log s.homes (sum_by turns_at s.views) r.slot none_there in record {
+      let home = box_there r.log s.homes (sum_by has_turn s.views) r.slot none_there in record {
         box = home.0;
         word = ap (λ (z : List ℕ). get_elem? z 1) (sym same_words ∙ r.words) ∙ ap some (sym long);
         slot = same_slots 0 (Some home.0) (ap (λ (hs : List (maybe.Option (Option (Box M Global)))). get_elem? hs 0) home.1);
@@ -124,3 +127,32 @@ module _ {B : Type 0} where
 
 pub same_number : (o : maybe.Option ℕ) (x y : ℕ) → o ≡ some x → o ≡ some y → x ≡ y
 same_number o x y p q = maybe.some-injective x y (sym p ∙ q)
+
+-- what a seat knows of the lock that it closes
+module _ {M C R S : Type 0} (shape : M → S) (fits : S → C → Type 0) (steps : M → C → R → M → Type 0) where
+  closed_view :
+      (z : TableId) (lock : Lock M) (words : List ℕ) (slots : List (Option (Box M Global))) (v : View M C R) (n : ℕ) (x : Option (Box M Global)) (b : Box M Global) →
+      IsOf lock (shown z v) → IsClosing shape fits steps words slots v → get_elem? words 1 ≡ some n → get_elem? slots 0 ≡ some x → x ≡ Some b →
+      Closes shape fits steps lock (shown z v) b.value n
+  closed_view z lock words slots v n x b of end word slot is =
+      let count : n ≡ length v.seen = same_number _ _ _ word end.word in
+      let box : end.box ≡ b = same_taken _ x b end.box slot is end.slot in
+      let opened : end.leads.0 ≡ lock.opening = cc (end.leads.1, ap (λ (l : Lock (Option M)). l.opening) of) in
+      let turns : v.turns ≡ lock.turns = ap (λ (l : Lock (Option M)). l.turns) of in
+      record {
+        history = subst (λ (m : M). Leads shape fits steps m v.seen b.value) opened
+            (subst (λ (y : Box M Global). Leads shape fits steps end.leads.0 v.seen y.value) box end.leads.2);
+        counted = count;
+        reaches = subst (λ (k : ℕ). v.front ≤ k) (sym count) end.front;
+        within = omega (arith, count, end.within, turns);
+        places = subst (λ (k : ℕ). EachOnce k (v.mine ++ v.past)) (sym count) end.places;
+        full = λ e. count ∙ (end.full e ∙ turns);
+      }
+
+  pub closed_so :
+      (z : TableId) (lock : Lock M) (seat : SeatState M C R) (words : List ℕ) (slots : List (Option (Box M Global))) (v : View M C R) (n : ℕ) (x : Option (Box M Global)) (b : Box M Global) →
+      shown z v ≡ seat → IsOf lock seat → IsClosing shape fits steps words slots v → get_elem? words 1 ≡ some n → get_elem? slots 0 ≡ some x → x ≡ Some b →
+      Closes shape fits steps lock seat b.value n
+  closed_so z lock seat words slots v n x b shows of end word slot is =
+      subst (λ (s : SeatState M C R). Closes shape fits steps lock s b.value n) shows
+      (closed_view z lock words slots v n x b (subst (λ (s : SeatState M C R). IsOf lock s) (sym shows) of) end word slot is)

@@ -10,7 +10,7 @@ use Rattle.hall_lock.specs.Rule.{waits, is_at}
 use Rattle.hall_lock.specs.declared.view.Turn.{Turn}
 use Rattle.hall_lock.specs.Turns.{Goes, Leads}
 use Rattle.hall_lock.specs.Places.{times, one_below}
-use Rattle.hall_lock.specs.Steps.{LeadsFrom, FitsFrom, turn_of}
+use Rattle.hall_lock.specs.AtTable.{LeadsFrom, FitsFrom, turn_of}
 
 module _ {A : Type 0} where
   -- each list begins with itself

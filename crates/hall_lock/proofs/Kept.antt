@@ -11,8 +11,8 @@ use Rattle.atomic_table.proofs.Lists.{at_set}
 use Rattle.hall_lock.specs.declared.view.Turn.{Turn}
 use Rattle.hall_lock.specs.declared.view.View.{View}
 use Rattle.hall_lock.specs.Places.{AtMostOnce, times}
-use Rattle.hall_lock.specs.Rule.{IsKept, IsSeated, Slot, spent_view, share_of, has_ticket, has_place, turns_at, is_at}
-use Rattle.hall_lock.specs.Steps.{Sitting, saw_tickets, recalled}
+use Rattle.hall_lock.specs.Rule.{IsKept, IsSeated, Slot, spent_view, share_of, has_ticket, has_place, has_turn, is_at}
+use Rattle.hall_lock.specs.AtTable.{Sitting, saw_tickets, recalled}
 use Rattle.hall_lock.proofs.Sums.{sum_by-kept, at_least}
 use Rattle.hall_lock.proofs.Histories.{one_below-le, one_below-yes}
 
@@ -53,7 +53,7 @@ module _ {M C R S : Type 0} (shape : M → S) (fits : S → C → Type 0) (steps
     bounded = r.bounded;
     queue = λ y. sum_by-kept (has_ticket y) s.views i v w at (ap (λ (t : Option ℕ). cond (is_at y t) 1 0) ticket) ∙ r.queue y;
     long = r.long;
-    slot = subst (λ (n : ℕ). Slot shape fits steps m most r.log s.homes n) (sym (sum_by-kept turns_at s.views i v w at (ap (λ (b : Bool). cond b 1 0) turn))) r.slot;
+    slot = subst (λ (n : ℕ). Slot shape fits steps m most r.log s.homes n) (sym (sum_by-kept has_turn s.views i v w at (ap (λ (b : Bool). cond b 1 0) turn))) r.slot;
     places = λ y. sum_by-kept (has_place y) s.views i v w at (λ k. times y (mine k ++ past k)) ∙ r.places y;
     shares = sum_by-kept share_of s.views i v w at share ∙ r.shares;
     seats = seats_after m most s.views i w r.tickets r.turn r.log (λ _. seated) (λ j u _ there alive. r.seats j u there alive);

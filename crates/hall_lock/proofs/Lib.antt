@@ -5,3 +5,13 @@ pub mod Passing
 pub mod Sharing
 pub mod Ends
 pub mod Waiting
+pub mod Every
+pub mod Owned
+pub mod Asked
+pub mod Joined
+pub mod Sorted
+pub mod Counted
+pub mod SharedOut
+pub mod Finished
+pub mod Told
+pub mod Gathered

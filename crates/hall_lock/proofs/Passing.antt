@@ -15,8 +15,8 @@ use Rattle.hall_lock.specs.declared.view.Turn.{Turn}
 use Rattle.hall_lock.specs.declared.view.View.{View}
 use Rattle.hall_lock.specs.Turns.{Leads}
 use Rattle.hall_lock.specs.Places.{one_below}
-use Rattle.hall_lock.specs.Rule.{IsKept, IsSeated, Slot, share_of, has_ticket, has_place, turns_at, is_at, waits}
-use Rattle.hall_lock.specs.Steps.{Sitting, drew, looked, passed, looking, turning, passing, TakesBox, LeadsFrom}
+use Rattle.hall_lock.specs.Rule.{IsKept, IsSeated, Slot, share_of, has_ticket, has_place, has_turn, is_at, waits}
+use Rattle.hall_lock.specs.AtTable.{Sitting, drew, looked, passed, looking, turning, passing, TakesBox, LeadsFrom}
 use Rattle.hall_lock.proofs.Sums.{sum_by-put, sum_by-kept, at_least, two_at_least, none_counts}
 use Rattle.hall_lock.proofs.Histories.{prefix_self, prefix_more, prefix_trans, prefix_length, one_below-more, waits-drawn, waits-passed, waits-le, waits-here, is_at-yes, is_at-here, times-append, times_one, set_at_here}
 use Rattle.hall_lock.proofs.Kept.{seats_after, gone_after, not_gone, quiet, own_places}
@@ -58,7 +58,7 @@ module _ {M C R S : Type 0} (shape : M → S) (fits : S → C → Type 0) (steps
             let was : sum_by (has_ticket y) s.views ≡ waits r.turn k y = r.queue y ∙ ap (λ (t : ℕ). waits r.turn t y) is in
             omega (arith, put, before, was, waits-drawn r.turn k y (omega (arith, r.drawn)));
         long = r.long;
-        slot = subst (λ (n : ℕ). Slot shape fits steps m most r.log s.homes n) (sym (sum_by-kept turns_at s.views i v w at refl)) r.slot;
+        slot = subst (λ (n : ℕ). Slot shape fits steps m most r.log s.homes n) (sym (sum_by-kept has_turn s.views i v w at refl)) r.slot;
         places = λ y. sum_by-kept (has_place y) s.views i v w at refl ∙ r.places y;
         shares = sum_by-kept share_of s.views i v w at refl ∙ r.shares;
         seats = seats_after m most s.views i w (k + 1) r.turn r.log (λ _. record {
@@ -106,8 +106,8 @@ module _ {M C R S : Type 0} (shape : M → S) (fits : S → C → Type 0) (steps
       full_is false e it here read = refl
 
   -- while the ticket at the turn is the seat's and the seat is not at the turn, no seat is
-  none_at_turn : (s : St) (r : Rule s) (i : ℕ) (v : View M C R) → get_elem? s.views i ≡ some v → v.ticket ≡ Some r.turn → v.at_turn ≡ false → sum_by turns_at s.views ≡ 0
-  none_at_turn s r i v at ticket not_yet = none_counts turns_at s.views (λ j w there. by j w there w.at_turn refl w.spent refl)
+  none_at_turn : (s : St) (r : Rule s) (i : ℕ) (v : View M C R) → get_elem? s.views i ≡ some v → v.ticket ≡ Some r.turn → v.at_turn ≡ false → sum_by has_turn s.views ≡ 0
+  none_at_turn s r i v at ticket not_yet = none_counts has_turn s.views (λ j w there. by j w there w.at_turn refl w.spent refl)
     where
       counted : (u : View M C R) → u.ticket ≡ Some r.turn → has_ticket r.turn u ≡ 1
       counted u e = ap (λ (t : Option ℕ). one_if (is_at r.turn t)) e ∙ ap one_if (is_at-here r.turn)
@@ -137,7 +137,7 @@ module _ {M C R S : Type 0} (shape : M → S) (fits : S → C → Type 0) (steps
         long = r.long;
         slot = inl (
           ap (λ (hs : List (maybe.Option (Option (Box M Global)))). set hs 0 none) home,
-          omega (arith, sum_by-put turns_at s.views i v w at, ap one_if not_yet, none_at_turn s r i v at ticket not_yet),
+          omega (arith, sum_by-put has_turn s.views i v w at, ap one_if not_yet, none_at_turn s r i v at ticket not_yet),
         );
         places = λ y. sum_by-kept (has_place y) s.views i v w at refl ∙ r.places y;
         shares = sum_by-kept share_of s.views i v w at refl ∙ r.shares;
@@ -179,7 +179,7 @@ module _ {M C R S : Type 0} (shape : M → S) (fits : S → C → Type 0) (steps
       let it = r.seats id me.0 at live in
       let read : n ≡ r.turn = found ∙ ap (λ (ws : List ℕ). get_or ws 1 0) r.words in
       let ticket : v.ticket ≡ Some r.turn = is_at-yes n v.ticket e ∙ ap Some read in
-      let home = box_is_home r.log s.homes (sum_by turns_at s.views) r.slot (none_at_turn s r id v at ticket not_yet) in
+      let home = box_is_home r.log s.homes (sum_by has_turn s.views) r.slot (none_at_turn s r id v at ticket not_yet) in
       let knows = prefix_length v.seen r.log it.knows in (
         turning v n r.log,
         takes 0 (Some home.0),
@@ -229,8 +229,8 @@ module _ {M C R S : Type 0} (shape : M → S) (fits : S → C → Type 0) (steps
       let held = it.holds_turn here in
       let now : k ≡ r.turn = cc (held.0, ticket) in
       let counted : has_ticket r.turn v ≡ 1 = ap (λ (o : Option ℕ). one_if (is_at r.turn o)) held.0 ∙ ap one_if (is_at-here r.turn) in
-      let some_there : 1 ≤ sum_by turns_at s.views = omega (arith, at_least turns_at s.views i v at, ap one_if here) in
-      let out = box_is_out r.log s.homes (sum_by turns_at s.views) r.slot some_there in
+      let some_there : 1 ≤ sum_by has_turn s.views = omega (arith, at_least has_turn s.views i v at, ap one_if here) in
+      let out = box_is_out r.log s.homes (sum_by has_turn s.views) r.slot some_there in
       let more : r.turn < r.tickets = waits-here r.turn r.tickets (omega (arith, at_least (has_ticket r.turn) s.views i v at, counted, r.queue r.turn)) in
       let log' : List (Turn C R) = r.log ++ t ∷ [] in
       let long : length v.seen ≡ r.turn = ap (λ (ts : List (Turn C R)). length ts) held.1 ∙ r.long in
@@ -247,7 +247,7 @@ module _ {M C R S : Type 0} (shape : M → S) (fits : S → C → Type 0) (steps
             let before : has_ticket y v ≡ one_if (eqb r.turn y) = ap (λ (o : Option ℕ). one_if (is_at y o)) held.0 in
             omega (arith, sum_by-put (has_ticket y) s.views i v w at, before, r.queue y, waits-passed r.turn r.tickets y more, ap (λ (z : ℕ). waits (z + 1) r.tickets y) now);
         long = omega (arith, length-append r.log (t ∷ []), r.long, now);
-        slot = inr (b, ap (λ (hs : Homes). set hs 0 (some (Some b))) out.0, omega (arith, sum_by-put turns_at s.views i v w at, ap one_if here, out.1), led');
+        slot = inr (b, ap (λ (hs : Homes). set hs 0 (some (Some b))) out.0, omega (arith, sum_by-put has_turn s.views i v w at, ap one_if here, out.1), led');
         places = λ y. omega (arith, sum_by-put (has_place y) s.views i v w at, placed y, r.places y, one_below-more r.turn y, ap (λ (z : ℕ). one_below (z + 1) y) now);
         shares = sum_by-kept share_of s.views i v w at refl ∙ r.shares;
         seats = seats_after m most s.views i w r.tickets (k + 1) log' (λ _. record {

@@ -8,8 +8,8 @@ use lib.ListN.{get_elem?}
 use Rattle.atomic_table.specs.Table.{State, Splits, Joins}
 use Rattle.atomic_table.proofs.Lists.{at_snoc, set_else}
 use Rattle.hall_lock.specs.declared.view.View.{View}
-use Rattle.hall_lock.specs.Rule.{IsKept, IsSeated, Slot, spent_view, share_of, has_ticket, has_place, turns_at, is_at}
-use Rattle.hall_lock.specs.Steps.{cut_left, cut_right, glued}
+use Rattle.hall_lock.specs.Rule.{IsKept, IsSeated, Slot, spent_view, share_of, has_ticket, has_place, has_turn, is_at}
+use Rattle.hall_lock.specs.AtTable.{cut_left, cut_right, glued}
 use Rattle.hall_lock.proofs.Sums.{sum_by-put}
 use Rattle.hall_lock.proofs.Histories.{of_two, longest, times-append}
 use Rattle.hall_lock.proofs.Kept.{seats_after, gone_after, not_gone}
@@ -61,7 +61,7 @@ module _ {M C R S : Type 0} (shape : M → S) (fits : S → C → Type 0) (steps
         bounded = r.bounded;
         queue = λ y. let none_there : has_ticket y v ≡ 0 = ap (λ (o : Option ℕ). one_if (is_at y o)) free in counts (has_ticket y) (omega (arith, none_there)) ∙ r.queue y;
         long = r.long;
-        slot = subst (λ (n : ℕ). Slot shape fits steps m most r.log s.homes n) (sym (counts turns_at (omega arith))) r.slot;
+        slot = subst (λ (n : ℕ). Slot shape fits steps m most r.log s.homes n) (sym (counts has_turn (omega arith))) r.slot;
         places = λ y. counts (has_place y) (omega arith) ∙ r.places y;
         shares = counts share_of (omega arith) ∙ r.shares;
         seats = λ j u there alive. ⊎_elim (λ (old : get_elem? vs j ≡ some u). seats_after m most s.views id left r.tickets r.turn r.log (λ _. seated_left) (λ k x _ at' live'. r.seats k x at' live') j u old alive)
@@ -102,7 +102,7 @@ module _ {M C R S : Type 0} (shape : M → S) (fits : S → C → Type 0) (steps
         bounded = r.bounded;
         queue = λ y. let none_there : has_ticket y w ≡ 0 = ap (λ (o : Option ℕ). one_if (is_at y o)) free in counts (has_ticket y) (omega (arith, none_there)) ∙ r.queue y;
         long = r.long;
-        slot = subst (λ (n : ℕ). Slot shape fits steps m most r.log s.homes n) (sym (counts turns_at (omega (arith, ap one_if waits_not')))) r.slot;
+        slot = subst (λ (n : ℕ). Slot shape fits steps m most r.log s.homes n) (sym (counts has_turn (omega (arith, ap one_if waits_not')))) r.slot;
         places = λ y. counts (has_place y) (omega (arith, placed y)) ∙ r.places y;
         shares = counts share_of (omega arith) ∙ r.shares;
         seats = seats_after m most vs other spent r.tickets r.turn r.log (λ e. absurd cc)

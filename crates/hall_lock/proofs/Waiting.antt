@@ -3,7 +3,7 @@ use Rattle.std.proofs.Common.{◌≡◌, ℕ, ◌+◌, ◌≤◌, Bool, true, Li
 use Rattle.std.specs.Global.{Global}
 use Rattle.hall_lock.specs.declared.view.View.{View}
 use Rattle.hall_lock.specs.Rule.{is_at}
-use Rattle.hall_lock.specs.Steps.{Sitting, IsWaiting, Waits, TakesBox, Arrives, HasBox, LeadsFrom, FitsFrom, turn_of, looking, turning}
+use Rattle.hall_lock.specs.AtTable.{Sitting, IsWaiting, Waits, TakesBox, Arrives, HasBox, LeadsFrom, FitsFrom, turn_of, looking, turning}
 use Rattle.hall_lock.proofs.Histories.{is_at-here, fits_there, led_on}
 
 module _ {M C R S : Type 0} (shape : M → S) (fits : S → C → Type 0) (steps : M → C → R → M → Type 0) where

@@ -1,5 +1,13 @@
 pub mod Turns
 pub mod Places
 pub mod Seats
+pub mod Own
+pub mod Asking
+pub mod Joining
+pub mod Closing
+pub mod Sorting
+pub mod Finishing
+pub mod Telling
+pub mod TurnLaws
 pub mod Rule
-pub mod Steps
+pub mod AtTable

@@ -29,8 +29,8 @@ module _ {M C R : Type 0} where
   abbrev pub has_ticket : ℕ → View M C R → ℕ
   has_ticket x v = (if is_at x v.ticket then 1 else 0)
 
-  abbrev pub turns_at : View M C R → ℕ
-  turns_at v = (if v.at_turn then 1 else 0)
+  abbrev pub has_turn : View M C R → ℕ
+  has_turn v = (if v.at_turn then 1 else 0)
 
   abbrev pub has_place : ℕ → View M C R → ℕ
   has_place x v = times x (v.mine ++ v.past)
@@ -84,7 +84,7 @@ module _ {M C R S : Type 0} (shape : M → S) (fits : S → C → Type 0) (steps
       -- each number from `turn` up to `tickets` is the ticket of one view, and no other number is a ticket
       pub queue : (x : ℕ) → sum_by (has_ticket x) s.views ≡ waits turn tickets x
       pub long : length log ≡ turn
-      pub slot : Slot log s.homes (sum_by turns_at s.views)
+      pub slot : Slot log s.homes (sum_by has_turn s.views)
       -- each place below `turn` is in `mine` or `past` of one view, once
       pub places : (x : ℕ) → sum_by (has_place x) s.views ≡ one_below turn x
       pub shares : sum_by share_of s.views ≡ 2 ^ 32

@@ -1,7 +1,6 @@
 -- What contracts see of a lock and of a seat at it, and what a call changes of a seat.
 use Rattle.std.specs.Prelude.{◌≡◌, ℕ, ◌+◌, ◌-◌, ◌^◌, ◌<◌, ◌≤◌, max, Bool, false, ◌||◌, List, [], ◌∷◌, ◌++◌, length, nat_le, if◌then◌else◌, Option, Some, refl}
 use Rattle.std.specs.Coded.{Coded, code_by, coded×, coded_ℕ, coded_bool, coded_list, coded_option}
-use mathlib.Core.List.{IsPrefix}
 use Rattle.atomic_table.specs.Seated.{TableId, table_id_coded}
 use Rattle.hall_lock.specs.declared.view.Turn.{Turn}
 use Rattle.hall_lock.specs.Places.{AtMostOnce}
@@ -67,13 +66,13 @@ module _ {X : Type 0} where
   shorter xs ys = (if nat_le (length xs) (length ys) then xs else ys)
 
 -- the lock as its seats name it
-abbrev pub named : {M : Type 0} → Lock M → Lock (Option M)
-named l = record { name = l.name; opening = Some l.opening; turns = l.turns }
+abbrev pub seats_lock : {M : Type 0} → Lock M → Lock (Option M)
+seats_lock l = record { name = l.name; opening = Some l.opening; turns = l.turns }
 
 module _ {M C R : Type 0} where
   -- the seat is of this lock: it came from the `reserve` that made it, at once or by splits
   abbrev pub IsOf : Lock M → SeatState M C R → Type 0
-  IsOf l s = s.lock ≡ named l
+  IsOf l s = s.lock ≡ seats_lock l
 
   -- its places are places of what it has seen, each once
   abbrev pub OwnsPlaces : SeatState M C R → Type 0
@@ -82,7 +81,7 @@ module _ {M C R : Type 0} where
   -- the seat that comes with a new lock
   abbrev pub first_seat : Lock M → SeatState M C R
   first_seat l = record {
-    lock = named l;
+    lock = seats_lock l;
     share = 2 ^ 32;
     seen = [];
     mine = [];
@@ -111,18 +110,3 @@ module _ {M C R : Type 0} where
     front = max s.front o.front;
     full = s.full || o.full;
   }
-
-  -- The seat has made one turn: the call with its reply stands behind the turns that came before it, which begin with all that the seat had seen
-  pub record TakesTurn (call : C) (reply : R) (old new : SeatState M C R) : Type 0 where
-    -- the turns before it
-    pub before : List (Turn C R)
-    pub begins : IsPrefix old.seen before
-    pub ends : new.seen ≡ before ++ record { call = call; reply = reply } ∷ []
-    pub place : new.mine ≡ old.mine ++ length before ∷ []
-    -- the seat read that the turns before it had passed, and none more
-    pub reads : new.front ≡ length before
-    pub not_fallen : old.front ≤ new.front
-    pub looked : old.looks < new.looks
-    -- the draw did not read that all turns were drawn, nor had one before
-    pub not_full : (old.full ≡ false) × (new.full ≡ false)
-    pub kept : (new.lock ≡ old.lock) × (new.share ≡ old.share) × (new.past ≡ old.past)

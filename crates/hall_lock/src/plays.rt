@@ -1,6 +1,6 @@
 //! What each step on the table tells, how a view is cut in two, and how two become one.
 ghost use Rattle.hall_lock.specs.Rule.{spent_view};
-ghost use Rattle.hall_lock.specs.Steps.{saw_tickets, recalled, drew, looked, passed, cut_left, cut_right, glued};
+ghost use Rattle.hall_lock.specs.AtTable.{saw_tickets, recalled, drew, looked, passed, cut_left, cut_right, glued};
 
 use crate::machine::Machine;
 use crate::view::{Turn, View};

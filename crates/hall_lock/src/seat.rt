@@ -13,6 +13,9 @@ use std::snapshot::Snapshot;
 /// - `front`, the greatest number of turns passed that it, the seat that it was split from (before the split) or a
 ///   seat joined into it has read, and `full`, whether one of these read that all turns are drawn;
 /// - `looks`, how often it read the number of turns passed itself.
+///
+/// The places in `mine` rise, and with those in `past` each stands once: every function says so by `Sits` of
+/// `specs/Own.antt`, and none asks it.
 #[derive(Drop)]
 pub struct Seat<M: Machine> {
     pub(crate) seat: LockSeat<M>,
@@ -20,7 +23,7 @@ pub struct Seat<M: Machine> {
 
 impl<M: Machine> Model for Seat<M> {
     ghost use Rattle.hall_lock.specs.Seats.{SeatState, seat_code};
-    ghost use Rattle.hall_lock.specs.Steps.{shown, IsAtRest};
+    ghost use Rattle.hall_lock.specs.AtTable.{shown, IsSettled};
 
     ghost Value = { SeatState M M.Call M.Reply };
 
@@ -28,7 +31,7 @@ impl<M: Machine> Model for Seat<M> {
 
     ghost view = { λ s. shown s.seat.table_id s.seat.me.0 };
 
-    ghost invariant = { λ s. IsAtRest s.seat.me };
+    ghost invariant = { λ s. IsSettled s.seat.me };
 }
 
 /// What a seat that was joined into another had seen and made. Only contracts see it.

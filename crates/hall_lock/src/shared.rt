@@ -1,16 +1,16 @@
 //! The lock, which threads share.
-ghost use Rattle.std.specs.Prelude.{◌≡◌, ◌+◌, ◌^◌, ◌<◌, ◌≤◌, ◌++◌, length, false, true, IfOk, IfErr};
-ghost use mathlib.Core.List.{IsPrefix};
-ghost use Rattle.hall_lock.specs.Places.{EachOnce};
-ghost use Rattle.hall_lock.specs.Seats.{IsOf, OwnsPlaces, first_seat, part_of, left_of, joined, TakesTurn};
-ghost use Rattle.hall_lock.specs.Turns.{Leads};
+ghost use Rattle.std.specs.Prelude.{◌≡◌, ◌^◌, ◌<◌, ◌≤◌, true, IfOk, IfErr};
+ghost use Rattle.hall_lock.specs.Seats.{IsOf, first_seat, part_of, left_of};
+ghost use Rattle.hall_lock.specs.Own.{Sits, Glances};
+ghost use Rattle.hall_lock.specs.Asking.{TakesTurn};
+ghost use Rattle.hall_lock.specs.Joining.{TakesIn};
+ghost use Rattle.hall_lock.specs.Closing.{Closes};
 
-use crate::ending::open_up;
 use crate::machine::Machine;
 use crate::seat::{Past, Seat};
 use crate::steps::{cut_as, glue, look};
 use crate::turns::{draw_ticket, make_turn, wait_turn};
-use crate::view::{LockTable, Opening};
+use crate::view::{BOX, LockTable, Opening, TURN};
 use atomic_table::Table;
 use pel_bits::NoMemory;
 use std::alloc::Global;
@@ -96,14 +96,11 @@ impl<M: Machine> Shared<M> {
     ) -> Result<M::Reply, Over<M::Call>>
         requires seat { IsOf self.now seat.old }
         requires fits { M.fits (M.shape self.now.opening) call }
-        ensures seat { IsOf self.now seat.new }
-        ensures turn { IfOk result (λ reply. TakesTurn call reply seat.old seat.new) }
-        ensures history { IfOk result (λ _. (machine : _)
-            × Leads M.shape M.fits M.steps self.now.opening seat.new.seen machine) }
-        ensures within { IfOk result (λ _. length seat.new.seen ≤ self.now.turns) }
+        ensures seat { Sits self.now seat.new }
+        ensures turn { IfOk result (λ reply.
+            TakesTurn M.shape M.fits M.steps self.now call reply seat.old seat.new) }
         ensures over { IfErr result (λ over. (over.0 ≡ call)
             × (seat.new ≡ record seat.old { full = true })) }
-        ensures places { OwnsPlaces seat.new }
     {
         let Some(ticket) = draw_ticket(rt, &self.table, &mut seat.seat, self.turns) else {
             return Err(Over(call));
@@ -115,11 +112,7 @@ impl<M: Machine> Shared<M> {
     /// The number of turns passed, read from the lock in this call. It waits for no one.
     pub fn glance(&self, seat: &mut Seat<M>) -> u64
         requires { IsOf self.now seat.old }
-        ensures same { IsOf self.now seat.new }
-        ensures reaches { (length seat.old.seen ≤ result) × (seat.old.front ≤ result)
-            × (result ≤ self.now.turns) }
-        ensures seat { seat.new ≡ record seat.old { front = result; looks = seat.old.looks + 1 } }
-        ensures places { OwnsPlaces seat.new }
+        ensures { Glances self.now seat.old result seat.new }
     {
         look(&self.table, &mut seat.seat)
     }
@@ -129,10 +122,8 @@ impl<M: Machine> Shared<M> {
     pub fn split(&self, seat: &mut Seat<M>, part: u64) -> Seat<M>
         requires seat { IsOf self.now seat.old }
         requires part { (1 ≤ part) × (part < seat.old.share) }
-        ensures same { IsOf self.now seat.new × IsOf self.now result }
-        ensures left { seat.new ≡ left_of seat.old part }
-        ensures new { result ≡ part_of seat.old part }
-        ensures places { OwnsPlaces seat.new × OwnsPlaces result }
+        ensures seats { Sits self.now seat.new × Sits self.now result }
+        ensures parts { (seat.new ≡ left_of seat.old part) × (result ≡ part_of seat.old part) }
     {
         Seat {
             seat: cut_as::<M, Brand>(&self.table, &mut seat.seat, part),
@@ -142,12 +133,9 @@ impl<M: Machine> Shared<M> {
     /// Joins the other seat into this one, which then knows what either knew and has both shares.
     pub fn join(&self, seat: &mut Seat<M>, other: Seat<M>) -> Past<M>
         requires { IsOf self.now seat.old × IsOf self.now other }
-        ensures same { IsOf self.now seat.new }
-        ensures seat { seat.new ≡ joined seat.old other }
-        // one of the two histories begins the other
-        ensures line { IsPrefix seat.old.seen seat.new.seen × IsPrefix other.seen seat.new.seen }
+        ensures seat { Sits self.now seat.new }
+        ensures takes { TakesIn seat.old other seat.new }
         ensures past { result.seat.value ≡ other }
-        ensures places { OwnsPlaces seat.new }
     {
         let past = Past {
             seat: Snapshot::of(&other),
@@ -161,18 +149,18 @@ impl<M: Machine> Shared<M> {
     pub fn close(self, seat: Seat<M>) -> Closed<M>
         requires seat { IsOf self seat }
         requires whole { seat.share ≡ 2 ^ 32 }
-        ensures history { Leads M.shape M.fits M.steps self.opening seat.seen result.machine.value }
-        ensures turns { (result.turns ≡ length seat.seen) × (seat.front ≤ result.turns) }
-        ensures within { result.turns ≤ self.turns }
-        // every turn is one of the seat's own or of one seat that was joined into it
-        ensures places { EachOnce result.turns (seat.mine ++ seat.past) }
-        ensures full { seat.full ≡ true → result.turns ≡ self.turns }
+        ensures closes { Closes M.shape M.fits M.steps self seat result.machine.value result.turns }
         ensures seat { result.seat.value ≡ seat }
     {
         let known = Snapshot::of(&seat);
         let Shared { table, turns: _ } = self;
         let Seat { seat } = seat;
-        let (machine, turns) = open_up(table, seat);
+        let mut closed = table.close_with(seat);
+        let turns = closed.word(TURN);
+        let Some(machine) = closed.take(BOX) else {
+            unreachable!()
+        };
+        closed.free();
         Closed {
             machine,
             turns,

@@ -1,10 +1,6 @@
 //! The steps of the lock, one function for each kind.
-ghost use Rattle.std.specs.Prelude.{◌≡◌, ◌+◌, ◌^◌, ◌<◌, ◌≤◌, [], ◌∷◌, ◌++◌, length, ◌==◌, false, true, None, Some, MatchBool};
-ghost use mathlib.Core.List.{IsPrefix};
-ghost use Rattle.hall_lock.specs.Rule.{is_at};
-ghost use Rattle.hall_lock.specs.Places.{AtMostOnce};
-ghost use Rattle.hall_lock.specs.Seats.{longer, shorter};
-ghost use Rattle.hall_lock.specs.Steps.{IsTable, IsSame, IsAtRest, IsTurning, TakesBox, LeadsFrom, HasBox, looking, passing, cut_left, cut_right, glued, turn_of};
+ghost use Rattle.std.specs.Prelude.{◌≡◌, ◌<◌, ◌≤◌, [], ◌∷◌, None, Some};
+ghost use Rattle.hall_lock.specs.AtTable.{SitsAt, WaitsAt, MayDraw, KeepsSlot, RestsAt, MayPass, Becomes, Learns, DrawsOne, ReadsTurn, Recalls, TakesOut, Passes, Cuts, Glues, turn_of};
 
 use crate::machine::Machine;
 use crate::plays::{Adds, Cut, Draw, Glue, Look, Part, Pass, Recall, SeeTickets};
@@ -13,27 +9,16 @@ use std::snapshot::Snapshot;
 
 /// Loads `tickets`.
 pub(crate) fn see_tickets<M: Machine>(table: &LockTable<M>, seat: &mut LockSeat<M>) -> u64
-    requires table { IsTable table.now.shared.table_id seat.old.table_id }
-    requires live { seat.old.me.0.spent ≡ false }
-    ensures same { IsSame seat.old seat.new }
-    ensures bound { result ≤ seat.old.me.0.turns }
-    ensures told { MatchBool (result == seat.old.me.0.turns)
-        (seat.new.me ≡ (record seat.old.me.0 { full = true }, seat.old.me.1))
-        (seat.new.me ≡ seat.old.me) }
+    requires { SitsAt table.now.shared.table_id seat.old }
+    ensures { Learns seat.old result seat.new }
 {
     table.shared.load::<SeeTickets>(seat, TICKETS)
 }
 
 /// Draws the ticket, where `tickets` stands at it.
 pub(crate) fn draw<M: Machine>(table: &LockTable<M>, seat: &mut LockSeat<M>, ticket: u64) -> bool
-    requires table { IsTable table.now.shared.table_id seat.old.table_id }
-    requires live { (seat.old.me.0.spent ≡ false) × (seat.old.me.0.ticket ≡ None) }
-    requires left { ticket < seat.old.me.0.turns }
-    requires fits { ticket + 1 < 2 ^ 64 }
-    ensures same { IsSame seat.old seat.new }
-    ensures told { MatchBool result
-        ((seat.new.me ≡ (record seat.old.me.0 { ticket = Some ticket }, seat.old.me.1))
-        × (seat.old.me.0.full ≡ false)) (seat.new.me ≡ seat.old.me) }
+    requires { MayDraw table.now.shared.table_id seat.old ticket }
+    ensures { DrawsOne seat.old ticket result seat.new }
 {
     table
         .shared
@@ -43,36 +28,24 @@ pub(crate) fn draw<M: Machine>(table: &LockTable<M>, seat: &mut LockSeat<M>, tic
 
 /// Loads `turn`, and takes the slot where it stands at the seat's ticket.
 pub(crate) fn look<M: Machine>(table: &LockTable<M>, seat: &mut LockSeat<M>) -> u64
-    requires table { IsTable table.now.shared.table_id seat.old.table_id }
-    requires live { (seat.old.me.0.spent ≡ false) × (seat.old.me.0.at_turn ≡ false) }
-    ensures same { IsSame seat.old seat.new }
-    ensures reaches { (length seat.old.me.0.seen ≤ result) × (seat.old.me.0.front ≤ result)
-        × (result ≤ seat.old.me.0.turns) }
-    ensures told { MatchBool (is_at result seat.old.me.0.ticket)
-        (TakesBox M.shape M.fits M.steps seat.old.me result seat.new.me)
-        (seat.new.me ≡ (looking seat.old.me.0 result, seat.old.me.1)) }
+    requires { WaitsAt table.now.shared.table_id seat.old }
+    ensures { ReadsTurn M.shape M.fits M.steps seat.old result seat.new }
 {
     table.shared.load::<Look>(seat, TURN)
 }
 
 /// Loads `tickets` and lets the number go. It tells what the rule says of the seat's own lists.
 pub(crate) fn recall<M: Machine>(table: &LockTable<M>, seat: &mut LockSeat<M>)
-    requires table { IsTable table.now.shared.table_id seat.old.table_id }
-    requires live { seat.old.me.0.spent ≡ false }
-    ensures same { IsSame seat.old seat.new × (seat.new.me ≡ seat.old.me) }
-    ensures line { IsPrefix seat.old.me.0.met seat.old.me.0.seen }
-    ensures own { AtMostOnce (length seat.old.me.0.seen) (seat.old.me.0.mine ++ seat.old.me.0.past) }
+    requires { SitsAt table.now.shared.table_id seat.old }
+    ensures { Recalls seat.old seat.new }
 {
     table.shared.load::<Recall>(seat, TICKETS);
 }
 
 /// Takes the box out of the slot.
 pub(crate) fn take_out<M: Machine>(table: &LockTable<M>, seat: &mut LockSeat<M>) -> Box<M>
-    requires table { IsTable table.now.shared.table_id seat.old.table_id }
-    requires holds { (b : _) × (seat.old.me.1 ≡ (0, Some b) ∷ []) }
-    ensures same { IsSame seat.old seat.new }
-    ensures taken { (seat.old.me.1 ≡ (0, Some result) ∷ [])
-        × (seat.new.me ≡ (seat.old.me.0, (0, None) ∷ [])) }
+    requires { (b : _) × KeepsSlot table.now.shared.table_id seat.old (Some b) }
+    ensures { TakesOut seat.old result seat.new }
 {
     match table.shared.exchange(seat, BOX, None) {
         Some(machine) => machine,
@@ -82,10 +55,8 @@ pub(crate) fn take_out<M: Machine>(table: &LockTable<M>, seat: &mut LockSeat<M>)
 
 /// Puts the box home into the slot.
 pub(crate) fn put_home<M: Machine>(table: &LockTable<M>, seat: &mut LockSeat<M>, machine: Box<M>)
-    requires table { IsTable table.now.shared.table_id seat.old.table_id }
-    requires holds { seat.old.me.1 ≡ (0, None) ∷ [] }
-    ensures same { IsSame seat.old seat.new }
-    ensures put { seat.new.me ≡ (seat.old.me.0, (0, Some machine) ∷ []) }
+    requires { KeepsSlot table.now.shared.table_id seat.old None }
+    ensures { Becomes seat.old (seat.old.me.0, (0, Some machine) ∷ []) seat.new }
 {
     match table.shared.exchange(seat, BOX, Some(machine)) {
         None => {}
@@ -101,16 +72,10 @@ pub(crate) fn pass_as<M: Machine, J: Adds<M::Call, M::Reply>>(
     call: &Snapshot<M::Call>,
     reply: &M::Reply,
 )
-    requires table { IsTable table.now.shared.table_id seat.old.table_id }
     requires picked { J.added ≡ turn_of call.now.value reply.now ∷ [] }
-    requires turn { IsTurning seat.old.me ticket }
-    requires fits { ticket + 1 < 2 ^ 64 }
-    requires box_led { (b : _) × (seat.old.me.1 ≡ (0, Some b) ∷ [])
-        × LeadsFrom M.shape M.fits M.steps seat.old.me.0.opening
-        (seat.old.me.0.seen ++ turn_of call.now.value reply.now ∷ []) b.value }
-    ensures same { IsSame seat.old seat.new }
-    ensures told { seat.new.me ≡ (passing seat.old.me.0 (turn_of call.now.value reply.now ∷ []), []) }
-    ensures rest { IsAtRest seat.new.me }
+    requires turn { MayPass M.shape M.fits M.steps table.now.shared.table_id seat.old ticket
+        (turn_of call.now.value reply.now) }
+    ensures { Passes seat.old (turn_of call.now.value reply.now) seat.new }
 {
     table.shared.store::<Pass<J>>(seat, TURN, ticket + 1);
 }
@@ -121,27 +86,18 @@ pub(crate) fn cut_as<M: Machine, J: Part>(
     seat: &mut LockSeat<M>,
     part: u64,
 ) -> LockSeat<M>
-    requires table { IsTable table.now.shared.table_id seat.old.table_id }
     requires picked { J.part ≡ part }
-    requires rest { IsAtRest seat.old.me }
+    requires rest { RestsAt table.now.shared.table_id seat.old }
     requires part { (1 ≤ part) × (part < seat.old.me.0.share) }
-    ensures same { IsSame seat.old seat.new × (result.table_id ≡ seat.old.table_id) }
-    ensures left { seat.new.me ≡ (cut_left part seat.old.me.0, []) }
-    ensures right { result.me ≡ (cut_right part seat.old.me.0, []) }
+    ensures { Cuts seat.old part seat.new result }
 {
     table.shared.split_seat::<Cut<J>>(seat)
 }
 
 /// Joins the other seat into this one.
 pub(crate) fn glue<M: Machine>(table: &LockTable<M>, seat: &mut LockSeat<M>, other: LockSeat<M>)
-    requires table { IsTable table.now.shared.table_id seat.old.table_id
-        × IsTable table.now.shared.table_id other.table_id }
-    requires rest { IsAtRest seat.old.me × IsAtRest other.me }
-    ensures same { IsSame seat.old seat.new }
-    ensures told { seat.new.me ≡ (glued seat.old.me.0 other.me.0, []) }
-    ensures line { IsPrefix (shorter seat.old.me.0.seen other.me.0.seen)
-        (longer seat.old.me.0.seen other.me.0.seen) }
-    ensures rest { IsAtRest seat.new.me }
+    requires { RestsAt table.now.shared.table_id seat.old × RestsAt table.now.shared.table_id other }
+    ensures { Glues seat.old other seat.new }
 {
     table.shared.join_seat::<Glue>(seat, other);
     recall(table, seat);

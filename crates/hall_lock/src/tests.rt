@@ -1,8 +1,11 @@
 //! Two machines under the lock: a total, which each call adds to, and a dial, which each call turns to a mark.
-ghost use Rattle.std.specs.Prelude.{◌≡◌, ◌+◌, ◌^◌, ◌%◌, ◌++◌, ◌<◌, ◌≤◌, ⊤, [], sum_by, refl};
+ghost use Rattle.std.specs.Prelude.{◌≡◌, ◌+◌, ◌^◌, ◌%◌, ◌∷◌, ◌++◌, ◌<◌, ◌≤◌, ℕ, ⊤, [], sum_by, refl};
 ghost use Rattle.std.proofs.Common.{ap};
 ghost use Rattle.hall_lock.specs.Places.{EachOnce};
 ghost use Rattle.hall_lock.specs.Seats.{IsOf};
+ghost use Rattle.hall_lock.specs.Own.{turns_at, Rise};
+ghost use Rattle.hall_lock.specs.Sorting.{owned_by};
+ghost use Rattle.hall_lock.specs.Telling.{pieces};
 
 use super::*;
 use std::process::Abort;
@@ -171,14 +174,6 @@ fn in_halves<R: Threads + Wait + Sync>(
     in_two_threads(rt, lock, seat, half, calls).0
 }
 
-#[test]
-fn two_threads_close_at_two_thousand(rt: HostRuntime) -> Result<(), Fail> {
-    let (lock, seat) = Shared::reserve(rt.alloc(), Total { total: 0 }, 2_000)?;
-    let (closed, _past) = close_after_two(&rt, lock, seat, 1_000);
-    assert!(rt; closed.turns == 2_000 && closed.machine.total == 2_000);
-    Ok(())
-}
-
 /// Four threads: each of two halves of the seat is split for two threads, and all are joined again.
 fn in_a_tree<R: Threads + Wait + Sync>(
     rt: &R,
@@ -220,3 +215,15 @@ fn two_threads_draw_no_more_than_all_turns(rt: HostRuntime) -> Result<(), Fail> 
     assert!(rt; closed.turns == 1_500 && closed.machine.total == 1_500);
     Ok(())
 }
+
+/// Definitions at values by hand.
+fn values_by_hand()
+    ensures places { turns_at {T = ℕ} (10 ∷ 11 ∷ 12 ∷ []) (0 ∷ 2 ∷ []) ≡ 10 ∷ 12 ∷ [] }
+    ensures nowhere { turns_at {T = ℕ} (10 ∷ []) (1 ∷ 0 ∷ []) ≡ 10 ∷ [] }
+    ensures rise { Rise 0 (0 ∷ 2 ∷ []) 3 }
+    ensures twice { Rise 0 (2 ∷ 2 ∷ []) 3 → ⊥ }
+    ensures outside { Rise 0 (0 ∷ 3 ∷ []) 3 → ⊥ }
+    ensures owned { owned_by {T = ℕ} (λ t. t % 2) 1 (4 ∷ 7 ∷ 2 ∷ 9 ∷ []) ≡ 7 ∷ 9 ∷ [] }
+    ensures running { pieces {A = ℕ} {T = ℕ} {X = ℕ} (λ a t. a + t) (λ a t. (a + t) ∷ []) 0 (1 ∷ 2 ∷ 3 ∷ [])
+        ≡ 1 ∷ 3 ∷ 6 ∷ [] }
+{}

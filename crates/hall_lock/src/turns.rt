@@ -1,6 +1,6 @@
 //! One call at the lock: a ticket is drawn, its turn is waited for, and the machine makes one step.
-ghost use Rattle.std.specs.Prelude.{◌≡◌, ◌+◌, ◌^◌, ◌<◌, [], ◌∷◌, ◌++◌, false, true, Some, IfSome, IfNone};
-ghost use Rattle.hall_lock.specs.Steps.{IsTable, IsSame, IsAtRest, IsWaiting, IsTurning, Arrives, HasBox, LeadsFrom, FitsFrom, passing, turn_of};
+ghost use Rattle.std.specs.Prelude.{◌≡◌};
+ghost use Rattle.hall_lock.specs.AtTable.{RestsAt, AwaitsTurn, HasTurn, IsSame, Draws, Arrives, MakesTurn, FitsFrom, turn_of};
 
 use crate::machine::Machine;
 use crate::steps::{draw, look, pass_as, put_home, see_tickets, take_out};
@@ -20,14 +20,9 @@ pub(crate) fn draw_ticket<M: Machine, R: Wait>(
     seat: &mut LockSeat<M>,
     turns: u64,
 ) -> Option<u64>
-    requires table { IsTable table.now.shared.table_id seat.old.table_id }
-    requires rest { IsAtRest seat.old.me }
+    requires rest { RestsAt table.now.shared.table_id seat.old }
     requires turns { seat.old.me.0.turns ≡ turns }
-    ensures same { IsSame seat.old seat.new }
-    ensures drawn { IfSome result (λ k.
-        (seat.new.me ≡ (record seat.old.me.0 { ticket = Some k }, [])) × (k < turns)
-        × (seat.old.me.0.full ≡ false)) }
-    ensures full { IfNone result (seat.new.me ≡ (record seat.old.me.0 { full = true }, [])) }
+    ensures { Draws seat.old turns result seat.new }
 {
     for _ in rt.forever() {
         let ticket = see_tickets(table, seat);
@@ -61,8 +56,7 @@ pub(crate) fn wait_turn<M: Machine, R: Wait>(
     seat: &mut LockSeat<M>,
     ticket: u64,
 )
-    requires table { IsTable table.now.shared.table_id seat.old.table_id }
-    requires waits { IsWaiting seat.old.me ticket }
+    requires { AwaitsTurn table.now.shared.table_id seat.old ticket }
     ensures same { IsSame seat.old seat.new }
     ensures told { Arrives M.shape M.fits M.steps seat.old.me ticket seat.new.me }
 {
@@ -87,52 +81,25 @@ fn stepped<M: Machine>(mut machine: Box<M>, call: M::Call) -> (Box<M>, M::Reply)
     (machine, reply)
 }
 
-/// Adds the turn to the history, and wakes whoever waits for the next one.
-fn pass<M: Machine>(
-    table: &LockTable<M>,
-    seat: &mut LockSeat<M>,
-    ticket: u64,
-    call: &Snapshot<M::Call>,
-    reply: &M::Reply,
-)
-    requires table { IsTable table.now.shared.table_id seat.old.table_id }
-    requires turn { IsTurning seat.old.me ticket }
-    requires fits { ticket + 1 < 2 ^ 64 }
-    requires box_led { (b : _) × (seat.old.me.1 ≡ (0, Some b) ∷ [])
-        × LeadsFrom M.shape M.fits M.steps seat.old.me.0.opening
-        (seat.old.me.0.seen ++ turn_of call.now.value reply.now ∷ []) b.value }
-    ensures same { IsSame seat.old seat.new }
-    ensures told { seat.new.me ≡ (passing seat.old.me.0 (turn_of call.now.value reply.now ∷ []), []) }
-    ensures rest { IsAtRest seat.new.me }
-{
-    pass_as::<M, Brand>(table, seat, ticket, call, reply);
-    if table.shared.peek(TICKETS) > ticket + 1 {
-        table.shared.wake_all(TURN);
-    }
-}
-
-/// Makes the turn: takes the box out of the slot, steps the machine, and brings the box home.
+/// Makes the turn: takes the box out of the slot, steps the machine, brings the box home, and adds the turn to the
+/// history. Then it wakes whoever waits for the next one.
 pub(crate) fn make_turn<M: Machine>(
     table: &LockTable<M>,
     seat: &mut LockSeat<M>,
     ticket: u64,
     call: M::Call,
 ) -> M::Reply
-    requires table { IsTable table.now.shared.table_id seat.old.table_id }
-    requires turn { IsTurning seat.old.me ticket }
-    requires fits { ticket + 1 < 2 ^ 64 }
-    requires has_box { HasBox M.shape M.fits M.steps seat.old.me }
+    requires turn { HasTurn M.shape M.fits M.steps table.now.shared.table_id seat.old ticket }
     requires call { FitsFrom M.shape M.fits M.steps seat.old.me.0.opening call }
-    ensures same { IsSame seat.old seat.new }
-    ensures told { seat.new.me ≡ (passing seat.old.me.0 (turn_of call result ∷ []), []) }
-    ensures rest { IsAtRest seat.new.me }
-    ensures led { (m : M) × LeadsFrom M.shape M.fits M.steps seat.old.me.0.opening
-        (seat.old.me.0.seen ++ turn_of call result ∷ []) m }
+    ensures { MakesTurn M.shape M.fits M.steps seat.old (turn_of call result) seat.new }
 {
     let asked = Snapshot::of(&call);
     let machine = take_out(table, seat);
     let (machine, reply) = stepped(machine, call);
     put_home(table, seat, machine);
-    pass(table, seat, ticket, &asked, &reply);
+    pass_as::<M, Brand>(table, seat, ticket, &asked, &reply);
+    if table.shared.peek(TICKETS) > ticket + 1 {
+        table.shared.wake_all(TURN);
+    }
     reply
 }

@@ -48,7 +48,7 @@ pub(crate) struct LockRule<M> {
 
 impl<M: Machine> TableRule<Option<Box<M>>, View<M, M::Call, M::Reply>, Opening<M>> for LockRule<M> {
     ghost use Rattle.hall_lock.specs.Rule.{IsKept};
-    ghost use Rattle.hall_lock.specs.Steps.{first_view};
+    ghost use Rattle.hall_lock.specs.AtTable.{first_view};
 
     ghost holds = { λ key s. IsKept M.shape M.fits M.steps key.machine.value key.turns s };
 

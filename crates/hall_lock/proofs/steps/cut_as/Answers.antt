@@ -3,7 +3,7 @@ use Rattle.hall_lock.proofs.Sharing.{cuts}
 use Rattle.hall_lock.proofs.steps.cut_as.Goals as goal
 
 pub split_seat-requires : goal.split_seat-requires
-split_seat-requires g c = let rest = c.requires.rest in (
+split_seat-requires g c = let rest = c.requires.rest.rest in (
   search rules,
   search rules,
   cuts g.M.Machine.shape g.M.Machine.fits g.M.Machine.steps _ _ _ _ _ rest.live rest.no_ticket rest.waits

@@ -17,5 +17,5 @@ sums m n (t ∷ ts) a is g = sums g.0 n ts (a + t.call) (omega (arith, g.1.0, g.
 
 pub returns : goal.returns
 returns c =
-    let sum = sums _ _ c.args.seat.seen 0 c.requires.2 c.close.ensures.history.goes in
+    let sum = sums _ _ c.args.seat.seen 0 c.requires.2 c.close.ensures.closes.history.goes in
     ap (λ (x : Total). x.total) c.deref.ensures ∙ (sum ∙ ap (λ (n : ℕ). n % 2 ^ 64) (zero-add (sum_by (λ (u : Turn ℕ ℕ). u.call) c.args.seat.seen)))

@@ -1,5 +1,5 @@
 use Rattle.std.proofs.Common.{◌≡◌}
-use Rattle.hall_lock.specs.Steps.{Waits}
+use Rattle.hall_lock.specs.AtTable.{Waits}
 use Rattle.hall_lock.proofs.turns.wait_turn.Given as goal
 
 abbrev pub invariant-loop : goal.invariant-loop

@@ -2,7 +2,7 @@ use Rattle.std.proofs.Common.{rules, ◌≡◌, [], ◌∷◌, sym, subst, Some,
 use Rattle.std.specs.Global.{Global}
 use Rattle.atomic_table.specs.Table.{opening}
 use Rattle.hall_lock.specs.Rule.{IsKept}
-use Rattle.hall_lock.specs.Steps.{first_view}
+use Rattle.hall_lock.specs.AtTable.{first_view}
 use Rattle.hall_lock.proofs.Ends.{opens}
 use Rattle.hall_lock.proofs.shared.Shared.reserve.Goals as goal
 

@@ -1,6 +1,0 @@
-use Rattle.std.proofs.Common.{[], ◌∷◌}
-use Rattle.hall_lock.specs.Steps.{turn_of}
-use Rattle.hall_lock.proofs.turns.pass.Given as goal
-
-abbrev pub ghosts-pass_as : goal.ghosts-pass_as
-ghosts-pass_as g a = record { added = turn_of a.call.now.value a.reply.now ∷ [] }

@@ -1,5 +1,0 @@
-use Rattle.seat_turns.proofs.Told.{tell_law}
-use Rattle.seat_turns.proofs.laws.turns_tell_items.Goals as goal
-
-pub returns : goal.returns
-returns g c = λ tale. tell_law (g.T.Tale.tells tale)
