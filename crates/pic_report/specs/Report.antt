@@ -2,29 +2,31 @@
 use Rattle.std.specs.Prelude.{ℕ, ◌+◌, ◌++◌, List, [], ◌∷◌, length, decimal, codes, sum_by, count_by}
 use Rattle.pel_model.specs.declared.Format.{Format}
 use Rattle.pel_model.specs.declared.Why.{Why}
-use Rattle.pel_model.specs.declared.Why.TheVariants.{NoStart, WrongFormat, StillImage, BadGroup, BadQuant, TooLong, NoCode, Cut, BadAddress, BadVector, VectorOutside, BadDc, BadLevel, TooMany}
+use Rattle.pel_model.specs.declared.Why.TheVariants.{NoStart, WrongFormat, StillImage, BadGroup, BadQuant, TooLong, NoCode}
+use Rattle.pel_model.specs.declared.Why.TheVariants.{Cut, BadAddress, BadVector, VectorOutside, BadDc, BadLevel, TooMany}
 use Rattle.pel_model.specs.Codes.{is_intra}
 use Rattle.pel_model.specs.Records.{Macroblock, Group, Picture}
 use Rattle.pel_model.specs.Refresh.{sent_macroblocks}
 use Rattle.pel_model.specs.Text.{text}
-use Rattle.unit_stream.specs.Events.{Event, Lost, Shown, Refused}
+use Rattle.rtp_h261.specs.Events.{Event, Lost, Shown, Refused}
+use Rattle.rtp_h261.specs.Tellers.{Duty}
 
 -- why a unit is no picture
-abbrev pub name_of : Why → List ℕ
-name_of NoStart = codes "NoStart"
-name_of WrongFormat = codes "WrongFormat"
-name_of StillImage = codes "StillImage"
-name_of BadGroup = codes "BadGroup"
-name_of BadQuant = codes "BadQuant"
-name_of TooLong = codes "TooLong"
-name_of NoCode = codes "NoCode"
-name_of Cut = codes "Cut"
-name_of BadAddress = codes "BadAddress"
-name_of BadVector = codes "BadVector"
-name_of VectorOutside = codes "VectorOutside"
-name_of BadDc = codes "BadDc"
-name_of BadLevel = codes "BadLevel"
-name_of TooMany = codes "TooMany"
+abbrev pub why_name : Why → List ℕ
+why_name NoStart = codes "NoStart"
+why_name WrongFormat = codes "WrongFormat"
+why_name StillImage = codes "StillImage"
+why_name BadGroup = codes "BadGroup"
+why_name BadQuant = codes "BadQuant"
+why_name TooLong = codes "TooLong"
+why_name NoCode = codes "NoCode"
+why_name Cut = codes "Cut"
+why_name BadAddress = codes "BadAddress"
+why_name BadVector = codes "BadVector"
+why_name VectorOutside = codes "VectorOutside"
+why_name BadDc = codes "BadDc"
+why_name BadLevel = codes "BadLevel"
+why_name TooMany = codes "TooMany"
 
 -- how many macroblocks are Intra
 abbrev pub intra_macroblocks : Picture → ℕ
@@ -45,16 +47,20 @@ abbrev pub picture_line : Format → (n : ℕ) → Picture → List ℕ
 picture_line format n picture =
     numbers_line n picture.tr (length (text format picture)) (sent_macroblocks picture) (intra_macroblocks picture)
 
-abbrev pub line_of : Format → (n : ℕ) → Event → List ℕ
-line_of format n Lost = codes "gap " ++ decimal n ++ codes " lost\n"
-line_of format n (Shown picture) = picture_line format n picture
-line_of format n (Refused place why) =
-    codes "gap " ++ decimal n ++ codes " " ++ name_of why ++ codes " at " ++ decimal place ++ codes "\n"
+abbrev pub event_line : Format → (n : ℕ) → Event → List ℕ
+event_line format n Lost = codes "gap " ++ decimal n ++ codes " lost\n"
+event_line format n (Shown picture) = picture_line format n picture
+event_line format n (Refused place why) =
+    codes "gap " ++ decimal n ++ codes " " ++ why_name why ++ codes " at " ++ decimal place ++ codes "\n"
 
 -- the lines of events, the first of which has this number
-abbrev pub lines_from : Format → (n : ℕ) → List Event → List (List ℕ)
-lines_from format n [] = []
-lines_from format n (event ∷ events) = line_of format n event ∷ lines_from format (n + 1) events
+abbrev pub event_lines : Format → (n : ℕ) → List Event → List (List ℕ)
+event_lines format n [] = []
+event_lines format n (event ∷ events) = event_line format n event ∷ event_lines format (n + 1) events
 
 abbrev pub lines : Format → List Event → List (List ℕ)
-lines format events = lines_from format 1 events
+lines format events = event_lines format 1 events
+
+-- what is to be written by the report
+abbrev pub report_duty : Format → Duty
+report_duty format = record { format = format; pieces = event_lines format }

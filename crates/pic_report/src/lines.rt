@@ -5,8 +5,8 @@ ghost use Rattle.h261_pic.specs.Coded.{coding};
 ghost use Rattle.pel_model.specs.declared.Format.{Format};
 ghost use Rattle.pel_model.specs.declared.Mark.{Mark};
 ghost use Rattle.pel_model.specs.Records.{Picture};
-ghost use Rattle.pic_report.specs.Report.{line_of, name_of, numbers_line, picture_line};
-ghost use Rattle.unit_stream.specs.Events.{Lost, Refused};
+ghost use Rattle.pic_report.specs.Report.{event_line, numbers_line, picture_line, why_name};
+ghost use Rattle.rtp_h261.specs.Events.{Lost, Refused};
 
 use arrayvec::ArrayString;
 use h261_pic::Coded;
@@ -18,7 +18,7 @@ pub type Line = ArrayString<160>;
 
 /// The line of a loss.
 pub fn lost_line(number: u64) -> Line
-    ensures { (format : Format) → result.bytes ≡ line_of format number Lost }
+    ensures { (format : Format) → result.bytes ≡ event_line format number Lost }
 {
     let mut line = Line::new();
     line.push_str("gap ");
@@ -29,13 +29,13 @@ pub fn lost_line(number: u64) -> Line
 
 /// The line of a unit that is no picture.
 pub fn gap_line(number: u64, fault: &Fault) -> Line
-    ensures { (format : Format) → result.bytes ≡ line_of format number (Refused fault.now.place fault.now.why) }
+    ensures { (format : Format) → result.bytes ≡ event_line format number (Refused fault.now.place fault.now.why) }
 {
     let mut line = Line::new();
     line.push_str("gap ");
     push_number(&mut line, number);
     line.push_str(" ");
-    line.push_str(name_of(fault.why));
+    line.push_str(why_name(fault.why));
     line.push_str(" at ");
     push_number(&mut line, u64::from(fault.place));
     line.push_str("\n");
@@ -94,8 +94,8 @@ fn push_number(line: &mut Line, number: u64)
 }
 
 /// The name of a reason.
-fn name_of(why: Why) -> &'static str
-    ensures name { result.now ≡ name_of why }
+fn why_name(why: Why) -> &'static str
+    ensures name { result.now ≡ why_name why }
     ensures short { length result.now ≤ 13 }
 {
     match why {

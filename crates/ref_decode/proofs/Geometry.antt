@@ -12,7 +12,7 @@ use Rattle.pel_model.specs.Valid.{side, corner, group_numbers}
 use Rattle.vlc_codes.proofs.FoundRows.{among-all}
 use Rattle.picture_laws.proofs.Groups.{among_numbers}
 use Rattle.std.specs.List.{list_all}
-use Rattle.ref_decode.specs.Shown.{columns, rows, plane_start, sample_place}
+use Rattle.ref_decode.specs.Shown.{columns, row_count, plane_start, sample_place}
 use Rattle.ref_decode.specs.Drawing.{covers, block_plane, block_left, block_top}
 
 -- a sample inside the picture area
@@ -178,7 +178,7 @@ same_plane start width left top x y b fits inside here = elim (cases_lt y (top +
 ]
 
 -- where a sample does not lie in a block, it stands beside each row of it
-pub stands_beside : (format : Format) (here plane : Plane) (left top x y b : ℕ) → IsInside format plane x y → left + 8 ≤ columns format here → top + 8 ≤ rows format here → b < 8 → (here ≡ plane → y ≡ top + b → (x < left) ⊎ (left + 8 ≤ x)) → Beside (plane_start format here + columns format here * top + left) (columns format here) b (sample_place format plane x y)
+pub stands_beside : (format : Format) (here plane : Plane) (left top x y b : ℕ) → IsInside format plane x y → left + 8 ≤ columns format here → top + 8 ≤ row_count format here → b < 8 → (here ≡ plane → y ≡ top + b → (x < left) ⊎ (left + 8 ≤ x)) → Beside (plane_start format here + columns format here * top + left) (columns format here) b (sample_place format plane x y)
 stands_beside Qcif Luminance Luminance left top x y b inside across down few apart = same_plane 0 176 left top x y b across (omega (arith, inside.across)) (apart refl)
 stands_beside Qcif Cb Cb left top x y b inside across down few apart = same_plane 25344 88 left top x y b across (omega (arith, inside.across)) (apart refl)
 stands_beside Qcif Cr Cr left top x y b inside across down few apart = same_plane 31680 88 left top x y b across (omega (arith, inside.across)) (apart refl)
@@ -234,7 +234,7 @@ is_placed Cif number address h most =
 -- and so do its blocks within their planes
 pub record BlockWithin (format : Format) (number address block : ℕ) : Type 0 where
   pub across : block_left number address block + 8 ≤ columns format (block_plane block)
-  pub down : block_top number address block + 8 ≤ rows format (block_plane block)
+  pub down : block_top number address block + 8 ≤ row_count format (block_plane block)
 
 pub block_within : (format : Format) (number address block : ℕ) → IsPlaced format number address → block < 6 → BlockWithin format number address block
 block_within Qcif number address zero is few = record { across = omega (arith, is.across); down = omega (arith, is.down) }

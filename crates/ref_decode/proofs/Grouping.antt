@@ -13,7 +13,7 @@ use Rattle.h261_mb.specs.State.{Stands}
 use Rattle.picture_laws.specs.PictureElements.{elements_of_macroblock as macroblock_elements}
 use Rattle.picture_laws.specs.SoFar.{IsBehind}
 use Rattle.picture_laws.proofs.Macroblocks.{says-macroblock, both_axes}
-use Rattle.ref_decode.specs.Drawing.{IsNext, BlocksDrawn, GroupDrawn, MacroblockDrawn}
+use Rattle.ref_decode.specs.Drawing.{ComesNext, BlocksDrawn, GroupDrawn, MacroblockDrawn}
 use Rattle.ref_decode.proofs.Looking.{AllBelow, no_macroblocks, macroblock_more}
 
 -- the elements of a group's header, newest first
@@ -89,7 +89,7 @@ pub record Coming (format : Format) (g : Group) (rest : List Bool) (state : MbSt
   pub last : Option Macroblock
   pub m : Macroblock
   pub tail : List Bool
-  pub next : IsNext format g.number last m before
+  pub next : ComesNext format g.number last m before
   pub stands : Stands g.number state before
   pub bits : r.0 ≡ macroblock_text last m ++ tail
 
@@ -114,7 +114,7 @@ module _ (format : Format) (g : Group) (rest : List Bool) (count : ℕ) (state :
   pub rest_of : List Bool
   rest_of = macroblocks_text (Some one.0) one.1 ++ rest
 
-  pub next_one : IsNext format g.number so_far.last one.0 so_far.before
+  pub next_one : ComesNext format g.number so_far.last one.0 so_far.before
   next_one =
       let rises = subst (AddressesRise (address_of so_far.last)) one.2 so_far.rises in
       let valid = subst (All (IsValidMacroblock format g.number)) one.2 so_far.valid in

@@ -33,7 +33,7 @@ use Rattle.h261_mb.specs.declared.header.Header.{Header}
 use Rattle.h261_mb.specs.declared.state.MbState.{MbState}
 use Rattle.h261_mb.specs.Inside.{IsMacroblockSoFar}
 use Rattle.h261_mb.specs.State.{Stands, IsHeader, PatternFits, header_elements, state_behind}
-use Rattle.ref_decode.specs.Drawing.{IsHeaderOf, IsNext, IsSentAs}
+use Rattle.ref_decode.specs.Drawing.{IsHeaderOf, ComesNext, IsSentAs}
 use Rattle.ref_decode.proofs.Comparing.{compared, none_at_fault}
 
 and_both : (a b : Bool) → (a && b) ≡ true → (a ≡ true) × (b ≡ true)
@@ -297,7 +297,7 @@ due_behind number m before place few six fit = elim (cases_Bool (has_cbp m.kind)
 abbrev pub own_header : Option Macroblock → Macroblock → List Element
 own_header last m = header_elements (m.address - address_of last) m.kind m.mquant (mvd_pair Across last m) (mvd_pair Down last m) (coded_block_pattern m.blocks)
 
-pub own_due : (format : Format) (number : ℕ) (last : Option Macroblock) (m : Macroblock) (before : List Element) → IsNext format number last m before → IsDue number m (after before (own_header last m))
+pub own_due : (format : Format) (number : ℕ) (last : Option Macroblock) (m : Macroblock) (before : List Element) → ComesNext format number last m before → IsDue number m (after before (own_header last m))
 own_due format number last m before is =
     let q = quantiser_says format (headed before last m) (has_mquant m.kind) m.kind m.mquant refl refl is.valid.mquant in
     let v_at = at-vector number last m before is.behind is.rises q.1 in
@@ -320,7 +320,7 @@ pub record HasParts (format : Format) (last : Option Macroblock) (m : Macroblock
   pub blocks : Goes (next format) (after before (own_header last m)) mid (blocks_elements m.blocks) end
   pub rest_is : end.0 ≡ rest
 
-pub has_parts : (format : Format) (number : ℕ) (last : Option Macroblock) (m : Macroblock) (before : List Element) (rest : List Bool) (r : Reading) → IsNext format number last m before → r.0 ≡ macroblock_text last m ++ rest → HasParts format last m before rest r
+pub has_parts : (format : Format) (number : ℕ) (last : Option Macroblock) (m : Macroblock) (before : List Element) (rest : List Bool) (r : Reading) → ComesNext format number last m before → r.0 ≡ macroblock_text last m ++ rest → HasParts format last m before rest r
 has_parts format number last m before rest r is bits =
     let s = (says-macroblock format number last m before is.behind is.rises is.most is.valid).0 in
     let goes : Goes (next format) before r (macroblock_elements last m) (rest, r.1 + length (macroblock_text last m)) = walk-goes format before r (macroblock_elements last m) (rest, r.1 + length (macroblock_text last m)) (record {
@@ -332,7 +332,7 @@ has_parts format number last m before rest r is bits =
     record { mid = p.0; end = (rest, r.1 + length (macroblock_text last m)); header = p.1; blocks = p.2; rest_is = refl }
 
 -- the header that was read is its own
-pub header_same : (format : Format) (number : ℕ) (last : Option Macroblock) (m : Macroblock) (before es : List Element) (header : Header) (r mid new : Reading) → IsNext format number last m before → Goes (next format) before r (own_header last m) mid → Goes (next format) before r es new → IsHeader number before header es new → (es ≡ own_header last m) × (new ≡ mid)
+pub header_same : (format : Format) (number : ℕ) (last : Option Macroblock) (m : Macroblock) (before es : List Element) (header : Header) (r mid new : Reading) → ComesNext format number last m before → Goes (next format) before r (own_header last m) mid → Goes (next format) before r es new → IsHeader number before header es new → (es ≡ own_header last m) × (new ≡ mid)
 header_same format number last m before es header r mid new is goes read found =
     let due = own_due format number last m before is in
     let own_heads = header_heads m.kind m.mquant (mvd_pair Across last m) (mvd_pair Down last m) (coded_block_pattern m.blocks) in
@@ -369,7 +369,7 @@ own_quantiser before last m =
     ∙ (quantiser_vector (after (headed before last m) (mquant_elements m.mquant)) m.kind (mvd_pair Across last m) (mvd_pair Down last m)
     ∙ quantiser_mquant (headed before last m) m.mquant))
 
-pub header_is : (format : Format) (number : ℕ) (last : Option Macroblock) (m : Macroblock) (before es : List Element) (state : MbState) (header : Header) (new : Reading) → IsNext format number last m before → Stands number state before → IsHeader number before header es new → es ≡ own_header last m → IsHeaderOf m (quantiser_after state.quant m.mquant) header
+pub header_is : (format : Format) (number : ℕ) (last : Option Macroblock) (m : Macroblock) (before es : List Element) (state : MbState) (header : Header) (new : Reading) → ComesNext format number last m before → Stands number state before → IsHeader number before header es new → es ≡ own_header last m → IsHeaderOf m (quantiser_after state.quant m.mquant) header
 header_is format number last m before es state header new is stands found same =
     let due = own_due format number last m before is in
     let kind_is : header.kind ≡ m.kind = sym found.kind_is ∙ (ap (λ xs. kind (after before xs)) same ∙ due.kind_is) in
@@ -414,7 +414,7 @@ goes_past format last m before es end new (z ∷ zs) at part is walk =
     let inside : AreInside (drop 1 (macroblock_elements last m) ++ (z ∷ zs)) = subst (λ xs. AreInside (drop 1 xs)) is part.0 in
     begins_none format z zs (subst (λ s. Takes s z) at s.0.takes) (inside-right (drop 1 (macroblock_elements last m)) (z ∷ zs) inside)
 
-pub header_meets_no_fault : (format : Format) (number : ℕ) (last : Option Macroblock) (m : Macroblock) (before es : List Element) (rest : List Bool) (r new : Reading) (why : Why) → IsNext format number last m before → HasParts format last m before rest r → Goes (next format) before r es new → IsMacroblockSoFar before es → next format (after before es) new ≡ Bad why → ⊥
+pub header_meets_no_fault : (format : Format) (number : ℕ) (last : Option Macroblock) (m : Macroblock) (before es : List Element) (rest : List Bool) (r new : Reading) (why : Why) → ComesNext format number last m before → HasParts format last m before rest r → Goes (next format) before r es new → IsMacroblockSoFar before es → next format (after before es) new ≡ Bad why → ⊥
 header_meets_no_fault format number last m before es rest r new why is parts read part bad =
     let at = (says-macroblock format number last m before is.behind is.rises is.most is.valid).1.at in
     let whole : Goes (next format) before r (macroblock_elements last m) parts.end = subst (λ xs. Goes (next format) before r xs parts.end) (sym (parts_are last m)) (goes-append (next format) before r parts.mid parts.end (own_header last m) (blocks_elements m.blocks) parts.header parts.blocks) in
@@ -433,7 +433,7 @@ first_word format last m before r mid rises most goes =
     (q.0, ap (read mba_rows) (w.bits ∙ append_assoc (word_of (λ k. k == m.address - address_of last) mba_table) (words (Mba (m.address - address_of last) ∷ before) (drop 1 (own_header last m))) mid.0) ∙ q.1)
 
 -- behind its header stand the texts of its blocks
-pub blocks_follow : (format : Format) (number : ℕ) (last : Option Macroblock) (m : Macroblock) (before : List Element) (rest : List Bool) (r : Reading) (is : IsNext format number last m before) (parts : HasParts format last m before rest r) → parts.mid.0 ≡ flat_map sent_block_text m.blocks ++ rest
+pub blocks_follow : (format : Format) (number : ℕ) (last : Option Macroblock) (m : Macroblock) (before : List Element) (rest : List Bool) (r : Reading) (is : ComesNext format number last m before) (parts : HasParts format last m before rest r) → parts.mid.0 ≡ flat_map sent_block_text m.blocks ++ rest
 blocks_follow format number last m before rest r is parts =
     let due = own_due format number last m before is in
     let s = sends_blocks m is.valid.blocks in
@@ -462,7 +462,7 @@ quantiser_blocks before (Some b ∷ bs) =
     ∙ (quantiser_blocks (after before (by_words.block_elements b)) bs ∙ ap (λ (s : MbKind × ℕ × ℕ × ℕ × ℤ × ℤ). s.3) (pass_block before b))
 
 -- the state behind the macroblock
-pub stands_behind : (format : Format) (number : ℕ) (last : Option Macroblock) (m : Macroblock) (before : List Element) (state : MbState) (header : Header) → IsNext format number last m before → Stands number state before → IsHeaderOf m (quantiser_after state.quant m.mquant) header → Stands number (state_behind header) (after before (macroblock_elements last m))
+pub stands_behind : (format : Format) (number : ℕ) (last : Option Macroblock) (m : Macroblock) (before : List Element) (state : MbState) (header : Header) → ComesNext format number last m before → Stands number state before → IsHeaderOf m (quantiser_after state.quant m.mquant) header → Stands number (state_behind header) (after before (macroblock_elements last m))
 stands_behind format number last m before state header is stands of =
     let behind = (says-macroblock format number last m before is.behind is.rises is.most is.valid).1 in
     let quant : quantiser (after before (macroblock_elements last m)) ≡ quantiser_after state.quant m.mquant =

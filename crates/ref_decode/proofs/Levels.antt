@@ -11,19 +11,19 @@ use Rattle.pel_model.specs.Transform.{clipped, sum_below, kernel, fixed}
 use Rattle.ref_decode.specs.Blocks.{IsBlockOf, coefficient_at, scan_places}
 use Rattle.std.specs.Prelude.{slice_index, unsigned_abs, ◌<ℤ◌}
 use Rattle.std.proofs.lemmas.Int.{ints}
-use Rattle.ref_decode.specs.Passes.{at}
+use Rattle.ref_decode.specs.Passes.{at_place}
 use Rattle.ref_decode.proofs.Sums.{sum_same}
 
 -- ---- entries
 
-at-zeros : (xs : List ℤ) (n k : ℕ) → at (xs ++ replicate n (pos 0)) k ≡ at xs k
+at-zeros : (xs : List ℤ) (n k : ℕ) → at_place (xs ++ replicate n (pos 0)) k ≡ at_place xs k
 at-zeros [] zero k = refl
 at-zeros [] (suc n) zero = refl
 at-zeros [] (suc n) (suc k) = at-zeros [] n k
 at-zeros (x ∷ xs) n zero = refl
 at-zeros (x ∷ xs) n (suc k) = at-zeros xs n k
 
-at-map : (f : ℤ → ℤ) → f (pos 0) ≡ pos 0 → (xs : List ℤ) (k : ℕ) → at (map f xs) k ≡ f (at xs k)
+at-map : (f : ℤ → ℤ) → f (pos 0) ≡ pos 0 → (xs : List ℤ) (k : ℕ) → at_place (map f xs) k ≡ f (at_place xs k)
 at-map f z [] k = sym z
 at-map f z (x ∷ xs) zero = refl
 at-map f z (x ∷ xs) (suc k) = at-map f z xs k
@@ -45,10 +45,10 @@ with_zeros-is quant (c ∷ cs) =
     ap (λ t. replicate c.run (pos 0) ++ reconstructed quant c.level ∷ t) (with_zeros-is quant cs)
     ∙ sym (one_more (reconstructed quant) (zero_stays quant) c.run c.level (flat_map run_and_level cs))
 
-coefficients_at : (quant n : ℕ) (cs : List Coefficient) (k : ℕ) → at (with_zeros quant cs) k ≡ clipped (negsuc 2047) (pos 2047) (scaled quant (at (flat_map run_and_level cs ++ replicate n (pos 0)) k))
+coefficients_at : (quant n : ℕ) (cs : List Coefficient) (k : ℕ) → at_place (with_zeros quant cs) k ≡ clipped (negsuc 2047) (pos 2047) (scaled quant (at_place (flat_map run_and_level cs ++ replicate n (pos 0)) k))
 unfolding reconstructed
 coefficients_at quant n cs k =
-    ap (λ xs. at xs k) (with_zeros-is quant cs)
+    ap (λ xs. at_place xs k) (with_zeros-is quant cs)
     ∙ (at-map (reconstructed quant) (zero_stays quant) (flat_map run_and_level cs) k
     ∙ ap (reconstructed quant) (sym (at-zeros (flat_map run_and_level cs) n k)))
 
@@ -65,10 +65,10 @@ clip_dc n h = elim (cases_Bool (n == 255)) [
       ap (clipped (negsuc 2047) (pos 2047)) is ∙ (clip_same (8 * n) (omega arith) ∙ sym is)
 ]
 
-transmitted_at : (quant : ℕ) (intra : Bool) (dc : Option ℕ) (cs : List Coefficient) (k : ℕ) → IsBlockOf intra (record { dc = dc; coefficients = cs }) → at (in_transmission quant (record { dc = dc; coefficients = cs })) k ≡ coefficient_at quant intra (levels (record { dc = dc; coefficients = cs })) k
+transmitted_at : (quant : ℕ) (intra : Bool) (dc : Option ℕ) (cs : List Coefficient) (k : ℕ) → IsBlockOf intra (record { dc = dc; coefficients = cs }) → at_place (in_transmission quant (record { dc = dc; coefficients = cs })) k ≡ coefficient_at quant intra (levels (record { dc = dc; coefficients = cs })) k
 transmitted_at quant true None cs k valid = absurd valid.0
 transmitted_at quant true (Some n) cs zero valid =
-    let a : at (in_transmission quant (record { dc = Some n; coefficients = cs })) 0 ≡ intra_dc n = refl in
+    let a : at_place (in_transmission quant (record { dc = Some n; coefficients = cs })) 0 ≡ intra_dc n = refl in
     let b : coefficient_at quant true (levels (record { dc = Some n; coefficients = cs })) 0 ≡ clipped (negsuc 2047) (pos 2047) (intra_dc n) = refl in
     a ∙ (sym (clip_dc n valid.0.1) ∙ sym b)
 transmitted_at quant true (Some n) cs (suc k) valid =
@@ -118,22 +118,22 @@ pub scan_small : (k : ℕ) → slice_index scan_places k < 64
 unfolding scan_places transmission_order all_below
 scan_small k = below_at scan_places k refl
 
-places_at : (quant : ℕ) (b : Block) (k : ℕ) → k < 64 → at (coefficients_of quant b) k ≡ at (in_transmission quant b) (slice_index scan_places k)
+places_at : (quant : ℕ) (b : Block) (k : ℕ) → k < 64 → at_place (coefficients_of quant b) k ≡ at_place (in_transmission quant b) (slice_index scan_places k)
 unfolding coefficients_of scan_places
 places_at quant b k h =
-    get_or-map-range_with_len (λ place. at (in_transmission quant b) (position_or_len (λ k. k == place) transmission_order)) 0 64 k k (pos 0) h (omega arith)
-    ∙ ap (at (in_transmission quant b)) (sym (get_or-map-range_with_len (λ place. position_or_len (λ k. k == place) transmission_order) 0 64 k k 0 h (omega arith)))
+    get_or-map-range_with_len (λ place. at_place (in_transmission quant b) (position_or_len (λ k. k == place) transmission_order)) 0 64 k k (pos 0) h (omega arith)
+    ∙ ap (at_place (in_transmission quant b)) (sym (get_or-map-range_with_len (λ place. position_or_len (λ k. k == place) transmission_order) 0 64 k k 0 h (omega arith)))
 
-fixed_same : (xs ys : List ℤ) (x y : ℕ) → ((k : ℕ) → k < 64 → at xs k ≡ at ys k) → fixed xs x y ≡ fixed ys x y
+fixed_same : (xs ys : List ℤ) (x y : ℕ) → ((k : ℕ) → k < 64 → at_place xs k ≡ at_place ys k) → fixed xs x y ≡ fixed ys x y
 unfolding fixed
 fixed_same xs ys x y same =
     ap (λ s. int_div_euclid (s +ℤ pos 33554432) (pos 67108864))
-    (sum_same 8 (λ v. sum_below 8 (λ u. (kernel u x *ℤ kernel v y) *ℤ at xs (8 * v + u))) (λ v. sum_below 8 (λ u. (kernel u x *ℤ kernel v y) *ℤ at ys (8 * v + u)))
-    (λ v hv. sum_same 8 (λ u. (kernel u x *ℤ kernel v y) *ℤ at xs (8 * v + u)) (λ u. (kernel u x *ℤ kernel v y) *ℤ at ys (8 * v + u))
+    (sum_same 8 (λ v. sum_below 8 (λ u. (kernel u x *ℤ kernel v y) *ℤ at_place xs (8 * v + u))) (λ v. sum_below 8 (λ u. (kernel u x *ℤ kernel v y) *ℤ at_place ys (8 * v + u)))
+    (λ v hv. sum_same 8 (λ u. (kernel u x *ℤ kernel v y) *ℤ at_place xs (8 * v + u)) (λ u. (kernel u x *ℤ kernel v y) *ℤ at_place ys (8 * v + u))
     (λ u hu. ap (λ z. (kernel u x *ℤ kernel v y) *ℤ z) (same (8 * v + u) (omega arith)))))
 
 -- coefficients that were put into their places are those of the block
-pub block_adds : (quant : ℕ) (intra : Bool) (b : Block) (coefs : List ℤ) (x y : ℕ) → IsBlockOf intra b → ((k : ℕ) → k < 64 → at coefs k ≡ coefficient_at quant intra (levels b) (slice_index scan_places k)) → clipped (negsuc 255) (pos 255) (fixed coefs x y) ≡ residual fixed quant (Some b) x y
+pub block_adds : (quant : ℕ) (intra : Bool) (b : Block) (coefs : List ℤ) (x y : ℕ) → IsBlockOf intra b → ((k : ℕ) → k < 64 → at_place coefs k ≡ coefficient_at quant intra (levels b) (slice_index scan_places k)) → clipped (negsuc 255) (pos 255) (fixed coefs x y) ≡ residual fixed quant (Some b) x y
 unfolding residual
 block_adds quant intra b coefs x y valid are =
     ap (clipped (negsuc 255) (pos 255))

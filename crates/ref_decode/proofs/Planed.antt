@@ -14,17 +14,17 @@ use Rattle.pel_model.specs.Frames.{Plane, Luminance, Cb, Cr, Frame, ratio, is_in
 use Rattle.pel_model.specs.Records.{Picture}
 use Rattle.pel_model.specs.Transform.{fixed}
 use Rattle.ref_decode.specs.Drawing.{sample_in, frame_in, drawn_over, GroupsDrawn}
-use Rattle.ref_decode.specs.Shown.{columns, rows, plane_start, sample_count, sample_place, row_of, plane_of, planes_of}
+use Rattle.ref_decode.specs.Shown.{columns, row_count, plane_start, sample_count, sample_place, row_samples, plane_of, planes_of}
 use Rattle.ref_decode.proofs.Geometry.{is-inside}
 use Rattle.ref_decode.proofs.Predicted.{inside_of}
 
 -- ---- planes
 
-module _ (format : Format) (samples : List ℕ) (plane : Plane) (within : plane_start format plane + columns format plane * rows format plane ≤ length samples) where
-  row_is : (y : ℕ) → y < rows format plane → row_of format (frame_in format samples) plane y ≡ take (columns format plane) (drop (plane_start format plane + columns format plane * y) samples)
+module _ (format : Format) (samples : List ℕ) (plane : Plane) (within : plane_start format plane + columns format plane * row_count format plane ≤ length samples) where
+  row_is : (y : ℕ) → y < row_count format plane → row_samples format (frame_in format samples) plane y ≡ take (columns format plane) (drop (plane_start format plane + columns format plane * y) samples)
   row_is y hy =
       let width : ℕ = columns format plane in
-      let next : y + 1 ≤ rows format plane = omega arith in
+      let next : y + 1 ≤ row_count format plane = omega arith in
       let room : plane_start format plane + columns format plane * y + columns format plane ≤ length samples = omega (arith, mul-le-mul_left width next, within) in
       let long : length (take width (drop (plane_start format plane + width * y) samples)) ≡ width = length-take-le width (drop (plane_start format plane + width * y) samples) (omega (arith, length-drop (plane_start format plane + width * y) samples, room)) in
       sym (fill_by_all (λ x. frame_in format samples plane x y) (take width (drop (plane_start format plane + width * y) samples)) width 0 long
@@ -32,7 +32,7 @@ module _ (format : Format) (samples : List ℕ) (plane : Plane) (within : plane_
       let inside = is-inside format plane x y (inside_of format plane x y hx hy) in
       rw (get_or-take, get_or-drop) (sym (cond-true (is_inside format plane x y) (slice_index samples (sample_place format plane x y)) 0 inside))))
 
-  rows_are : (y count : ℕ) → y + count ≤ rows format plane → flat_map (row_of format (frame_in format samples) plane) (range_with_len y count) ≡ take (columns format plane * count) (drop (plane_start format plane + columns format plane * y) samples)
+  rows_are : (y count : ℕ) → y + count ≤ row_count format plane → flat_map (row_samples format (frame_in format samples) plane) (range_with_len y count) ≡ take (columns format plane * count) (drop (plane_start format plane + columns format plane * y) samples)
   rows_are y zero h = let e : columns format plane * zero ≡ 0 = omega arith in rw e refl
   rows_are y (suc n) h =
       let width : ℕ = columns format plane in
@@ -44,10 +44,10 @@ module _ (format : Format) (samples : List ℕ) (plane : Plane) (within : plane_
       ∙ (sym (take-add width (width * n) (drop (plane_start format plane + width * y) samples))
       ∙ ap (λ k. take k (drop (plane_start format plane + width * y) samples)) (sym e))))
 
-  plane_is : plane_of format (frame_in format samples) plane ≡ take (columns format plane * rows format plane) (drop (plane_start format plane) samples)
+  plane_is : plane_of format (frame_in format samples) plane ≡ take (columns format plane * row_count format plane) (drop (plane_start format plane) samples)
   plane_is =
       let e : plane_start format plane + columns format plane * 0 ≡ plane_start format plane = omega arith in
-      rows_are 0 (rows format plane) (omega arith) ∙ ap (λ k. take (columns format plane * rows format plane) (drop k samples)) e
+      rows_are 0 (row_count format plane) (omega arith) ∙ ap (λ k. take (columns format plane * row_count format plane) (drop k samples)) e
 
 -- three parts of a list are the list
 three : (xs : List ℕ) (a b c : ℕ) → length xs ≡ a + b + c → take a (drop 0 xs) ++ take b (drop a xs) ++ take c (drop (a + b) xs) ≡ xs
@@ -61,7 +61,7 @@ planes_are format samples long =
     ap₂ (λ (a b : List ℕ). a ++ b)
     (ap₂ (λ (a b : List ℕ). a ++ b) (plane_is format samples Luminance (omega (arith, long))) (plane_is format samples Cb (omega (arith, long))))
     (plane_is format samples Cr (omega (arith, long)))
-    ∙ three samples (columns format Luminance * rows format Luminance) (columns format Cb * rows format Cb) (columns format Cr * rows format Cr) long
+    ∙ three samples (columns format Luminance * row_count format Luminance) (columns format Cb * row_count format Cb) (columns format Cr * row_count format Cr) long
 
 -- ---- frames
 
@@ -81,11 +81,11 @@ frame_is format p shown next drawn = fun_ext λ plane. fun_ext λ x. fun_ext λ 
 
 -- ---- how many octets planes have
 
-length-rows : (format : Format) (frame : Frame) (plane : Plane) (y n : ℕ) → length (flat_map (row_of format frame plane) (range_with_len y n)) ≡ columns format plane * n
+length-rows : (format : Format) (frame : Frame) (plane : Plane) (y n : ℕ) → length (flat_map (row_samples format frame plane) (range_with_len y n)) ≡ columns format plane * n
 length-rows format frame plane y zero = let e : columns format plane * 0 ≡ 0 = omega arith in sym e
 length-rows format frame plane y (suc n) =
     let e : columns format plane * suc n ≡ columns format plane + columns format plane * n = omega arith in
-    length-append (row_of format frame plane y) (flat_map (row_of format frame plane) (range_with_len (y + 1) n))
+    length-append (row_samples format frame plane y) (flat_map (row_samples format frame plane) (range_with_len (y + 1) n))
     ∙ (ap₂ (λ (a b : ℕ). a + b) (length-map-range_with_len (λ x. frame plane x y) 0 (columns format plane)) (length-rows format frame plane (y + 1) n)
     ∙ sym e)
 
@@ -95,5 +95,5 @@ length-planes format frame =
     length-append (plane_of format frame Luminance ++ plane_of format frame Cb) (plane_of format frame Cr)
     ∙ ap₂ (λ (a b : ℕ). a + b)
     (length-append (plane_of format frame Luminance) (plane_of format frame Cb)
-    ∙ ap₂ (λ (a b : ℕ). a + b) (length-rows format frame Luminance 0 (rows format Luminance)) (length-rows format frame Cb 0 (rows format Cb)))
-    (length-rows format frame Cr 0 (rows format Cr))
+    ∙ ap₂ (λ (a b : ℕ). a + b) (length-rows format frame Luminance 0 (row_count format Luminance)) (length-rows format frame Cb 0 (row_count format Cb)))
+    (length-rows format frame Cr 0 (row_count format Cr))

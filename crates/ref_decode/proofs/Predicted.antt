@@ -16,7 +16,7 @@ use Rattle.h261_mb.specs.declared.header.Header.{Header}
 use Rattle.ref_decode.specs.declared.macroblock.Spot.{Spot}
 use Rattle.ref_decode.specs.Blocks.{block_at}
 use Rattle.ref_decode.specs.Drawing.{frame_in, IsHeaderOf, IsSpot, prediction_at, reference_at, reference_left, reference_top, block_plane, block_left, block_top}
-use Rattle.ref_decode.specs.Shown.{columns, rows, sample_place}
+use Rattle.ref_decode.specs.Shown.{columns, row_count, sample_place}
 use Rattle.ref_decode.proofs.Filters.{filtered_moved}
 use Rattle.ref_decode.proofs.Geometry.{IsInside, is-inside, of_block, IsPlaced}
 
@@ -51,7 +51,7 @@ moves_across format number (suc (suc (suc (suc zero)))) m is valid few = moves_t
 moves_across format number (suc (suc (suc (suc (suc zero))))) m is valid few = moves_two m.across _ _ _ (component_stays format number Across m is.across valid.across) refl is.across
 moves_across format number (suc (suc (suc (suc (suc (suc k)))))) m is valid few = absurd (omega (arith, few))
 
-pub moves_down : (format : Format) (number block : ℕ) (m : Macroblock) → IsPlaced format number m.address → IsValidMacroblock format number m → block < 6 → Moves (ratio (block_plane block)) m.down (block_top number m.address block) (rows format (block_plane block))
+pub moves_down : (format : Format) (number block : ℕ) (m : Macroblock) → IsPlaced format number m.address → IsValidMacroblock format number m → block < 6 → Moves (ratio (block_plane block)) m.down (block_top number m.address block) (row_count format (block_plane block))
 moves_down format number zero m is valid few = moves_one m.down _ _ _ (component_stays format number Down m is.down valid.down) (omega arith) (omega arith) is.down
 moves_down format number (suc zero) m is valid few = moves_one m.down _ _ _ (component_stays format number Down m is.down valid.down) (omega arith) (omega arith) is.down
 moves_down format number (suc (suc zero)) m is valid few = moves_one m.down _ _ _ (component_stays format number Down m is.down valid.down) (omega arith) (omega arith) is.down
@@ -79,7 +79,7 @@ whole_top number address (suc (suc (suc (suc zero)))) few = omega arith
 whole_top number address (suc (suc (suc (suc (suc zero))))) few = omega arith
 whole_top number address (suc (suc (suc (suc (suc (suc k)))))) few = absurd (omega (arith, few))
 
-pub inside_of : (format : Format) (plane : Plane) (u v : ℕ) → u < columns format plane → v < rows format plane → IsInside format plane u v
+pub inside_of : (format : Format) (plane : Plane) (u v : ℕ) → u < columns format plane → v < row_count format plane → IsInside format plane u v
 inside_of format Luminance u v hu hv = record { across = omega (arith, hu); down = omega (arith, hv) }
 inside_of format Cb u v hu hv = record { across = omega (arith, hu); down = omega (arith, hv) }
 inside_of format Cr u v hu hv = record { across = omega (arith, hu); down = omega (arith, hv) }

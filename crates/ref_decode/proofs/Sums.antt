@@ -4,7 +4,7 @@ use Rattle.std.specs.Prelude.{unsigned_abs}
 use Rattle.std.proofs.Common.{◌≢◌, List, [], ◌∷◌, length, length-set, get_or-set_other, get_or-set_same, below_more}
 use Rattle.std.specs.Prelude.{slice_set, slice_index}
 use Rattle.std.proofs.lemmas.Int.{ints}
-use Rattle.ref_decode.specs.Passes.{at}
+use Rattle.ref_decode.specs.Passes.{at_place}
 use Rattle.std.proofs.Math.IntN.{suc_ℤ-*ℤ, pred_ℤ-*ℤ, zero-*ℤ, *ℤ_comm, *ℤ-zero}
 use Rattle.pel_model.specs.Transform.{sum_below}
 
@@ -94,7 +94,7 @@ sum_small (suc n) b f small =
 
 -- ---- writing and adding lane by lane
 
-pub eight_zeros : (x : ℕ) → at (pos 0 ∷ pos 0 ∷ pos 0 ∷ pos 0 ∷ pos 0 ∷ pos 0 ∷ pos 0 ∷ pos 0 ∷ []) x ≡ pos 0
+pub eight_zeros : (x : ℕ) → at_place (pos 0 ∷ pos 0 ∷ pos 0 ∷ pos 0 ∷ pos 0 ∷ pos 0 ∷ pos 0 ∷ pos 0 ∷ []) x ≡ pos 0
 eight_zeros zero = refl
 eight_zeros (suc zero) = refl
 eight_zeros (suc (suc zero)) = refl
@@ -106,19 +106,19 @@ eight_zeros (suc (suc (suc (suc (suc (suc (suc zero))))))) = refl
 eight_zeros (suc (suc (suc (suc (suc (suc (suc (suc x)))))))) = refl
 
 -- one more of eight sums was written
-pub lane_added : (sums old added : List ℤ) (term : ℕ → ℤ) (i : ℕ) (r : ℤ) → length sums ≡ 8 → i < 8 → ((x : ℕ) → x < i → at sums x ≡ at old x +ℤ term x) → ((x : ℕ) → i ≤ x → at sums x ≡ at old x) → r ≡ at sums i +ℤ term i → added ≡ slice_set sums i r → (length added ≡ 8) × ((x : ℕ) → x < i + 1 → at added x ≡ at old x +ℤ term x) × ((x : ℕ) → i + 1 ≤ x → at added x ≡ at old x)
+pub lane_added : (sums old added : List ℤ) (term : ℕ → ℤ) (i : ℕ) (r : ℤ) → length sums ≡ 8 → i < 8 → ((x : ℕ) → x < i → at_place sums x ≡ at_place old x +ℤ term x) → ((x : ℕ) → i ≤ x → at_place sums x ≡ at_place old x) → r ≡ at_place sums i +ℤ term i → added ≡ slice_set sums i r → (length added ≡ 8) × ((x : ℕ) → x < i + 1 → at_place added x ≡ at_place old x +ℤ term x) × ((x : ℕ) → i + 1 ≤ x → at_place added x ≡ at_place old x)
 lane_added sums old added term i r long within done todo is set_is = rw set_is (
   length-set sums i r ∙ long,
-  below_more (λ x. at (slice_set sums i r) x ≡ at old x +ℤ term x) i
+  below_more (λ x. at_place (slice_set sums i r) x ≡ at_place old x +ℤ term x) i
       (λ x h. let ne : x ≢ i = omega arith in rw get_or-set_other (done x h))
       (let lt : i < length sums = omega (arith, long, within) in rw get_or-set_same (is ∙ ap (λ z. z +ℤ term i) (todo i (omega arith)))),
   λ x h. let ne : x ≢ i = omega arith in rw get_or-set_other (todo x (omega arith)),
 )
 
 -- one more entry was written
-pub put_more : (P : ℕ → ℤ → Type 0) (xs : List ℤ) (i : ℕ) (v : ℤ) → i < length xs → ((k : ℕ) → k < i → P k (at xs k)) → P i v → (k : ℕ) → k < i + 1 → P k (at (slice_set xs i v) k)
+pub put_more : (P : ℕ → ℤ → Type 0) (xs : List ℤ) (i : ℕ) (v : ℤ) → i < length xs → ((k : ℕ) → k < i → P k (at_place xs k)) → P i v → (k : ℕ) → k < i + 1 → P k (at_place (slice_set xs i v) k)
 put_more P xs i v lt done here =
-    below_more (λ k. P k (at (slice_set xs i v) k)) i
+    below_more (λ k. P k (at_place (slice_set xs i v) k)) i
     (λ k h. let ne : k ≢ i = omega arith in rw get_or-set_other (done k h))
     (rw get_or-set_same here)
 

@@ -6,11 +6,11 @@ use Rattle.pel_model.specs.Decode.{decode}
 use Rattle.pel_model.specs.Frames.{Luminance, Cb, Cr}
 use Rattle.pel_model.specs.Records.{Picture}
 use Rattle.pel_model.specs.Transform.{fixed}
-use Rattle.unit_stream.specs.Events.{Lost, Shown, Refused}
+use Rattle.rtp_h261.specs.Events.{Lost, Shown, Refused}
 use Rattle.ref_decode.specs.Planes.{planes_shown}
-use Rattle.ref_decode.specs.Shown.{columns, rows, plane_start, sample_count, sample_place, frame_of, nothing_shown, black, plane_numbered, planes_of}
+use Rattle.ref_decode.specs.Shown.{columns, row_count, plane_start, sample_count, sample_place, frame_of, nothing_shown, black, plane_numbered, planes_of}
 
-pub sides_of_planes : columns Qcif Luminance ∷ rows Qcif Luminance ∷ columns Qcif Cb ∷ rows Qcif Cr ∷ columns Cif Luminance ∷ rows Cif Luminance ∷ columns Cif Cr ∷ rows Cif Cb ∷ []
+pub sides_of_planes : columns Qcif Luminance ∷ row_count Qcif Luminance ∷ columns Qcif Cb ∷ row_count Qcif Cr ∷ columns Cif Luminance ∷ row_count Cif Luminance ∷ columns Cif Cr ∷ row_count Cif Cb ∷ []
     ≡ 176 ∷ 144 ∷ 88 ∷ 72 ∷ 352 ∷ 288 ∷ 176 ∷ 144 ∷ []
 sides_of_planes = refl
 

@@ -1,12 +1,13 @@
 -- Inner contracts alone use this; nothing here has to be believed.
 -- What the drawing of blocks, macroblocks and groups leaves in the samples, sample by sample.
-use Rattle.std.specs.Prelude.{◌≡◌, ℕ, ◌+◌, ◌-◌, ◌*◌, ◌/◌, ◌%◌, ◌^◌, ◌<◌, ◌≤◌, ◌==◌, ◌&&◌, nat_lt, min, Bool, true, cond, pos, ◌+ℤ◌, List, slice_get, slice_index, slice_index_or, is_some, Option, None, Some, Result, Ok, Err}
+use Rattle.std.specs.Prelude.{◌≡◌, ℕ, ◌+◌, ◌-◌, ◌*◌, ◌/◌, ◌%◌, ◌^◌, ◌<◌, ◌≤◌, ◌==◌, ◌&&◌, nat_lt, min, Bool, true, cond, pos, ◌+ℤ◌}
+use Rattle.std.specs.Prelude.{List, length, slice_get, slice_index, slice_index_or, is_some, Option, None, Some, Result, Ok, Err}
 use Rattle.pel_model.specs.declared.Format.{Format}
 use Rattle.pel_model.specs.Bits.{field}
 use Rattle.pel_model.specs.Codes.{is_intra}
 use Rattle.pel_model.specs.Decode.{Quantised, at_address, in_groups, group_of, address_of, block_number, sample, decoded}
 use Rattle.pel_model.specs.Frames.{Plane, Luminance, Cb, Cr, Frame, ratio, is_inside}
-use Rattle.pel_model.specs.Grammar.{Element}
+use Rattle.pel_model.specs.Grammar.{Element, is_group}
 use Rattle.pel_model.specs.Records.{Across, Down, Block, Macroblock, Group, Picture, quantiser_after}
 use Rattle.pel_model.specs.Text.{address_of as last_address}
 use Rattle.pel_model.specs.Prediction.{moved_by, has_filter}
@@ -21,7 +22,7 @@ use Rattle.picture_laws.specs.PictureElements.{elements_of_macroblock as macrobl
 use Rattle.picture_laws.specs.SoFar.{IsBehind}
 use Rattle.ref_decode.specs.declared.macroblock.Spot.{Spot}
 use Rattle.ref_decode.specs.Blocks.{IsBlockOf, block_at, filtered_if}
-use Rattle.ref_decode.specs.Shown.{frame_of, sample_place, columns, rows, plane_start}
+use Rattle.ref_decode.specs.Shown.{frame_of, sample_count, sample_place, columns, row_count, plane_start}
 
 -- ---- samples
 
@@ -95,7 +96,7 @@ pub record IsHeaderOf (m : Macroblock) (quant : ℕ) (header : Header) : Type 0 
   pub sends : (k : ℕ) → k < 6 → slice_get (field header.pattern 6) k ≡ Some (is_some (slice_index_or m.blocks k None))
 
 -- a macroblock of a group that comes behind these elements
-pub record IsNext (format : Format) (number : ℕ) (last : Option Macroblock) (m : Macroblock) (before : List Element) : Type 0 where
+pub record ComesNext (format : Format) (number : ℕ) (last : Option Macroblock) (m : Macroblock) (before : List Element) : Type 0 where
   pub behind : IsBehind number last before
   pub rises : last_address last < m.address
   pub most : m.address ≤ 33
@@ -107,7 +108,7 @@ pub record IsNext (format : Format) (number : ℕ) (last : Option Macroblock) (m
 pub record IsSpot (format : Format) (number address block : ℕ) (spot : Spot) : Type 0 where
   pub start : spot.start ≡ plane_start format (block_plane block)
   pub width : spot.width ≡ columns format (block_plane block)
-  pub height : spot.height ≡ rows format (block_plane block)
+  pub height : spot.height ≡ row_count format (block_plane block)
   pub left : spot.left ≡ block_left number address block
   pub top : spot.top ≡ block_top number address block
   pub ratio_is : spot.ratio ≡ ratio (block_plane block)
@@ -179,3 +180,16 @@ IsGroupDone format g rest shown old new (Err e) r = ⊥
 abbrev pub IsPictureDone : {E : Type 0} → Format → Picture → (shown old new : List ℕ) → Result Unit E → Type 0
 IsPictureDone format p shown old new (Ok _) = GroupsDrawn format p.groups shown old new
 IsPictureDone format p shown old new (Err e) = ⊥
+
+-- ---- what is asked
+
+-- both sets of planes have the samples of the format
+pub record HavePlanes (format : Format) (old new : List ℕ) : Type 0 where
+  pub shown : length old ≡ sample_count format
+  pub next : length new ≡ sample_count format
+
+-- a block of a macroblock of this group at this address
+pub record IsBlockPlace (format : Format) (number place index : ℕ) : Type 0 where
+  pub group : is_group format number ≡ true
+  pub address : place ≤ 33
+  pub block : index < 6

@@ -6,8 +6,8 @@ use Rattle.std.specs.Int.{int_div_euclid}
 use Rattle.pel_model.specs.Transform.{clipped, sum_below, kernel}
 
 -- the number at a place of a list, 0 past its end
-abbrev pub at : List ℤ → ℕ → ℤ
-at numbers k = slice_index_or numbers k (pos 0)
+abbrev pub at_place : List ℤ → ℕ → ℤ
+at_place numbers k = slice_index_or numbers k (pos 0)
 
 -- the kernel by its rows, and by its columns
 unfoldable pub by_rows : List ℤ
@@ -18,7 +18,7 @@ by_columns = map (λ k. kernel (k % 8) (k / 8)) (range_with_len 0 64)
 
 -- so many factors from a place on, each times that row of a table of eight columns, summed at a column
 abbrev pub combination : List ℤ → (from : ℕ) → List ℤ → (count : ℕ) → ℕ → ℤ
-combination factors from table count x = sum_below count (λ k. at factors (from + k) *ℤ at table (8 * k + x))
+combination factors from table count x = sum_below count (λ k. at_place factors (from + k) *ℤ at_place table (8 * k + x))
 
 -- a sum divided by 2^26, halves up, and clipped
 abbrev pub rounded : ℤ → ℤ

@@ -15,18 +15,18 @@ pub record Shown : Type 0 where
 abbrev pub columns : Format → Plane → ℕ
 columns format plane = side format Across / ratio plane
 
-abbrev pub rows : Format → Plane → ℕ
-rows format plane = side format Down / ratio plane
+abbrev pub row_count : Format → Plane → ℕ
+row_count format plane = side format Down / ratio plane
 
 -- the samples before a plane
 abbrev pub plane_start : Format → Plane → ℕ
 plane_start format Luminance = 0
-plane_start format Cb = columns format Luminance * rows format Luminance
-plane_start format Cr = columns format Luminance * rows format Luminance + columns format Cb * rows format Cb
+plane_start format Cb = columns format Luminance * row_count format Luminance
+plane_start format Cr = columns format Luminance * row_count format Luminance + columns format Cb * row_count format Cb
 
 -- all samples: 38,016 or 152,064
 abbrev pub sample_count : Format → ℕ
-sample_count format = plane_start format Cr + columns format Cr * rows format Cr
+sample_count format = plane_start format Cr + columns format Cr * row_count format Cr
 
 -- where a sample stands
 abbrev pub sample_place : Format → Plane → (x y : ℕ) → ℕ
@@ -51,11 +51,11 @@ plane_numbered _ = Cr
 -- ---- planes as octets
 
 -- the samples of one row, and of one plane of a frame
-abbrev pub row_of : Format → Frame → Plane → (y : ℕ) → List ℕ
-row_of format frame plane y = map (λ x. frame plane x y) (range_with_len 0 (columns format plane))
+abbrev pub row_samples : Format → Frame → Plane → (y : ℕ) → List ℕ
+row_samples format frame plane y = map (λ x. frame plane x y) (range_with_len 0 (columns format plane))
 
 abbrev pub plane_of : Format → Frame → Plane → List ℕ
-plane_of format frame plane = flat_map (row_of format frame plane) (range_with_len 0 (rows format plane))
+plane_of format frame plane = flat_map (row_samples format frame plane) (range_with_len 0 (row_count format plane))
 
 -- luminance, CB and CR, each by rows from the top
 unfoldable pub planes_of : Format → Frame → List ℕ

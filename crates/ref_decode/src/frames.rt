@@ -1,10 +1,9 @@
 //! A stream of packets decoded: the planes after each of its pictures.
 
 ghost use Rattle.std.specs.Prelude.{◌^◌, ◌≤◌, refl};
-ghost use Rattle.ref_decode.specs.Planes.{planes_from, planes_shown};
-ghost use Rattle.ref_decode.specs.Shown.{frame_of};
-ghost use Rattle.io_edge.specs.Outside.{Outside};
-ghost use Rattle.unit_stream.specs.Ends.{Ends, Completes};
+ghost use Rattle.io_edge.specs.Outside.{outside};
+ghost use Rattle.ref_decode.specs.Planes.{planes_duty, planes_shown};
+ghost use Rattle.rtp_h261.specs.UnitEnds.{ReadsUnits};
 
 use crate::sides::sample_count;
 use crate::store::Store;
@@ -12,14 +11,11 @@ use h261_pic::Coded;
 use io_edge::{Failed, Sink, Source};
 use pel_bits::NoMemory;
 use pel_model::{Fault, Format};
-use rtp_h261::UnitEnd;
+use rtp_h261::{Teller, UnitEnd, nothing_read, read_units};
 use std::alloc::Global;
-use unit_stream::{Teller, nothing_read, read_units};
 
 impl Teller for Store {
-    ghost format = { λ s. s.format };
-
-    ghost pieces = { λ s number events. planes_from s.format (frame_of s) events };
+    ghost duty = { planes_duty };
 
     /// Missing packets leave the frame as it is.
     fn loss<K: Sink>(&mut self, _number: u64, _sink: &mut K) -> Result<u64, Failed> {
@@ -61,34 +57,8 @@ pub fn decode_frames<S: Source, K: Sink>(
     budget: u64,
 ) -> UnitEnd
     requires { budget ≤ 2 ^ 40 }
-    ensures ends { Ends format budget (planes_shown format)
-        (record {
-          left = S.left source.old;
-          faults = S.faults source.old;
-          written = K.written sink.old;
-          write_faults = K.faults sink.old;
-        })
-        (record {
-          left = S.left source.new;
-          faults = S.faults source.new;
-          written = K.written sink.new;
-          write_faults = K.faults sink.new;
-        })
-        result }
-    ensures completes { Completes budget
-        (record {
-          left = S.left source.old;
-          faults = S.faults source.old;
-          written = K.written sink.old;
-          write_faults = K.faults sink.old;
-        })
-        (record {
-          left = S.left source.new;
-          faults = S.faults source.new;
-          written = K.written sink.new;
-          write_faults = K.faults sink.new;
-        })
-        result }
+    ensures { ReadsUnits format budget (planes_shown format) (outside (S.tells source.old) (K.tells sink.old))
+        (outside (S.tells source.new) (K.tells sink.new)) result }
 {
     match Store::reserve(alloc, format) {
         Ok(mut store) => read_units(alloc, format, &mut store, source, sink, budget),

@@ -10,7 +10,7 @@ ghost use Rattle.pel_model.specs.Text.{sent_block_text, macroblock_text};
 ghost use Rattle.pel_model.specs.Valid.{IsValidMacroblock};
 ghost use Rattle.h261_mb.specs.State.{IsReady, Stands};
 ghost use Rattle.ref_decode.specs.Blocks.{block_at};
-ghost use Rattle.ref_decode.specs.Drawing.{IsHeaderOf, IsNext, IsSpot, IsWithin, IsSentAs, AreJoined, IsBlockDone, IsMacroblockDone, prediction_at};
+ghost use Rattle.ref_decode.specs.Drawing.{HavePlanes, IsBlockPlace, IsHeaderOf, ComesNext, IsSpot, IsWithin, IsSentAs, AreJoined, IsBlockDone, IsMacroblockDone, prediction_at};
 ghost use Rattle.ref_decode.specs.Shown.{sample_count};
 
 use crate::prediction::{joined, moved, predicted, put_block};
@@ -47,10 +47,9 @@ pub fn draw_macroblock(
 ) -> Result<(), Fault>
     requires group { is_group format group ≡ true }
     requires ready { IsReady state.old }
-    requires shown { length shown.now ≡ sample_count format }
-    requires next { length next.old ≡ sample_count format }
+    requires planes { HavePlanes format shown.now next.old }
     ensures drawn { (before : List Element) (last : Option Macroblock) (m : Macroblock) (rest : List Bool) →
-        IsNext format group last m before → Stands group state.old before →
+        ComesNext format group last m before → Stands group state.old before →
         r.old.0 ≡ macroblock_text last m ++ rest →
         IsMacroblockDone format group before last m rest shown.now next.old next.new
         state.old state.new result r.new }
@@ -75,11 +74,8 @@ fn draw_block(
     shown: &[u8],
     next: &mut [u8],
 ) -> Result<(), Fault>
-    requires group { is_group format group ≡ true }
-    requires address { header.now.address ≤ 33 }
-    requires block { block < 6 }
-    requires shown { length shown.now ≡ sample_count format }
-    requires next { length next.old ≡ sample_count format }
+    requires place { IsBlockPlace format group header.now.address block }
+    requires planes { HavePlanes format shown.now next.old }
     ensures drawn { (m : Macroblock) (quant : ℕ) (rest : List Bool) → IsHeaderOf m quant header.now →
         IsValidMacroblock format group m → 0 < m.address →
         IsSentAs (is_intra m.kind) (slice_index_or m.blocks block None) →
@@ -143,9 +139,7 @@ fn has_filter(kind: MbKind) -> bool
 
 // Blocks 0 to 3 are of luminance, by rows, 4 is CB and 5 is CR.
 fn spot_of(format: Format, group: u8, address: u8, block: usize) -> Spot
-    requires group { is_group format group ≡ true }
-    requires address { address ≤ 33 }
-    requires block { block < 6 }
+    requires { IsBlockPlace format group address block }
     ensures spot { IsSpot format group address block result }
     ensures within { IsWithin result (sample_count format) }
 {

@@ -6,7 +6,7 @@ ghost use Rattle.pel_model.specs.Grammar.{is_group};
 ghost use Rattle.pel_model.specs.Records.{Group, Picture};
 ghost use Rattle.pel_model.specs.Valid.{group_count, group_numbers, IsValid, IsValidGroup};
 ghost use Rattle.pel_model.specs.Text.{macroblocks_text};
-ghost use Rattle.ref_decode.specs.Drawing.{IsGroupDone, IsPictureDone};
+ghost use Rattle.ref_decode.specs.Drawing.{HavePlanes, IsGroupDone, IsPictureDone};
 ghost use Rattle.ref_decode.specs.Shown.{sample_count};
 
 use crate::macroblock::draw_macroblock;
@@ -29,8 +29,7 @@ pub fn draw_picture(
 ) -> Result<(), Fault>
     requires format { picture.now.format ≡ format }
     requires finished { IsFinished picture.now }
-    requires shown { length shown.now ≡ sample_count format }
-    requires next { length next.old ≡ sample_count format }
+    requires planes { HavePlanes format shown.now next.old }
     ensures drawn { (p : Picture) → IsValid format p → picture.now ≡ coding format p →
         IsPictureDone format p shown.now next.old next.new result }
     ensures long { length next.new ≡ sample_count format }
@@ -61,8 +60,7 @@ fn draw_group(
     next: &mut [u8],
 ) -> Result<(), Fault>
     requires group { is_group format number ≡ true }
-    requires shown { length shown.now ≡ sample_count format }
-    requires next { length next.old ≡ sample_count format }
+    requires planes { HavePlanes format shown.now next.old }
     ensures drawn { (g : Group) (rest : List Bool) → IsValidGroup format g → g.number ≡ number →
         view.quant ≡ g.quant → view.marks ≡ length g.macroblocks →
         r.old.0 ≡ macroblocks_text None g.macroblocks ++ rest →

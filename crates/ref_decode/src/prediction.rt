@@ -4,7 +4,7 @@
 ghost use Rattle.std.specs.Prelude.{◌≡◌, ℕ, ◌+◌, ◌-◌, ◌*◌, ◌^◌, ◌/◌, ◌%◌, ◌<◌, ◌≤◌, min, ◌⊎◌, pos, ◌+ℤ◌, length, slice_index};
 ghost use Rattle.pel_model.specs.Decode.{sample};
 ghost use Rattle.pel_model.specs.Prediction.{moved_by, weighted, filtered};
-ghost use Rattle.ref_decode.specs.Blocks.{block_at, filtered_if, joined_at};
+ghost use Rattle.ref_decode.specs.Blocks.{IsRowAt, block_at, filtered_if, joined_at};
 
 /// A column or row moved by a component of a vector, which is divided by `by` towards zero. It stays 8 samples before the
 /// end of a side, which a vector into the picture area never passes.
@@ -47,9 +47,7 @@ fn copied(samples: &[u8], from: usize, width: usize) -> [u8; 64]
 
 // Copies eight samples into a row of a block.
 fn copy_row(block: &mut [u8; 64], y: usize, samples: &[u8], from: usize)
-    requires row { y < 8 }
-    requires small { from < 2 ^ 30 }
-    requires within { from + 8 ≤ length samples.now }
+    requires { IsRowAt y from (length samples.now) }
     ensures inside { (x : ℕ) → x < 8 → block_at block.new x y ≡ slice_index samples.now (from + x) }
     ensures before { (k : ℕ) → k < 8 * y → slice_index block.new k ≡ slice_index block.old k }
 {
@@ -151,9 +149,7 @@ pub fn put_block(samples: &mut [u8], from: usize, width: usize, block: &[u8; 64]
 
 // Writes a row of a block.
 fn put_row(samples: &mut [u8], from: usize, block: &[u8; 64], y: usize)
-    requires row { y < 8 }
-    requires small { from < 2 ^ 30 }
-    requires within { from + 8 ≤ length samples.old }
+    requires { IsRowAt y from (length samples.old) }
     ensures inside { (x : ℕ) → x < 8 → slice_index samples.new (from + x) ≡ block_at block.now x y }
     ensures before { (k : ℕ) → k < from → slice_index samples.new k ≡ slice_index samples.old k }
     ensures behind { (k : ℕ) → from + 8 ≤ k → slice_index samples.new k ≡ slice_index samples.old k }

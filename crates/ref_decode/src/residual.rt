@@ -7,8 +7,8 @@ ghost use Rattle.pel_model.specs.Records.{Block};
 ghost use Rattle.pel_model.specs.Residual.{one_if_even, scaled};
 ghost use Rattle.pel_model.specs.Text.{block_text};
 ghost use Rattle.pel_model.specs.Transform.{clipped};
-ghost use Rattle.ref_decode.specs.Blocks.{IsBlockOf, IsRead, coefficient_at, scan_places};
-ghost use Rattle.ref_decode.specs.Passes.{at};
+ghost use Rattle.ref_decode.specs.Blocks.{IsBlockOf, IsClipped, AddsBlock, coefficient_at, scan_places};
+ghost use Rattle.ref_decode.specs.Passes.{at_place};
 
 use crate::transform::fixed;
 use h261_block::read_levels;
@@ -31,7 +31,7 @@ static SCAN: [u8; 64] = [
 /// Reads a block and gives what it adds, row by row. Behind a fault nothing is told of the reader.
 pub fn read_residual(r: &mut Reader<'_>, quant: u8, intra: bool) -> Result<[i16; 64], Fault>
     ensures { (b : Block) (rest : List Bool) → IsBlockOf intra b → r.old.0 ≡ block_text b ++ rest →
-        IsRead quant b result × (r.new.0 ≡ rest) }
+        AddsBlock quant b result × (r.new.0 ≡ rest) }
 {
     let mut levels = [0; 64];
     read_levels(r, intra, &mut levels)?;
@@ -43,8 +43,8 @@ pub fn read_residual(r: &mut Reader<'_>, quant: u8, intra: bool) -> Result<[i16;
 fn coefficients(levels: &[i16; 64], quant: u8, intra: bool, scan: &[u8; 64]) -> [i32; 64]
     requires { scan.now ≡ scan_places }
     ensures value { (k : ℕ) → k < 64 →
-        at result k ≡ coefficient_at quant intra levels.now (slice_index scan_places k) }
-    ensures size { (k : ℕ) → k < 64 → unsigned_abs (at result k) ≤ 2048 }
+        at_place result k ≡ coefficient_at quant intra levels.now (slice_index scan_places k) }
+    ensures size { (k : ℕ) → k < 64 → unsigned_abs (at_place result k) ≤ 2048 }
 {
     let mut coefs = [0; 64];
     for place in 0..64 {
@@ -69,8 +69,7 @@ fn coefficient(levels: &[i16; 64], quant: u8, intra: bool, place: usize) -> i32
 // QUANT (2 level + 1), less 1 where QUANT is even; the same with the other sign for a level below 0; then clipped to
 // -2048..2047.
 fn reconstruct(quant: u8, level: i16) -> i32
-    ensures value { result ≡ clipped (negsuc 2047) (pos 2047) (scaled quant level) }
-    ensures size { unsigned_abs result ≤ 2048 }
+    ensures { IsClipped (scaled quant level) result }
 {
     if level == 0 {
         return 0;
@@ -95,8 +94,7 @@ fn magnitude(quant: u8, level: u16) -> i32
 
 // Clipped to -2048..2047, between which INTRADC always lies.
 fn within_bounds(value: i32) -> i32
-    ensures value { result ≡ clipped (negsuc 2047) (pos 2047) value }
-    ensures size { unsigned_abs result ≤ 2048 }
+    ensures { IsClipped value result }
 {
     if value < -2048 {
         return -2048;

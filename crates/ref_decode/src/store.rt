@@ -2,7 +2,6 @@
 
 ghost use Rattle.std.specs.Prelude.{◌≡◌, ℕ, ◌<◌, true, IfOk};
 ghost use Rattle.h261_pic.specs.Coded.{coding, IsFinished};
-ghost use Rattle.io_edge.specs.Causes.{HasCause};
 ghost use Rattle.io_edge.specs.Whole.{PutsAll};
 ghost use Rattle.pel_model.specs.Decode.{decode};
 ghost use Rattle.pel_model.specs.Frames.{is_inside};
@@ -93,9 +92,8 @@ impl Store {
     /// Writes the planes that are shown, luminance, CB and CR, each by rows: 38,016 octets of a QCIF store, 152,064 of a CIF
     /// store. A sink that fails has been given a front of them.
     pub fn write_planes<K: Sink>(&self, sink: &mut K) -> Result<(), Failed>
-        ensures bytes { PutsAll (K.written sink.old) (K.written sink.new) result
-            (planes_of self.now.format (frame_of self.now)) }
-        ensures cause { HasCause (K.faults sink.old) (K.faults sink.new) result }
+        ensures { PutsAll (K.tells sink.old) (K.tells sink.new)
+            (planes_of self.now.format (frame_of self.now)) result }
     {
         put_all(sink, self.shown.as_slice())
     }

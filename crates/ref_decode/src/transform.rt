@@ -3,7 +3,7 @@
 
 ghost use Rattle.std.specs.Prelude.{◌≡◌, ℕ, ◌+◌, ◌*◌, ◌^◌, ◌<◌, ◌≤◌, pos, negsuc, ◌+ℤ◌, ◌*ℤ◌, length, slice_index_or, unsigned_abs};
 ghost use Rattle.pel_model.specs.Transform.{clipped, fixed as fixed_transform};
-ghost use Rattle.ref_decode.specs.Passes.{at, by_rows, by_columns, combination, rounded};
+ghost use Rattle.ref_decode.specs.Passes.{at_place, by_rows, by_columns, combination, rounded};
 
 /// The kernel, a row for each index and a column for each place in the block.
 static ROWS: [i32; 64] = [
@@ -40,10 +40,10 @@ pub fn fixed(coefs: &[i32; 64]) -> [i16; 64]
 }
 
 fn in_two_passes(coefs: &[i32; 64], by_row: &[i32; 64], by_column: &[i32; 64]) -> [i16; 64]
-    requires coefs { (k : ℕ) → k < 64 → unsigned_abs (at coefs.now k) ≤ 2048 }
+    requires coefs { (k : ℕ) → k < 64 → unsigned_abs (at_place coefs.now k) ≤ 2048 }
     requires rows { by_row.now ≡ by_rows }
     requires columns { by_column.now ≡ by_columns }
-    ensures { (x y : ℕ) → x < 8 → y < 8 → at result (8 * y + x)
+    ensures { (x y : ℕ) → x < 8 → y < 8 → at_place result (8 * y + x)
         ≡ clipped (negsuc 255) (pos 255) (fixed_transform coefs.now x y) }
 {
     let used = used_rows(coefs);
@@ -63,7 +63,7 @@ fn in_two_passes(coefs: &[i32; 64], by_row: &[i32; 64], by_column: &[i32; 64]) -
 // How many rows of eight there are up to the last that is not 0.
 fn used_rows(coefs: &[i32; 64]) -> usize
     ensures within { result ≤ 8 }
-    ensures zeros { (k : ℕ) → 8 * result ≤ k → k < 64 → at coefs.now k ≡ pos 0 }
+    ensures zeros { (k : ℕ) → 8 * result ≤ k → k < 64 → at_place coefs.now k ≡ pos 0 }
 {
     let mut count = 64;
     while count > 0 && coefs[count - 1] == 0 {
@@ -76,8 +76,8 @@ fn used_rows(coefs: &[i32; 64]) -> usize
 fn combined(factors: &[i32; 64], from: usize, table: &[i32; 64], count: usize) -> [i64; 8]
     requires within { (from + count ≤ 64) × (count ≤ 8) }
     requires small { (k x : ℕ) → k < count → x < 8 →
-        unsigned_abs (at factors.now (from + k) *ℤ at table.now (8 * k + x)) ≤ 2 ^ 57 }
-    ensures { (x : ℕ) → x < 8 → at result x ≡ combination factors.now from table.now count x }
+        unsigned_abs (at_place factors.now (from + k) *ℤ at_place table.now (8 * k + x)) ≤ 2 ^ 57 }
+    ensures { (x : ℕ) → x < 8 → at_place result x ≡ combination factors.now from table.now count x }
 {
     let mut sums = [0; 8];
     for k in 0..count {
@@ -92,8 +92,8 @@ fn combined(factors: &[i32; 64], from: usize, table: &[i32; 64], count: usize) -
 // Adds eight entries of the table, each times `by`.
 fn add_scaled(sums: &mut [i64; 8], by: i32, table: &[i32; 64], from: usize)
     requires within { from + 8 ≤ 64 }
-    requires small { (x : ℕ) → x < 8 → unsigned_abs (at sums.old x) ≤ 2 ^ 60 }
-    ensures { (x : ℕ) → x < 8 → at sums.new x ≡ at sums.old x +ℤ by *ℤ at table.now (from + x) }
+    requires small { (x : ℕ) → x < 8 → unsigned_abs (at_place sums.old x) ≤ 2 ^ 60 }
+    ensures { (x : ℕ) → x < 8 → at_place sums.new x ≡ at_place sums.old x +ℤ by *ℤ at_place table.now (from + x) }
 {
     for x in 0..8 {
         sums[x] = plus(sums[x], product(by, table[from + x]));
@@ -117,9 +117,9 @@ fn plus(a: i64, b: i64) -> i64
 // Writes one row.
 fn put_row(rows: &mut [i32; 64], v: usize, row: &[i64; 8])
     requires within { v < 8 }
-    requires small { (x : ℕ) → x < 8 → unsigned_abs (at row.now x) < 2 ^ 31 }
-    ensures inside { (x : ℕ) → x < 8 → at rows.new (8 * v + x) ≡ at row.now x }
-    ensures before { (k : ℕ) → k < 8 * v → at rows.new k ≡ at rows.old k }
+    requires small { (x : ℕ) → x < 8 → unsigned_abs (at_place row.now x) < 2 ^ 31 }
+    ensures inside { (x : ℕ) → x < 8 → at_place rows.new (8 * v + x) ≡ at_place row.now x }
+    ensures before { (k : ℕ) → k < 8 * v → at_place rows.new k ≡ at_place rows.old k }
 {
     for x in 0..8 {
         rows[8 * v + x] = row[x] as i32;
@@ -129,9 +129,9 @@ fn put_row(rows: &mut [i32; 64], v: usize, row: &[i64; 8])
 // Writes one line of the block, each sum rounded.
 fn put_line(residual: &mut [i16; 64], y: usize, sums: &[i64; 8])
     requires within { y < 8 }
-    requires small { (x : ℕ) → x < 8 → unsigned_abs (at sums.now x) ≤ 2 ^ 60 }
-    ensures inside { (x : ℕ) → x < 8 → at residual.new (8 * y + x) ≡ rounded (at sums.now x) }
-    ensures before { (k : ℕ) → k < 8 * y → at residual.new k ≡ at residual.old k }
+    requires small { (x : ℕ) → x < 8 → unsigned_abs (at_place sums.now x) ≤ 2 ^ 60 }
+    ensures inside { (x : ℕ) → x < 8 → at_place residual.new (8 * y + x) ≡ rounded (at_place sums.now x) }
+    ensures before { (k : ℕ) → k < 8 * y → at_place residual.new k ≡ at_place residual.old k }
 {
     for x in 0..8 {
         residual[8 * y + x] = round(sums[x]);

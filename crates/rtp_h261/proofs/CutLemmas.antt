@@ -1,13 +1,13 @@
 -- The parts of a list of packets with one packet more.
 use Rattle.std.proofs.Common.{◌≡◌, ◌⊎◌, ℕ, zero, suc, ◌<◌, ◌≤◌, Bool, true, false, if◌then◌else◌, List, [], ◌∷◌, ◌++◌, Option, None, Some, inl, inr, length, refl, sym, ap, ◌∙◌, arith, append-nil}
-use Rattle.rtp_h261.specs.Units.{Piece, Part, Skipped, Run, is_starter, goes_on, run_behind, part_at, more, cut, last_of}
-use Rattle.rtp_h261.specs.Steps.{last_part}
+use Rattle.rtp_h261.specs.Units.{Piece, Part, Skipped, Run, is_starter, goes_on, run_behind, part_at, more, cut_parts, last_piece}
+use Rattle.rtp_h261.specs.OneByOne.{last_part}
 
 -- ---- the last part alone changes
 
 abbrev pub grow : Part → Piece → List Part
 grow (Skipped q) p = Skipped q ∷ part_at p [] ∷ []
-grow (Run s ps) p = if goes_on s.stamp (last_of s ps) p then Run s (ps ++ p ∷ []) ∷ [] else Run s ps ∷ part_at p [] ∷ []
+grow (Run s ps) p = if goes_on s.stamp (last_piece s ps) p then Run s (ps ++ p ∷ []) ∷ [] else Run s ps ∷ part_at p [] ∷ []
 
 abbrev pub extend : List Part → Piece → List Part
 extend [] p = part_at p [] ∷ []
@@ -37,53 +37,53 @@ abbrev tail : Bool → Piece → List Piece
 tail b p = if b then p ∷ [] else []
 
 run_more : (stamp : ℕ) (last : Piece) (ps : List Piece) (p : Piece)
-    → Ran (run_behind stamp last ps) (run_behind stamp last (ps ++ p ∷ [])) ps (tail (goes_on stamp (last_of last ps) p) p)
+    → Ran (run_behind stamp last ps) (run_behind stamp last (ps ++ p ∷ [])) ps (tail (goes_on stamp (last_piece last ps) p) p)
 run_more stamp last [] p = inl (refl, refl)
 run_more stamp last (q ∷ ps) p = ran_step (goes_on stamp last q) q _ _ ps _ (run_more stamp q ps p)
 
 -- ---- cutting
 
-cut_some : (k : ℕ) (ps : List Piece) → k < length ps → 0 < length (cut k ps)
+cut_some : (k : ℕ) (ps : List Piece) → k < length ps → 0 < length (cut_parts k ps)
 cut_some k [] some = absurd (omega (arith, some))
 cut_some (suc k) (q ∷ ps) some = cut_some k ps (omega (arith, some))
 cut_some zero (q ∷ ps) some = omega arith
 
-cut_all : (ps : List Piece) → cut (length ps) ps ≡ []
+cut_all : (ps : List Piece) → cut_parts (length ps) ps ≡ []
 cut_all [] = refl
 cut_all (p ∷ ps) = cut_all ps
 
-pub cut_seam : (ps qs : List Piece) → cut (length ps) (ps ++ qs) ≡ cut 0 qs
+pub cut_seam : (ps qs : List Piece) → cut_parts (length ps) (ps ++ qs) ≡ cut_parts 0 qs
 cut_seam [] qs = refl
 cut_seam (p ∷ ps) qs = cut_seam ps qs
 
 -- a run that was all of the packets, and one packet more
 whole_more : (b : Bool) (q : Piece) (ps : List Piece) (p : Piece)
-    → Run q (ps ++ tail b p) ∷ cut (length (ps ++ tail b p)) (ps ++ p ∷ [])
+    → Run q (ps ++ tail b p) ∷ cut_parts (length (ps ++ tail b p)) (ps ++ p ∷ [])
     ≡ (if b then Run q (ps ++ p ∷ []) ∷ [] else Run q ps ∷ part_at p [] ∷ [])
 whole_more true q ps p = ap (λ (xs : List Part). Run q (ps ++ p ∷ []) ∷ xs) (cut_all (ps ++ p ∷ []))
 whole_more false q ps p =
-    ap (λ (xs : List Piece). Run q xs ∷ cut (length xs) (ps ++ p ∷ [])) (append-nil ps)
+    ap (λ (xs : List Piece). Run q xs ∷ cut_parts (length xs) (ps ++ p ∷ [])) (append-nil ps)
     ∙ ap (λ (xs : List Part). Run q ps ∷ xs) (cut_seam ps (p ∷ []))
 
 abbrev Extends : List Piece → Piece → ℕ → Type 0
-Extends ps p k = cut k (ps ++ p ∷ []) ≡ extend (cut k ps) p
+Extends ps p k = cut_parts k (ps ++ p ∷ []) ≡ extend (cut_parts k ps) p
 
 abbrev part_by : Bool → Piece → List Piece → Part
 part_by b q r = if b then Run q r else Skipped q
 
 head_more : (b : Bool) (q : Piece) (ps : List Piece) (p : Piece) (r s : List Piece) → ((k : ℕ) → k ≤ length ps → Extends ps p k)
-    → Ran r s ps (tail (goes_on q.stamp (last_of q ps) p) p)
-    → part_by b q s ∷ cut (more (part_by b q s)) (ps ++ p ∷ []) ≡ extend (part_by b q r ∷ cut (more (part_by b q r)) ps) p
-head_more false q ps p r s rec h = ap (λ (xs : List Part). Skipped q ∷ xs) (rec 0 (omega arith)) ∙ sym (extend_skipped q (cut 0 ps) p)
+    → Ran r s ps (tail (goes_on q.stamp (last_piece q ps) p) p)
+    → part_by b q s ∷ cut_parts (more (part_by b q s)) (ps ++ p ∷ []) ≡ extend (part_by b q r ∷ cut_parts (more (part_by b q r)) ps) p
+head_more false q ps p r s rec h = ap (λ (xs : List Part). Skipped q ∷ xs) (rec 0 (omega arith)) ∙ sym (extend_skipped q (cut_parts 0 ps) p)
 head_more true q ps p r s rec (inl h) =
-    ap (λ (xs : List Piece). Run q xs ∷ cut (length xs) (ps ++ p ∷ [])) h.1
-    ∙ whole_more (goes_on q.stamp (last_of q ps) p) q ps p
+    ap (λ (xs : List Piece). Run q xs ∷ cut_parts (length xs) (ps ++ p ∷ [])) h.1
+    ∙ whole_more (goes_on q.stamp (last_piece q ps) p) q ps p
     ∙ ap (λ (xs : List Part). extend (Run q ps ∷ xs) p) (sym (cut_all ps))
-    ∙ ap (λ (xs : List Piece). extend (Run q xs ∷ cut (length xs) ps) p) (sym h.0)
+    ∙ ap (λ (xs : List Piece). extend (Run q xs ∷ cut_parts (length xs) ps) p) (sym h.0)
 head_more true q ps p r s rec (inr h) =
-    ap (λ (xs : List Piece). Run q xs ∷ cut (length xs) (ps ++ p ∷ [])) h.1
+    ap (λ (xs : List Piece). Run q xs ∷ cut_parts (length xs) (ps ++ p ∷ [])) h.1
     ∙ ap (λ (xs : List Part). Run q r ∷ xs) (rec (length r) (omega (arith, h.0)))
-    ∙ sym (extend_more (Run q r) (cut (length r) ps) p (cut_some (length r) ps h.0))
+    ∙ sym (extend_more (Run q r) (cut_parts (length r) ps) p (cut_some (length r) ps h.0))
 
 pub cut_more : (k : ℕ) (ps : List Piece) (p : Piece) → k ≤ length ps → Extends ps p k
 cut_more zero [] p within = refl
@@ -96,7 +96,7 @@ cut_more zero (q ∷ ps) p within = head_more (is_starter q) q ps p _ _ (λ k h.
 abbrev pub part_after : Option Part → Piece → Part
 part_after None p = part_at p []
 part_after (Some (Skipped q)) p = part_at p []
-part_after (Some (Run s ps)) p = if goes_on s.stamp (last_of s ps) p then Run s (ps ++ p ∷ []) else part_at p []
+part_after (Some (Run s ps)) p = if goes_on s.stamp (last_piece s ps) p then Run s (ps ++ p ∷ []) else part_at p []
 
 grow_last : (b : Bool) (before : Option Part) (s : Piece) (ps : List Piece) (p : Piece)
     → last_part before (if b then Run s (ps ++ p ∷ []) ∷ [] else Run s ps ∷ part_at p [] ∷ []) ≡ Some (if b then Run s (ps ++ p ∷ []) else part_at p [])
@@ -105,7 +105,7 @@ grow_last false before s ps p = refl
 
 last_more : (before : Option Part) (x : Part) (xs : List Part) (p : Piece) → last_part before (extend (x ∷ xs) p) ≡ Some (part_after (last_part (Some x) xs) p)
 last_more before (Skipped q) [] p = refl
-last_more before (Run s ps) [] p = grow_last (goes_on s.stamp (last_of s ps) p) before s ps p
+last_more before (Run s ps) [] p = grow_last (goes_on s.stamp (last_piece s ps) p) before s ps p
 last_more before x (y ∷ ys) p = last_more (Some x) y ys p
 
 pub last_of_more : (xs : List Part) (p : Piece) → last_part None (extend xs p) ≡ Some (part_after (last_part None xs) p)

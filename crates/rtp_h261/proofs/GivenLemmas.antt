@@ -1,7 +1,7 @@
 -- What packets give with one packet more.
 use Rattle.std.proofs.Common.{◌≡◌, ℕ, zero, suc, ◌+◌, ◌≤◌, Bool, true, false, not, ◌&&◌, if◌then◌else◌, List, [], ◌∷◌, ◌++◌, Option, None, Some, length, slice_index_or, refl, sym, ap, ap₂, ◌∙◌, arith, length-append, append-nil, append_assoc}
-use Rattle.rtp_h261.specs.Units.{Piece, Part, Skipped, Run, Given, nothing, member, later, members, present, is_starter, goes_on, run_behind, part_at, more, cut, last_of, is_complete, bits_of, first_of, loses, unit_of, run_gives, part_gives, gives, spread, parts, all_given, fed}
-use Rattle.rtp_h261.specs.Steps.{last_part, last_member}
+use Rattle.rtp_h261.specs.Units.{Piece, Part, Skipped, Run, Given, gives_nothing, member, later, members, present_pieces, is_starter, goes_on, run_behind, part_at, more, cut_parts, last_piece, is_complete, bits_of, first_of, loses, unit_of, run_gives, part_gives, parts_give, spread, parts_of, all_given, fed}
+use Rattle.rtp_h261.specs.OneByOne.{last_part, last_member}
 use Rattle.rtp_h261.proofs.CutLemmas.{grow, extend, cut_more}
 
 abbrev pub fresh : Bool → Piece → Given
@@ -11,7 +11,7 @@ fresh lost p = record { lost = lost; unit = if is_starter p then unit_of p [] el
 abbrev pub answer : Option Part → Piece → Given
 answer None p = fresh false p
 answer (Some (Skipped q)) p = fresh false p
-answer (Some (Run s ps)) p = if goes_on s.stamp (last_of s ps) p then record { lost = false; unit = unit_of s (ps ++ p ∷ []) } else fresh (loses (Some (Run s ps)) p) p
+answer (Some (Run s ps)) p = if goes_on s.stamp (last_piece s ps) p then record { lost = false; unit = unit_of s (ps ++ p ∷ []) } else fresh (loses (Some (Run s ps)) p) p
 
 -- ---- the parts' answers
 
@@ -27,7 +27,7 @@ first_by true p = refl
 first_by false p = refl
 
 -- a new part gives what is fresh
-new_part : (before : Option Part) (p : Piece) → gives before (part_at p [] ∷ []) ≡ fresh (loses before p) p ∷ []
+new_part : (before : Option Part) (p : Piece) → parts_give before (part_at p [] ∷ []) ≡ fresh (loses before p) p ∷ []
 new_part before p =
     append-nil (part_gives (loses before (first_of (part_at p []))) (part_at p []))
     ∙ fresh_by (is_starter p) (loses before (first_of (part_at p []))) p
@@ -39,14 +39,14 @@ run_gives_more lost unit [] p = refl
 run_gives_more lost unit (q ∷ ps) p = ap (λ (gs : List Given). record { lost = lost; unit = None } ∷ gs) (run_gives_more false unit ps p)
 
 goes_gives : (before : Option Part) (s : Piece) (ps : List Piece) (p : Piece)
-    → gives before (Run s (ps ++ p ∷ []) ∷ []) ≡ (run_gives (loses before s) None ps ++ []) ++ record { lost = false; unit = unit_of s (ps ++ p ∷ []) } ∷ []
+    → parts_give before (Run s (ps ++ p ∷ []) ∷ []) ≡ (run_gives (loses before s) None ps ++ []) ++ record { lost = false; unit = unit_of s (ps ++ p ∷ []) } ∷ []
 goes_gives before s ps p =
     append-nil (run_gives (loses before s) (unit_of s (ps ++ p ∷ [])) (ps ++ p ∷ []))
     ∙ run_gives_more (loses before s) (unit_of s (ps ++ p ∷ [])) ps p
     ∙ ap (λ (gs : List Given). gs ++ record { lost = false; unit = unit_of s (ps ++ p ∷ []) } ∷ []) (sym (append-nil (run_gives (loses before s) None ps)))
 
 stays_gives : (before : Option Part) (s : Piece) (ps : List Piece) (p : Piece) (unit : Option (List Bool))
-    → run_gives (loses before s) unit ps ++ gives (Some (Run s ps)) (part_at p [] ∷ [])
+    → run_gives (loses before s) unit ps ++ parts_give (Some (Run s ps)) (part_at p [] ∷ [])
     ≡ (run_gives (loses before s) unit ps ++ []) ++ fresh (loses (Some (Run s ps)) p) p ∷ []
 stays_gives before s ps p unit =
     ap (λ (gs : List Given). run_gives (loses before s) unit ps ++ gs) (new_part (Some (Run s ps)) p)
@@ -54,7 +54,7 @@ stays_gives before s ps p unit =
 
 abbrev RunGives : (g : Bool) (before : Option Part) (s : Piece) (ps : List Piece) (p : Piece) → Type 0
 RunGives g before s ps p =
-    gives before (if g then Run s (ps ++ p ∷ []) ∷ [] else Run s ps ∷ part_at p [] ∷ [])
+    parts_give before (if g then Run s (ps ++ p ∷ []) ∷ [] else Run s ps ∷ part_at p [] ∷ [])
     ≡ (run_gives (loses before s) (unit_of s ps) ps ++ []) ++ (if g then record { lost = false; unit = unit_of s (ps ++ p ∷ []) } else fresh (loses (Some (Run s ps)) p) p) ∷ []
 
 run_by : (g : Bool) (before : Option Part) (s : Piece) (ps : List Piece) (p : Piece) → (g ≡ true → unit_of s ps ≡ None) → RunGives g before s ps p
@@ -68,26 +68,26 @@ unmarked_by : (m g : Bool) (bits : List Bool) → (not m && g) ≡ true → (if 
 unmarked_by true g bits h = absurd (grind (arith, h))
 unmarked_by false g bits h = refl
 
-grow_gives : (before : Option Part) (x : Part) (p : Piece) → gives before (grow x p) ≡ gives before (x ∷ []) ++ answer (Some x) p ∷ []
+grow_gives : (before : Option Part) (x : Part) (p : Piece) → parts_give before (grow x p) ≡ parts_give before (x ∷ []) ++ answer (Some x) p ∷ []
 grow_gives before (Skipped q) p = ap (λ (gs : List Given). record { lost = loses before q; unit = None } ∷ gs) (new_part (Some (Skipped q)) p)
 grow_gives before (Run s ps) p =
-    run_by (goes_on s.stamp (last_of s ps) p) before s ps p (unmarked_by (is_complete s ps) _ (bits_of s ps))
+    run_by (goes_on s.stamp (last_piece s ps) p) before s ps p (unmarked_by (is_complete s ps) _ (bits_of s ps))
 
 gives_more : (before : Option Part) (x : Part) (xs : List Part) (p : Piece)
-    → gives before (extend (x ∷ xs) p) ≡ gives before (x ∷ xs) ++ answer (last_part (Some x) xs) p ∷ []
+    → parts_give before (extend (x ∷ xs) p) ≡ parts_give before (x ∷ xs) ++ answer (last_part (Some x) xs) p ∷ []
 gives_more before x [] p = grow_gives before x p
 gives_more before x (y ∷ ys) p =
     let front = part_gives (loses before (first_of x)) x in
-    ap (λ (gs : List Given). front ++ gs) (gives_more (Some x) y ys p) ∙ sym (append_assoc front (gives (Some x) (y ∷ ys)) _)
+    ap (λ (gs : List Given). front ++ gs) (gives_more (Some x) y ys p) ∙ sym (append_assoc front (parts_give (Some x) (y ∷ ys)) _)
 
-gives_one_more : (xs : List Part) (p : Piece) → gives None (extend xs p) ≡ gives None xs ++ answer (last_part None xs) p ∷ []
+gives_one_more : (xs : List Part) (p : Piece) → parts_give None (extend xs p) ≡ parts_give None xs ++ answer (last_part None xs) p ∷ []
 gives_one_more [] p = new_part None p
 gives_one_more (x ∷ xs) p = gives_more None x xs p
 
 -- the answers of members with one more
 pub given_more : (ps : List Piece) (p : Piece)
-    → gives None (cut 0 (ps ++ p ∷ [])) ≡ gives None (cut 0 ps) ++ answer (last_part None (cut 0 ps)) p ∷ []
-given_more ps p = ap (gives None) (cut_more 0 ps p (omega arith)) ∙ gives_one_more (cut 0 ps) p
+    → parts_give None (cut_parts 0 (ps ++ p ∷ [])) ≡ parts_give None (cut_parts 0 ps) ++ answer (last_part None (cut_parts 0 ps)) p ∷ []
+given_more ps p = ap (parts_give None) (cut_more 0 ps p (omega arith)) ∙ gives_one_more (cut_parts 0 ps) p
 
 -- ---- each member has its answer
 
@@ -111,7 +111,7 @@ more_is_short : (b : Bool) (p : Piece) (r ps : List Piece) → length r ≤ leng
 more_is_short true p r ps h = h
 more_is_short false p r ps h = omega arith
 
-gives_length : (before : Option Part) (k : ℕ) (ps : List Piece) → k ≤ length ps → length (gives before (cut k ps)) + k ≡ length ps
+gives_length : (before : Option Part) (k : ℕ) (ps : List Piece) → k ≤ length ps → length (parts_give before (cut_parts k ps)) + k ≡ length ps
 gives_length before zero [] h = refl
 gives_length before (suc k) [] h = absurd (omega (arith, h))
 gives_length before (suc k) (p ∷ ps) h = omega (arith, gives_length before k ps (omega (arith, h)))
@@ -119,7 +119,7 @@ gives_length before zero (p ∷ ps) h =
     let x = part_at p ps in
     let front = part_gives (loses before (first_of x)) x in
     let short : more x ≤ length ps = more_is_short (is_starter p) p _ ps (run_is_short p.stamp p ps) in
-    omega (arith, gives_length (Some x) (more x) ps short, length-append front (gives (Some x) (cut (more x) ps)), part_gives_length (loses before (first_of x)) x)
+    omega (arith, gives_length (Some x) (more x) ps short, length-append front (parts_give (Some x) (cut_parts (more x) ps)), part_gives_length (loses before (first_of x)) x)
 
 -- ---- all packets, members or not
 
@@ -133,27 +133,27 @@ pub last_member_more : (last : Option Piece) (ps : List (Option Piece)) (p : Opt
 last_member_more last [] p = refl
 last_member_more last (q ∷ ps) p = last_member_more (later last (member last q)) ps p
 
-pub present_some : (ms : List (Option Piece)) (p : Piece) → present (ms ++ Some p ∷ []) ≡ present ms ++ p ∷ []
+pub present_some : (ms : List (Option Piece)) (p : Piece) → present_pieces (ms ++ Some p ∷ []) ≡ present_pieces ms ++ p ∷ []
 present_some [] p = refl
 present_some (None ∷ ms) p = present_some ms p
 present_some (Some q ∷ ms) p = ap (λ (ps : List Piece). q ∷ ps) (present_some ms p)
 
-pub present_none : (ms : List (Option Piece)) → present (ms ++ None ∷ []) ≡ present ms
+pub present_none : (ms : List (Option Piece)) → present_pieces (ms ++ None ∷ []) ≡ present_pieces ms
 present_none [] = refl
 present_none (None ∷ ms) = present_none ms
 present_none (Some q ∷ ms) = ap (λ (ps : List Piece). q ∷ ps) (present_none ms)
 
-spread_none : (ms : List (Option Piece)) (gs : List Given) → spread (ms ++ None ∷ []) gs ≡ spread ms gs ++ nothing ∷ []
+spread_none : (ms : List (Option Piece)) (gs : List Given) → spread (ms ++ None ∷ []) gs ≡ spread ms gs ++ gives_nothing ∷ []
 spread_none [] gs = refl
-spread_none (None ∷ ms) gs = ap (λ (xs : List Given). nothing ∷ xs) (spread_none ms gs)
-spread_none (Some q ∷ ms) [] = ap (λ (xs : List Given). nothing ∷ xs) (spread_none ms [])
+spread_none (None ∷ ms) gs = ap (λ (xs : List Given). gives_nothing ∷ xs) (spread_none ms gs)
+spread_none (Some q ∷ ms) [] = ap (λ (xs : List Given). gives_nothing ∷ xs) (spread_none ms [])
 spread_none (Some q ∷ ms) (g ∷ gs) = ap (λ (xs : List Given). g ∷ xs) (spread_none ms gs)
 
-spread_some : (ms : List (Option Piece)) (gs : List Given) (p : Piece) (g : Given) → length gs ≡ length (present ms)
+spread_some : (ms : List (Option Piece)) (gs : List Given) (p : Piece) (g : Given) → length gs ≡ length (present_pieces ms)
     → spread (ms ++ Some p ∷ []) (gs ++ g ∷ []) ≡ spread ms gs ++ g ∷ []
 spread_some [] [] p g h = refl
 spread_some [] (x ∷ gs) p g h = absurd (omega (arith, h))
-spread_some (None ∷ ms) gs p g h = ap (λ (xs : List Given). nothing ∷ xs) (spread_some ms gs p g h)
+spread_some (None ∷ ms) gs p g h = ap (λ (xs : List Given). gives_nothing ∷ xs) (spread_some ms gs p g h)
 spread_some (Some q ∷ ms) [] p g h = absurd (omega (arith, h))
 spread_some (Some q ∷ ms) (x ∷ gs) p g h = ap (λ (xs : List Given). x ∷ xs) (spread_some ms gs p g (omega (arith, h)))
 
@@ -169,40 +169,40 @@ members_length last (p ∷ ps) = ap suc (members_length (later last (member last
 
 -- what a packet gives that is a member or not
 abbrev pub answer_to : Option Part → Option Piece → Given
-answer_to z None = nothing
+answer_to z None = gives_nothing
 answer_to z (Some p) = answer z p
 
 spread_more : (ms : List (Option Piece)) (m : Option Piece)
-    → spread (ms ++ m ∷ []) (gives None (cut 0 (present (ms ++ m ∷ []))))
-    ≡ spread ms (gives None (cut 0 (present ms))) ++ answer_to (last_part None (cut 0 (present ms))) m ∷ []
+    → spread (ms ++ m ∷ []) (parts_give None (cut_parts 0 (present_pieces (ms ++ m ∷ []))))
+    ≡ spread ms (parts_give None (cut_parts 0 (present_pieces ms))) ++ answer_to (last_part None (cut_parts 0 (present_pieces ms))) m ∷ []
 spread_more ms None =
-    ap (λ (ps : List Piece). spread (ms ++ None ∷ []) (gives None (cut 0 ps))) (present_none ms)
-    ∙ spread_none ms (gives None (cut 0 (present ms)))
+    ap (λ (ps : List Piece). spread (ms ++ None ∷ []) (parts_give None (cut_parts 0 ps))) (present_none ms)
+    ∙ spread_none ms (parts_give None (cut_parts 0 (present_pieces ms)))
 spread_more ms (Some p) =
-    ap (λ (ps : List Piece). spread (ms ++ Some p ∷ []) (gives None (cut 0 ps))) (present_some ms p)
-    ∙ ap (spread (ms ++ Some p ∷ [])) (given_more (present ms) p)
-    ∙ spread_some ms (gives None (cut 0 (present ms))) p _ (omega (arith, gives_length None 0 (present ms) (omega arith)))
+    ap (λ (ps : List Piece). spread (ms ++ Some p ∷ []) (parts_give None (cut_parts 0 ps))) (present_some ms p)
+    ∙ ap (spread (ms ++ Some p ∷ [])) (given_more (present_pieces ms) p)
+    ∙ spread_some ms (parts_give None (cut_parts 0 (present_pieces ms))) p _ (omega (arith, gives_length None 0 (present_pieces ms) (omega arith)))
 
 pub all_given_more : (packets : List (Option Piece)) (p : Option Piece)
-    → all_given (packets ++ p ∷ []) ≡ all_given packets ++ answer_to (last_part None (parts packets)) (member (last_member None packets) p) ∷ []
+    → all_given (packets ++ p ∷ []) ≡ all_given packets ++ answer_to (last_part None (parts_of packets)) (member (last_member None packets) p) ∷ []
 unfolding all_given
 all_given_more packets p =
     let ms = members None packets in
     let m = member (last_member None packets) p in
-    ap (λ (xs : List (Option Piece)). spread xs (gives None (cut 0 (present xs)))) (members_more None packets p) ∙ spread_more ms m
+    ap (λ (xs : List (Option Piece)). spread xs (parts_give None (cut_parts 0 (present_pieces xs)))) (members_more None packets p) ∙ spread_more ms m
 
 pub all_given_length : (packets : List (Option Piece)) → length (all_given packets) ≡ length packets
 unfolding all_given
-all_given_length packets = spread_length (members None packets) (gives None (parts packets)) ∙ members_length None packets
+all_given_length packets = spread_length (members None packets) (parts_give None (parts_of packets)) ∙ members_length None packets
 
-at_end : (gs : List Given) (g : Given) → slice_index_or (gs ++ g ∷ []) (length gs) nothing ≡ g
+at_end : (gs : List Given) (g : Given) → slice_index_or (gs ++ g ∷ []) (length gs) gives_nothing ≡ g
 at_end [] g = refl
 at_end (x ∷ gs) g = at_end gs g
 
 -- what the last packet gives
 pub fed_last : (packets : List (Option Piece)) (p : Option Piece)
-    → fed (packets ++ p ∷ []) (length packets) ≡ answer_to (last_part None (parts packets)) (member (last_member None packets) p)
+    → fed (packets ++ p ∷ []) (length packets) ≡ answer_to (last_part None (parts_of packets)) (member (last_member None packets) p)
 fed_last packets p =
-    let g = answer_to (last_part None (parts packets)) (member (last_member None packets) p) in
-    ap₂ (λ (gs : List Given) (i : ℕ). slice_index_or gs i nothing) (all_given_more packets p) (sym (all_given_length packets))
+    let g = answer_to (last_part None (parts_of packets)) (member (last_member None packets) p) in
+    ap₂ (λ (gs : List Given) (i : ℕ). slice_index_or gs i gives_nothing) (all_given_more packets p) (sym (all_given_length packets))
     ∙ at_end (all_given packets) g

@@ -5,7 +5,7 @@ use Rattle.byteorder.specs.Endian.{big_bytes}
 use Rattle.pel_bits.specs.Bits.{bits, field, number}
 use Rattle.pel_bits.proofs.Fields.{length-field, number-fits, field-add, field-mod, field-join}
 use Rattle.rtp_h261.specs.declared.payload.PayloadHeader.{PayloadHeader}
-use Rattle.rtp_h261.specs.Payload.{AreWidths, FitsFiveBits, header_bits, in_five_bits, LawOfHeaders}
+use Rattle.rtp_h261.specs.Payload.{AreWidths, FitsFiveBits, payload_header_bits, five_bits_of, LawOfHeaders}
 
 -- ---- one header has these bits
 
@@ -27,11 +27,11 @@ head_of (b ∷ bs) = b
 flag_split : (a b : Bool) (ys vs : List Bool) → a ∷ ys ≡ b ∷ vs → (a ≡ b) × (ys ≡ vs)
 flag_split a b ys vs same = (ap head_of same, ap (drop 1) same)
 
-five_small : (x : ℤ) → FitsFiveBits x → in_five_bits x < 32
+five_small : (x : ℤ) → FitsFiveBits x → five_bits_of x < 32
 five_small (pos n) h = omega (arith, h)
 five_small (negsuc n) h = omega (arith, h)
 
-five_one : (x y : ℤ) → FitsFiveBits x → FitsFiveBits y → in_five_bits x ≡ in_five_bits y → x ≡ y
+five_one : (x y : ℤ) → FitsFiveBits x → FitsFiveBits y → five_bits_of x ≡ five_bits_of y → x ≡ y
 five_one (pos m) (pos n) a b same = ap pos (omega (arith, a, b, same))
 five_one (pos m) (negsuc n) a b same = absurd (omega (arith, a, b, same))
 five_one (negsuc m) (pos n) a b same = absurd (omega (arith, a, b, same))
@@ -52,9 +52,9 @@ header_law h k a b same =
     let gobn = field_split h.gobn k.gobn 4 _ _ a.gobn b.gobn v.1 in
     let mbap = field_split h.mbap k.mbap 5 _ _ a.mbap b.mbap gobn.1 in
     let quant = field_split h.quant k.quant 5 _ _ a.quant b.quant mbap.1 in
-    let across = field_split (in_five_bits h.hmvd) (in_five_bits k.hmvd) 5 _ _ (five_small h.hmvd a.hmvd) (five_small k.hmvd b.hmvd) quant.1 in
-    let down : in_five_bits h.vmvd ≡ in_five_bits k.vmvd =
-    sym (number-fits (in_five_bits h.vmvd) 5 (five_small h.vmvd a.vmvd)) ∙ ap number across.1 ∙ number-fits (in_five_bits k.vmvd) 5 (five_small k.vmvd b.vmvd) in
+    let across = field_split (five_bits_of h.hmvd) (five_bits_of k.hmvd) 5 _ _ (five_small h.hmvd a.hmvd) (five_small k.hmvd b.hmvd) quant.1 in
+    let down : five_bits_of h.vmvd ≡ five_bits_of k.vmvd =
+    sym (number-fits (five_bits_of h.vmvd) 5 (five_small h.vmvd a.vmvd)) ∙ ap number across.1 ∙ number-fits (five_bits_of k.vmvd) 5 (five_small k.vmvd b.vmvd) in
     same_header h k sbit.0 ebit.0 i.0 v.0 gobn.0 mbap.0 quant.0 (five_one h.hmvd k.hmvd a.hmvd b.hmvd across.0) (five_one h.vmvd k.vmvd a.vmvd b.vmvd down)
 
 -- ---- the octets of a number
@@ -93,8 +93,8 @@ flag_small true = omega arith
 flag_small false = omega arith
 
 pub header_word : (h : PayloadHeader) → AreWidths h
-    → IsWord (((((((((h.sbit * 8 + h.ebit) * 2 + (if h.i then 1 else 0)) * 2 + (if h.v then 1 else 0)) * 16 + h.gobn) * 32 + h.mbap) * 32 + h.quant) * 32 + in_five_bits h.hmvd) * 32
-    + in_five_bits h.vmvd)) 32 (header_bits h)
+    → IsWord (((((((((h.sbit * 8 + h.ebit) * 2 + (if h.i then 1 else 0)) * 2 + (if h.v then 1 else 0)) * 16 + h.gobn) * 32 + h.mbap) * 32 + h.quant) * 32 + five_bits_of h.hmvd) * 32
+    + five_bits_of h.vmvd)) 32 (payload_header_bits h)
 header_word h w =
     let a = next h.sbit 3 (field h.sbit 3) h.ebit 3 w.ebit refl in
     let b = next _ 6 _ (if h.i then 1 else 0) 1 (flag_small h.i) a in
@@ -102,8 +102,8 @@ header_word h w =
     let d = next _ 8 _ h.gobn 4 w.gobn c in
     let e = next _ 12 _ h.mbap 5 w.mbap d in
     let f = next _ 17 _ h.quant 5 w.quant e in
-    let g = next _ 22 _ (in_five_bits h.hmvd) 5 (five_small h.hmvd w.hmvd) f in
-    let l = next _ 27 _ (in_five_bits h.vmvd) 5 (five_small h.vmvd w.vmvd) g in
+    let g = next _ 22 _ (five_bits_of h.hmvd) 5 (five_small h.hmvd w.hmvd) f in
+    let l = next _ 27 _ (five_bits_of h.vmvd) 5 (five_small h.vmvd w.vmvd) g in
     let i = flag_field h.i in
     let v = flag_field h.v in
     l ∙ rw (i, v) (simp append_assoc refl)

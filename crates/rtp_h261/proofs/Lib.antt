@@ -1,6 +1,10 @@
 pub mod CutLemmas
+pub mod EventLemmas
 pub mod GivenLemmas
 mod HeaderLemmas
+pub mod PacketsRead
 mod PayloadLemmas
+mod Putting
 pub mod StepLemmas
+pub mod StreamEnds
 mod TurnLemmas

@@ -5,7 +5,7 @@ use Rattle.std.proofs.lemmas.Bool.Decides.{nat_tests}
 use Rattle.std.proofs.Math.Seq.{take-add}
 use Rattle.rtp_h261.specs.declared.payload.PayloadHeader.{PayloadHeader}
 use Rattle.rtp_h261.specs.Packets.{sbit, ebit, carried, is_usable}
-use Rattle.rtp_h261.specs.Payload.{AreWidths, header_bits, in_five_bits}
+use Rattle.rtp_h261.specs.Payload.{AreWidths, payload_header_bits, five_bits_of}
 use Rattle.pel_bits.specs.Bits.{bits, field, number}
 use Rattle.pel_bits.proofs.Fields.{field-number, number_below, number-fits, length-field}
 
@@ -41,20 +41,20 @@ behind from a b bs xs ys x y =
 pub header_is : (h : PayloadHeader) (bs : List Bool)
     → field h.sbit 3 ≡ take 3 (drop 0 bs) → field h.ebit 3 ≡ take 3 (drop 3 bs) → h.i ∷ [] ≡ take 1 (drop 6 bs) → h.v ∷ [] ≡ take 1 (drop 7 bs)
     → field h.gobn 4 ≡ take 4 (drop 8 bs) → field h.mbap 5 ≡ take 5 (drop 12 bs) → field h.quant 5 ≡ take 5 (drop 17 bs)
-    → field (in_five_bits h.hmvd) 5 ≡ take 5 (drop 22 bs) → field (in_five_bits h.vmvd) 5 ≡ take 5 (drop 27 bs)
-    → header_bits h ≡ take 32 bs
+    → field (five_bits_of h.hmvd) 5 ≡ take 5 (drop 22 bs) → field (five_bits_of h.vmvd) 5 ≡ take 5 (drop 27 bs)
+    → payload_header_bits h ≡ take 32 bs
 header_is h bs a b i v g m q x y =
     behind 0 3 29 bs _ _ a (behind 3 3 26 bs _ _ b (behind 6 1 25 bs (h.i ∷ []) _ i (behind 7 1 24 bs (h.v ∷ []) _ v
     (behind 8 4 20 bs _ _ g (behind 12 5 15 bs _ _ m (behind 17 5 10 bs _ _ q (behind 22 5 5 bs _ _ x y)))))))
 
 -- ---- the bits behind a header
 
-pub sbit_is : (h : PayloadHeader) (octets : List ℕ) → AreWidths h → header_bits h ≡ take 32 (bits octets) → sbit octets ≡ h.sbit
+pub sbit_is : (h : PayloadHeader) (octets : List ℕ) → AreWidths h → payload_header_bits h ≡ take 32 (bits octets) → sbit octets ≡ h.sbit
 sbit_is h octets w is =
     ap number (sym (take-take 3 32 (bits octets) (omega arith)) ∙ ap (take 3) (sym is) ∙ take_at (field h.sbit 3) _ 3 (length-field h.sbit 3))
     ∙ number-fits h.sbit 3 w.sbit
 
-pub ebit_is : (h : PayloadHeader) (octets : List ℕ) → AreWidths h → header_bits h ≡ take 32 (bits octets) → ebit octets ≡ h.ebit
+pub ebit_is : (h : PayloadHeader) (octets : List ℕ) → AreWidths h → payload_header_bits h ≡ take 32 (bits octets) → ebit octets ≡ h.ebit
 ebit_is h octets w is =
     let cut : take 3 (drop 3 (bits octets)) ≡ take 3 (drop 3 (take 32 (bits octets))) =
     sym (ap (take 3) (drop-take 3 29 (bits octets)) ∙ take-take 3 29 (drop 3 (bits octets)) (omega arith)) in
@@ -77,7 +77,7 @@ and_false : (b : Bool) → (b && false) ≡ false
 and_false true = refl
 and_false false = refl
 
-pub not_usable : (h : PayloadHeader) (octets : List ℕ) → AreWidths h → header_bits h ≡ take 32 (bits octets)
+pub not_usable : (h : PayloadHeader) (octets : List ℕ) → AreWidths h → payload_header_bits h ≡ take 32 (bits octets)
     → min (length octets - 4) 65536 * 8 < h.sbit + h.ebit → is_usable octets ≡ false
 not_usable h octets w is few =
     let s = sbit_is h octets w is in
@@ -85,7 +85,7 @@ not_usable h octets w is few =
     let test : nat_le (sbit octets + ebit octets) (8 * (length octets - 4)) ≡ false = grind (arith, nat_tests, s, e, few, w.sbit, w.ebit) in
     ap (λ (b : Bool). nat_le 4 (length octets) && b) test ∙ and_false (nat_le 4 (length octets))
 
-pub usable : (h : PayloadHeader) (octets : List ℕ) → 4 ≤ length octets → AreWidths h → header_bits h ≡ take 32 (bits octets)
+pub usable : (h : PayloadHeader) (octets : List ℕ) → 4 ≤ length octets → AreWidths h → payload_header_bits h ≡ take 32 (bits octets)
     → h.sbit + h.ebit ≤ min (length octets - 4) 65536 * 8 → is_usable octets ≡ true
 usable h octets there w is enough =
     let s = sbit_is h octets w is in
@@ -94,7 +94,7 @@ usable h octets there w is enough =
     let test : nat_le (sbit octets + ebit octets) (8 * (length octets - 4)) ≡ true = grind (arith, nat_tests, s, e, enough) in
     ap₂ (λ (a b : Bool). a && b) first test
 
-pub carried_is : (h : PayloadHeader) (octets : List ℕ) (room : ℕ) → room ≤ 500000 → AreWidths h → header_bits h ≡ take 32 (bits octets)
+pub carried_is : (h : PayloadHeader) (octets : List ℕ) (room : ℕ) → room ≤ 500000 → AreWidths h → payload_header_bits h ≡ take 32 (bits octets)
     → take (min (min (length octets - 4) 65536 * 8 - (h.sbit + h.ebit)) room) (drop h.sbit (bits (drop 4 octets))) ≡ take room (carried octets)
 carried_is h octets room small w is =
     let s = sbit_is h octets w is in

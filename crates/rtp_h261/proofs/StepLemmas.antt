@@ -1,13 +1,13 @@
 -- One step from what is held of some packets gives what the next packet gives in the whole list.
 use Rattle.std.proofs.Common.{◌≡◌, ◌⊎◌, ℕ, zero, suc, ◌==◌, Bool, true, false, not, ◌&&◌, if◌then◌else◌, List, [], ◌∷◌, ◌++◌, Option, None, Some, option_map, inl, inr, take, refl, sym, ap, ap₂, ◌∙◌, arith, append_assoc}
-use Rattle.rtp_h261.specs.Units.{Piece, Part, Skipped, Run, Given, nothing, next_number, is_late, is_joined, member, later, members, present, is_starter, goes_on, part_at, cut, last_of, is_complete, bits_of, unit_of, parts, all_given}
-use Rattle.rtp_h261.specs.Steps.{Mode, Seek, Idle, Collect, State, mode_behind, last_part, last_member, state_of, closed, starting, collected, turned, follows, moved, step, kept_given, LawOfSteps, LawOfFronts}
+use Rattle.rtp_h261.specs.Units.{Piece, Part, Skipped, Run, Given, gives_nothing, number_after, is_late, is_joined, member, later, members, present_pieces, is_starter, goes_on, part_at, cut_parts, last_piece, is_complete, bits_of, unit_of, parts_of, all_given}
+use Rattle.rtp_h261.specs.OneByOne.{Mode, Seek, Idle, Collect, State, mode_behind, last_part, last_member, state_of, closed, starting, collected, turned, follows, moved, step, kept_given, LawOfSteps, LawOfFronts}
 use Rattle.rtp_h261.proofs.CutLemmas.{part_after, cut_more, last_of_more}
 use Rattle.rtp_h261.proofs.GivenLemmas.{fresh, answer, answer_to, members_more, last_member_more, present_some, present_none, all_given_more, fed_last}
 
 -- ---- lists
 
-pub last_of_append : (s : Piece) (ps : List Piece) (p : Piece) → last_of s (ps ++ p ∷ []) ≡ p
+pub last_of_append : (s : Piece) (ps : List Piece) (p : Piece) → last_piece s (ps ++ p ∷ []) ≡ p
 last_of_append s [] p = refl
 last_of_append s (q ∷ ps) p = last_of_append q ps p
 
@@ -78,10 +78,10 @@ turned_by room false joined stamp bits p = refl
 abbrev EndsAt : Option Part → Option Piece → Type 0
 EndsAt None last = last ≡ None
 EndsAt (Some (Skipped p)) last = last ≡ Some p
-EndsAt (Some (Run s ps)) last = last ≡ Some (last_of s ps)
+EndsAt (Some (Run s ps)) last = last ≡ Some (last_piece s ps)
 
 abbrev joined_to : Option Piece → Piece → Bool
-joined_to last p = follows (option_map next_number last) p
+joined_to last p = follows (option_map number_after last) p
 
 turned_is : (room : ℕ) (z : Option Part) (last : Option Piece) (p : Piece) → EndsAt z last
     → Turns room (turned room (joined_to last p) (mode_behind room z) p) (Some (part_after z p)) (answer z p)
@@ -89,8 +89,8 @@ turned_is room None last p h = starting_is room false p
 turned_is room (Some (Skipped q)) last p h = starting_is room false p
 turned_is room (Some (Run s ps)) last p h =
     ap (λ (l : Option Piece). turned room (joined_to l p) (mode_behind room (Some (Run s ps))) p) h
-    ∙ turned_by room (is_complete s ps) (is_joined (last_of s ps) p) s.stamp (take room (bits_of s ps)) p
-    ∙ run_turns room (is_complete s ps) (is_joined (last_of s ps) p) (p.stamp == s.stamp) s ps p
+    ∙ turned_by room (is_complete s ps) (is_joined (last_piece s ps) p) s.stamp (take room (bits_of s ps)) p
+    ∙ run_turns room (is_complete s ps) (is_joined (last_piece s ps) p) (p.stamp == s.stamp) s ps p
 
 -- ---- the last part ends at the last member
 
@@ -108,7 +108,7 @@ run_ends false s ps p = new_ends p
 after_ends : (z : Option Part) (p : Piece) → EndsAt (Some (part_after z p)) (Some p)
 after_ends None p = new_ends p
 after_ends (Some (Skipped q)) p = new_ends p
-after_ends (Some (Run s ps)) p = run_ends (goes_on s.stamp (last_of s ps) p) s ps p
+after_ends (Some (Run s ps)) p = run_ends (goes_on s.stamp (last_piece s ps) p) s ps p
 
 abbrev last_from : Option Piece → List Piece → Option Piece
 last_from last [] = last
@@ -129,29 +129,29 @@ snoc : (ps : List Piece) → Snoc ps
 snoc [] = inl refl
 snoc (x ∷ ps) = snoc_more x ps (snoc ps)
 
-ends_by : (ps : List Piece) → Snoc ps → EndsAt (last_part None (cut 0 ps)) (last_from None ps)
+ends_by : (ps : List Piece) → Snoc ps → EndsAt (last_part None (cut_parts 0 ps)) (last_from None ps)
 ends_by ps (inl h) = rw h refl
 ends_by ps (inr h) =
-    let e : last_part None (cut 0 (h.0 ++ h.1 ∷ [])) ≡ Some (part_after (last_part None (cut 0 h.0)) h.1) = ap (last_part None) (cut_more 0 h.0 h.1 (omega arith)) ∙ last_of_more (cut 0 h.0) h.1 in
-    rw (h.2, last_from_append None h.0 h.1, e) (after_ends (last_part None (cut 0 h.0)) h.1)
+    let e : last_part None (cut_parts 0 (h.0 ++ h.1 ∷ [])) ≡ Some (part_after (last_part None (cut_parts 0 h.0)) h.1) = ap (last_part None) (cut_more 0 h.0 h.1 (omega arith)) ∙ last_of_more (cut_parts 0 h.0) h.1 in
+    rw (h.2, last_from_append None h.0 h.1, e) (after_ends (last_part None (cut_parts 0 h.0)) h.1)
 
-later_by : (last m : Option Piece) (ms : List (Option Piece)) → last_from (later last m) (present ms) ≡ last_from last (present (m ∷ ms))
+later_by : (last m : Option Piece) (ms : List (Option Piece)) → last_from (later last m) (present_pieces ms) ≡ last_from last (present_pieces (m ∷ ms))
 later_by last None ms = refl
 later_by last (Some p) ms = refl
 
-last_is : (last : Option Piece) (ps : List (Option Piece)) → last_member last ps ≡ last_from last (present (members last ps))
+last_is : (last : Option Piece) (ps : List (Option Piece)) → last_member last ps ≡ last_from last (present_pieces (members last ps))
 last_is last [] = refl
 last_is last (p ∷ ps) =
     let m = member last p in
     last_is (later last m) ps ∙ later_by last m (members (later last m) ps)
 
-ends : (packets : List (Option Piece)) → EndsAt (last_part None (parts packets)) (last_member None packets)
-ends packets = rw (last_is None packets) (ends_by (present (members None packets)) (snoc (present (members None packets))))
+ends : (packets : List (Option Piece)) → EndsAt (last_part None (parts_of packets)) (last_member None packets)
+ends packets = rw (last_is None packets) (ends_by (present_pieces (members None packets)) (snoc (present_pieces (members None packets))))
 
 -- ---- a step
 
 abbrev held : ℕ → Option Piece → Option Part → State
-held room last z = record { next = option_map next_number last; mode = mode_behind room z }
+held room last z = record { next = option_map number_after last; mode = mode_behind room z }
 
 -- the last part behind one more packet, a member or not
 abbrev part_then : Option Part → Option Piece → Option Part
@@ -160,7 +160,7 @@ part_then z (Some p) = Some (part_after z p)
 
 step_by : (late : Bool) (room : ℕ) (last : Option Piece) (z : Option Part) (p : Piece) → EndsAt z last
     → let m = if late then None else Some p in
-    (if late then (held room last z, nothing) else moved p (turned room (joined_to last p) (mode_behind room z) p))
+    (if late then (held room last z, gives_nothing) else moved p (turned room (joined_to last p) (mode_behind room z) p))
     ≡ (held room (later last m) (part_then z m), kept_given room (answer_to z m))
 step_by true room last z p h = refl
 step_by false room last z p h = ap (moved p) (turned_is room z last p h)
@@ -173,23 +173,23 @@ step_held room None z (Some p) h = step_by false room None z p h
 step_held room (Some q) z (Some p) h = step_by (is_late q p) room (Some q) z p h
 
 part_more : (ms : List (Option Piece)) (m : Option Piece)
-    → last_part None (cut 0 (present (ms ++ m ∷ []))) ≡ part_then (last_part None (cut 0 (present ms))) m
-part_more ms None = ap (λ (ps : List Piece). last_part None (cut 0 ps)) (present_none ms)
+    → last_part None (cut_parts 0 (present_pieces (ms ++ m ∷ []))) ≡ part_then (last_part None (cut_parts 0 (present_pieces ms))) m
+part_more ms None = ap (λ (ps : List Piece). last_part None (cut_parts 0 ps)) (present_none ms)
 part_more ms (Some p) =
-    ap (λ (ps : List Piece). last_part None (cut 0 ps)) (present_some ms p)
-    ∙ ap (last_part None) (cut_more 0 (present ms) p (omega arith))
-    ∙ last_of_more (cut 0 (present ms)) p
+    ap (λ (ps : List Piece). last_part None (cut_parts 0 ps)) (present_some ms p)
+    ∙ ap (last_part None) (cut_more 0 (present_pieces ms) p (omega arith))
+    ∙ last_of_more (cut_parts 0 (present_pieces ms)) p
 
 pub step_law : LawOfSteps
 unfolding state_of
 step_law room packets p =
     let last = last_member None packets in
-    let z = last_part None (parts packets) in
+    let z = last_part None (parts_of packets) in
     let m = member last p in
-    let z_is : last_part None (parts (packets ++ p ∷ [])) ≡ part_then z m = ap (λ (xs : List (Option Piece)). last_part None (cut 0 (present xs))) (members_more None packets p) ∙ part_more (members None packets) m in
+    let z_is : last_part None (parts_of (packets ++ p ∷ [])) ≡ part_then z m = ap (λ (xs : List (Option Piece)). last_part None (cut_parts 0 (present_pieces xs))) (members_more None packets p) ∙ part_more (members None packets) m in
     step_held room last z p (ends packets)
     ∙ ap₂ (λ (l : Option Piece) (y : Option Part). (held room l y, kept_given room (answer_to z m))) (sym (last_member_more None packets p)) (sym z_is)
-    ∙ ap (λ (g : Given). (held room (last_member None (packets ++ p ∷ [])) (last_part None (parts (packets ++ p ∷ []))), kept_given room g)) (sym (fed_last packets p))
+    ∙ ap (λ (g : Given). (held room (last_member None (packets ++ p ∷ [])) (last_part None (parts_of (packets ++ p ∷ []))), kept_given room g)) (sym (fed_last packets p))
 
 pub front_law : LawOfFronts
 front_law packets p = all_given_more packets p ∙ ap (λ (g : Given). all_given packets ++ g ∷ []) (sym (fed_last packets p))

@@ -12,11 +12,11 @@ use Rattle.rtp_h261.specs.declared.depack.Unit.{Unit as Ended}
 use Rattle.rtp_h261.specs.declared.depack.Unit.TheVariants.{Picture, Gap}
 use Rattle.rtp_h261.specs.declared.depack.Carried.{Carried}
 use Rattle.rtp_h261.specs.declared.depack.Fed.{Fed}
-use Rattle.rtp_h261.specs.Depack.{IsUnit, HasUnit, Answers, Held, StandsFor, given_behind}
+use Rattle.rtp_h261.specs.Depack.{IsUnit, HasUnit, AnswersGiven, Held, WasFed, given_behind}
 use Rattle.rtp_h261.specs.Packets.{piece_of}
-use Rattle.rtp_h261.specs.Steps.{Mode, Seek, Idle, Collect, State, state_of, closed, starting, collected, turned, is_refused, follows, moved, step, kept_given}
-use Rattle.rtp_h261.specs.Turns.{Carries, Turned, Stepped}
-use Rattle.rtp_h261.specs.Units.{Piece, Given, nothing, is_starter, fed}
+use Rattle.rtp_h261.specs.OneByOne.{Mode, Seek, Idle, Collect, State, state_of, closed, starting, collected, turned, comes_late, follows, moved, step, kept_given}
+use Rattle.rtp_h261.specs.Turns.{Carries, Turned, StepTaken}
+use Rattle.rtp_h261.specs.Units.{Piece, Given, gives_nothing, is_starter, fed}
 use Rattle.rtp_h261.proofs.StepLemmas.{step_law}
 
 -- what is kept of a unit's bits says what the unit is
@@ -137,41 +137,41 @@ kept_has format None (Some u) old new h = h
 kept_has format (Some bits) None old new h = h
 kept_has format (Some bits) (Some u) old new h = kept_unit format bits u new h
 
-kept_answers : (format : Format) (g : Given) (answer : Fed) (old new : Coding) → Answers format (kept_given (kept_length format) g) answer old new
-    → Answers format g answer old new
+kept_answers : (format : Format) (g : Given) (answer : Fed) (old new : Coding) → AnswersGiven format (kept_given (kept_length format) g) answer old new
+    → AnswersGiven format g answer old new
 kept_answers format g answer old new h = record { lost = h.lost; unit = kept_has format g.unit answer.unit old new h.unit }
 
-pub refused_step : (format : Format) (state : State) (p : Piece) (answer : Fed) (old : Coding) → is_refused state.next p ≡ true
-    → answer ≡ record { lost = false; unit = None } → Stepped format (step (kept_length format) state (Some p)) state answer old old
+pub refused_step : (format : Format) (state : State) (p : Piece) (answer : Fed) (old : Coding) → comes_late state.next p ≡ true
+    → answer ≡ record { lost = false; unit = None } → StepTaken format (step (kept_length format) state (Some p)) state answer old old
 unfolding step
 refused_step format state p answer old late is =
     let room = kept_length format in
-    let e : (state, nothing) ≡ step room state (Some p) =
-    ap (λ (b : Bool). if b then (state, nothing) else moved p (turned room (follows state.next p) state.mode p)) (sym late) in
-    subst (λ t. Stepped format t state answer old old) e (record { state = refl; given = record { lost = ap (λ (f : Fed). f.lost) is; unit = rw is refl } })
+    let e : (state, gives_nothing) ≡ step room state (Some p) =
+    ap (λ (b : Bool). if b then (state, gives_nothing) else moved p (turned room (follows state.next p) state.mode p)) (sym late) in
+    subst (λ t. StepTaken format t state answer old old) e (record { state = refl; given = record { lost = ap (λ (f : Fed). f.lost) is; unit = rw is refl } })
 
 pub moved_step : (format : Format) (state : State) (p : Piece) (number : ℕ) (joined : Bool) (now : Mode) (answer : Fed) (old new : Coding)
-    → number ≡ p.number → is_refused state.next p ≡ false → joined ≡ follows state.next p
+    → number ≡ p.number → comes_late state.next p ≡ false → joined ≡ follows state.next p
     → Turned format (turned (kept_length format) joined state.mode p) now answer old new
-    → Stepped format (step (kept_length format) state (Some p)) (record { next = Some ((number + 1) % 65536); mode = now }) answer old new
+    → StepTaken format (step (kept_length format) state (Some p)) (record { next = Some ((number + 1) % 65536); mode = now }) answer old new
 unfolding step
 moved_step format state p number joined now answer old new same early is turn =
     let room = kept_length format in
     let t = turned room joined state.mode p in
     let e : moved p t ≡ step room state (Some p) =
     ap (λ (b : Bool). moved p (turned room b state.mode p)) is
-    ∙ ap (λ (b : Bool). if b then (state, nothing) else moved p (turned room (follows state.next p) state.mode p)) (sym early) in
-    subst (λ (s : State × Given). Stepped format s (record { next = Some ((number + 1) % 65536); mode = now }) answer old new) e
+    ∙ ap (λ (b : Bool). if b then (state, gives_nothing) else moved p (turned room (follows state.next p) state.mode p)) (sym early) in
+    subst (λ (s : State × Given). StepTaken format s (record { next = Some ((number + 1) % 65536); mode = now }) answer old new) e
     (record { state = ap₂ (λ (n : ℕ) (m : Mode). record { next = Some ((n + 1) % 65536); mode = m }) same turn.mode; given = turn.given })
 
 pub unused_step : (format : Format) (state : State) (answer : Fed) (old : Coding)
-    → answer ≡ record { lost = false; unit = None } → Stepped format (step (kept_length format) state None) state answer old old
+    → answer ≡ record { lost = false; unit = None } → StepTaken format (step (kept_length format) state None) state answer old old
 unfolding step
 unused_step format state answer old is = record { state = refl; given = record { lost = ap (λ (f : Fed). f.lost) is; unit = rw is refl } }
 
 -- ---- all packets
 
-one_more : (format : Format) (packets : List (List ℕ)) (packet : List ℕ) (d : Held) → StandsFor packets d → d.format ≡ format
+one_more : (format : Format) (packets : List (List ℕ)) (packet : List ℕ) (d : Held) → WasFed packets d → d.format ≡ format
     → step (kept_length format) d.state (piece_of packet)
     ≡ (state_of (kept_length format) (map piece_of (packets ++ packet ∷ [])), kept_given (kept_length format) (given_behind packets packet))
 one_more format packets packet d stands is =
@@ -182,10 +182,10 @@ one_more format packets packet d stands is =
     ∙ step_law room (map piece_of packets) (piece_of packet)
     ∙ ap₂ (λ (ps : List (Option Piece)) (i : ℕ). (state_of room ps, kept_given room (fed ps i))) (sym all) (sym count)
 
-pub feeds : (packets : List (List ℕ)) (packet : List ℕ) (d : Held) (o : Option Piece) (now : State) (answer : Fed) (old new : Coding) → StandsFor packets d → piece_of packet ≡ o
-    → Stepped d.format (step (kept_length d.format) d.state o) now answer old new
-    → (now ≡ state_of (kept_length d.format) (map piece_of (packets ++ packet ∷ []))) × Answers d.format (given_behind packets packet) answer old new
+pub feeds : (packets : List (List ℕ)) (packet : List ℕ) (d : Held) (o : Option Piece) (now : State) (answer : Fed) (old new : Coding) → WasFed packets d → piece_of packet ≡ o
+    → StepTaken d.format (step (kept_length d.format) d.state o) now answer old new
+    → (now ≡ state_of (kept_length d.format) (map piece_of (packets ++ packet ∷ []))) × AnswersGiven d.format (given_behind packets packet) answer old new
 feeds packets packet d o now answer old new stands is h =
     let e = ap (λ (x : Option Piece). step (kept_length d.format) d.state x) (sym is) ∙ one_more d.format packets packet d stands refl in
-    let t = subst (λ (s : State × Given). Stepped d.format s now answer old new) e h in
+    let t = subst (λ (s : State × Given). StepTaken d.format s now answer old new) e h in
     (t.state, kept_answers d.format (given_behind packets packet) answer old new t.given)

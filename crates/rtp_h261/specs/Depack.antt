@@ -11,7 +11,7 @@ use Rattle.rtp_h261.specs.declared.depack.Fed.{Fed}
 use Rattle.rtp_h261.specs.declared.depack.Unit.{Unit as Ended}
 use Rattle.rtp_h261.specs.declared.depack.Unit.TheVariants.{Picture, Gap}
 use Rattle.rtp_h261.specs.Packets.{piece_of}
-use Rattle.rtp_h261.specs.Steps.{State, state_of}
+use Rattle.rtp_h261.specs.OneByOne.{State, state_of}
 use Rattle.rtp_h261.specs.Units.{Given, fed}
 
 -- what contracts see of a depacketiser
@@ -20,8 +20,8 @@ pub record Held : Type 0 where
   pub state : State
 
 -- it was fed these packets, each a list of octets, and no others
-abbrev pub StandsFor : List (List ℕ) → Held → Type 0
-StandsFor packets d = d.state ≡ state_of (kept_length d.format) (map piece_of packets)
+abbrev pub WasFed : List (List ℕ) → Held → Type 0
+WasFed packets d = d.state ≡ state_of (kept_length d.format) (map piece_of packets)
 
 -- what a packet gives behind these
 abbrev pub given_behind : List (List ℕ) → List ℕ → Given
@@ -40,7 +40,7 @@ HasUnit format (Some bits) (Some unit) old new = IsUnit format bits unit new
 HasUnit format _ _ old new = ⊥
 
 -- an answer is what was given
-pub record Answers (format : Format) (given : Given) (answer : Fed) (old new : Coding) : Type 0 where
+pub record AnswersGiven (format : Format) (given : Given) (answer : Fed) (old new : Coding) : Type 0 where
   pub lost : answer.lost ≡ given.lost
   pub unit : HasUnit format given.unit answer.unit old new
 
@@ -48,3 +48,13 @@ pub record Answers (format : Format) (given : Given) (answer : Fed) (old new : C
 abbrev pub FinishedAt : Option Ended → Coding → Type 0
 FinishedAt (Some Picture) coded = IsFinished coded
 FinishedAt _ coded = Unit {0}
+
+-- What feeding a packet does: behind packets that it was fed, it was fed this one too, and the answer is what this one
+-- gives there. The format of the picture stays that of the depacketiser.
+pub record Feeds (packet : List ℕ) (answer : Fed) (old new : Held) (before now : Coding) : Type 0 where
+  pub format : new.format ≡ old.format
+  pub into : now.format ≡ before.format
+  pub stands : (packets : List (List ℕ)) → WasFed packets old → WasFed (packets ++ packet ∷ []) new
+  pub given : (packets : List (List ℕ)) → WasFed packets old
+      → AnswersGiven old.format (given_behind packets packet) answer before now
+  pub finished : FinishedAt answer.unit now

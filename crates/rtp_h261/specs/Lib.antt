@@ -1,7 +1,13 @@
 pub mod Depack
+pub mod Events
+pub mod OneByOne
 pub mod Packets
 pub mod Payload
-pub mod Rows
-pub mod Steps
+pub mod ReadSoFar
+pub mod Tellers
+pub mod ToldSoFar
 pub mod Turns
+pub mod UnitEnds
+pub mod UnitReader
 pub mod Units
+pub mod WorkedPackets

@@ -1,5 +1,6 @@
 -- What the octets of a packet bring (RFC 3550, 5.1, and RFC 4587, 4.1).
-use Rattle.std.specs.Prelude.{ℕ, ◌+◌, ◌-◌, ◌*◌, nat_le, Bool, ◌&&◌, if◌then◌else◌, List, length, take, drop, Option, None, Some, Result, Ok, Err}
+use Rattle.std.specs.Prelude.{ℕ, ◌+◌, ◌-◌, ◌*◌, nat_le, Bool, ◌&&◌, if◌then◌else◌}
+use Rattle.std.specs.Prelude.{List, length, take, drop, Option, None, Some, Result, Ok, Err}
 use Rattle.pel_bits.specs.Bits.{bits, number}
 use Rattle.rtp_wire.specs.declared.header.PacketFault.{PacketFault}
 use Rattle.rtp_wire.specs.Rtp.{Fields, packet_of}

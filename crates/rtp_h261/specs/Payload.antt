@@ -1,12 +1,13 @@
 -- The payload header of H.261 over RTP (RFC 4587, 4.1): four octets in front of the bits.
-use Rattle.std.specs.Prelude.{◌≡◌, ◌≢◌, ℕ, ◌-◌, ◌%◌, ◌^◌, ◌<◌, Bool, ℤ, pos, negsuc, List, ◌∷◌, ◌++◌}
+use Rattle.std.specs.Prelude.{◌≡◌, ◌≢◌, ℕ, ◌-◌, ◌%◌, ◌^◌, ◌<◌, Bool, ℤ, pos, negsuc}
+use Rattle.std.specs.Prelude.{List, ◌∷◌, ◌++◌}
 use Rattle.pel_bits.specs.Bits.{field}
 use Rattle.rtp_h261.specs.declared.payload.PayloadHeader.{PayloadHeader}
 
 -- a component of a vector in 5 bits of two's complement, which hold it from -16 to 15
-abbrev pub in_five_bits : ℤ → ℕ
-in_five_bits (pos n) = n % 32
-in_five_bits (negsuc n) = 31 - n % 32
+abbrev pub five_bits_of : ℤ → ℕ
+five_bits_of (pos n) = n % 32
+five_bits_of (negsuc n) = 31 - n % 32
 
 abbrev pub FitsFiveBits : ℤ → Type 0
 FitsFiveBits (pos n) = n < 16
@@ -29,11 +30,11 @@ pub record CanBeSent (h : PayloadHeader) : Type 0 where
   pub down : h.vmvd ≢ negsuc 15
 
 -- SBIT 3 bits, EBIT 3, I 1, V 1, GOBN 4, MBAP 5, QUANT 5, HMVD 5, VMVD 5
-abbrev pub header_bits : PayloadHeader → List Bool
-header_bits h =
+abbrev pub payload_header_bits : PayloadHeader → List Bool
+payload_header_bits h =
     field h.sbit 3 ++ (field h.ebit 3 ++ (h.i ∷ h.v ∷ (field h.gobn 4 ++ (field h.mbap 5 ++ (field h.quant 5
-    ++ (field (in_five_bits h.hmvd) 5 ++ field (in_five_bits h.vmvd) 5))))))
+    ++ (field (five_bits_of h.hmvd) 5 ++ field (five_bits_of h.vmvd) 5))))))
 
 -- one header has these bits
 abbrev pub LawOfHeaders : Type 0
-LawOfHeaders = (h k : PayloadHeader) → AreWidths h → AreWidths k → header_bits h ≡ header_bits k → h ≡ k
+LawOfHeaders = (h k : PayloadHeader) → AreWidths h → AreWidths k → payload_header_bits h ≡ payload_header_bits k → h ≡ k

@@ -2,7 +2,8 @@
 -- packets come by unreliable transport: some are lost, repeated or late (RFC 3550, 5.1, of sequence numbers). A picture is
 -- sent in packets of one timestamp with numbers that follow one another, the marker bit set on its last (RFC 4587, 4.1).
 -- Everything is said of the whole list of packets.
-use Rattle.std.specs.Prelude.{ℕ, zero, suc, ◌+◌, ◌-◌, ◌%◌, ◌^◌, ◌==◌, nat_le, Bool, false, not, ◌&&◌, if◌then◌else◌, List, [], ◌∷◌, ◌++◌, length, take, slice_index_or, Option, None, Some}
+use Rattle.std.specs.Prelude.{ℕ, zero, suc, ◌+◌, ◌-◌, ◌%◌, ◌^◌, ◌==◌, nat_le, Bool, false, not, ◌&&◌}
+use Rattle.std.specs.Prelude.{if◌then◌else◌, List, [], ◌∷◌, ◌++◌, length, take, slice_index_or, Option, None, Some}
 use Rattle.pel_bits.specs.Bits.{number}
 
 -- what a usable packet brings
@@ -15,8 +16,8 @@ pub record Piece : Type 0 where
 -- ---- which packets count
 
 -- the sequence number behind a packet's
-abbrev pub next_number : Piece → ℕ
-next_number p = (p.number + 1) % 2 ^ 16
+abbrev pub number_after : Piece → ℕ
+number_after p = (p.number + 1) % 2 ^ 16
 
 -- how far a packet is past an expected number, round the circle of sequence numbers
 abbrev pub distance : ℕ → Piece → ℕ
@@ -24,11 +25,11 @@ distance expected p = (p.number + 2 ^ 16 - expected) % 2 ^ 16
 
 -- late or repeated: half the circle or more past the number behind that of `last`
 abbrev pub is_late : Piece → Piece → Bool
-is_late last p = nat_le (2 ^ 15) (distance (next_number last) p)
+is_late last p = nat_le (2 ^ 15) (distance (number_after last) p)
 
 -- the very next one
 abbrev pub is_joined : Piece → Piece → Bool
-is_joined last p = distance (next_number last) p == 0
+is_joined last p = distance (number_after last) p == 0
 
 -- a packet, where it is usable and not late
 abbrev pub member : Option Piece → Option Piece → Option Piece
@@ -46,10 +47,10 @@ abbrev pub members : Option Piece → List (Option Piece) → List (Option Piece
 members last [] = []
 members last (p ∷ ps) = member last p ∷ members (later last (member last p)) ps
 
-abbrev pub present : List (Option Piece) → List Piece
-present [] = []
-present (None ∷ ps) = present ps
-present (Some p ∷ ps) = p ∷ present ps
+abbrev pub present_pieces : List (Option Piece) → List Piece
+present_pieces [] = []
+present_pieces (None ∷ ps) = present_pieces ps
+present_pieces (Some p ∷ ps) = p ∷ present_pieces ps
 
 -- ---- runs
 
@@ -81,18 +82,18 @@ more (Skipped p) = 0
 more (Run p ps) = length ps
 
 -- The packets cut into parts from their front, where so many of them belong to a part that was cut already.
-abbrev pub cut : ℕ → List Piece → List Part
-cut inside [] = []
-cut (suc inside) (p ∷ ps) = cut inside ps
-cut zero (p ∷ ps) = part_at p ps ∷ cut (more (part_at p ps)) ps
+abbrev pub cut_parts : ℕ → List Piece → List Part
+cut_parts inside [] = []
+cut_parts (suc inside) (p ∷ ps) = cut_parts inside ps
+cut_parts zero (p ∷ ps) = part_at p ps ∷ cut_parts (more (part_at p ps)) ps
 
-abbrev pub last_of : Piece → List Piece → Piece
-last_of p [] = p
-last_of p (q ∷ qs) = last_of q qs
+abbrev pub last_piece : Piece → List Piece → Piece
+last_piece p [] = p
+last_piece p (q ∷ qs) = last_piece q qs
 
 -- a run is complete where its last packet has the marker
 abbrev pub is_complete : Piece → List Piece → Bool
-is_complete p ps = (last_of p ps).marker
+is_complete p ps = (last_piece p ps).marker
 
 abbrev pub bits_of : Piece → List Piece → List Bool
 bits_of p [] = p.bits
@@ -109,15 +110,15 @@ pub record Given : Type 0 where
   pub lost : Bool
   pub unit : Option (List Bool)
 
-abbrev pub nothing : Given
-nothing = record { lost = false; unit = None }
+abbrev pub gives_nothing : Given
+gives_nothing = record { lost = false; unit = None }
 
 -- A loss is seen at the first packet behind a run, but not where the run is complete and the very next packet begins
 -- another.
 abbrev pub loses : Option Part → Piece → Bool
 loses None p = false
 loses (Some (Skipped q)) p = false
-loses (Some (Run s ps)) p = not (is_complete s ps && (is_joined (last_of s ps) p && is_starter p))
+loses (Some (Run s ps)) p = not (is_complete s ps && (is_joined (last_piece s ps) p && is_starter p))
 
 -- the unit that a run is
 abbrev pub unit_of : Piece → List Piece → Option (List Bool)
@@ -133,25 +134,25 @@ part_gives lost (Skipped p) = record { lost = lost; unit = None } ∷ []
 part_gives lost (Run s ps) = run_gives lost (unit_of s ps) ps
 
 -- what the packets of parts give, where this part is the one before them
-abbrev pub gives : Option Part → List Part → List Given
-gives before [] = []
-gives before (x ∷ xs) = part_gives (loses before (first_of x)) x ++ gives (Some x) xs
+abbrev pub parts_give : Option Part → List Part → List Given
+parts_give before [] = []
+parts_give before (x ∷ xs) = part_gives (loses before (first_of x)) x ++ parts_give (Some x) xs
 
 -- what is given in the places of members, and nothing in the others
 abbrev pub spread : List (Option Piece) → List Given → List Given
 spread [] gs = []
-spread (None ∷ ms) gs = nothing ∷ spread ms gs
-spread (Some _ ∷ ms) [] = nothing ∷ spread ms []
+spread (None ∷ ms) gs = gives_nothing ∷ spread ms gs
+spread (Some _ ∷ ms) [] = gives_nothing ∷ spread ms []
 spread (Some _ ∷ ms) (g ∷ gs) = g ∷ spread ms gs
 
 -- the packets that count, cut into parts
-abbrev pub parts : List (Option Piece) → List Part
-parts packets = cut 0 (present (members None packets))
+abbrev pub parts_of : List (Option Piece) → List Part
+parts_of packets = cut_parts 0 (present_pieces (members None packets))
 
 -- what each packet gives
 unfoldable pub all_given : List (Option Piece) → List Given
-all_given packets = spread (members None packets) (gives None (parts packets))
+all_given packets = spread (members None packets) (parts_give None (parts_of packets))
 
 -- what packet i gives, from 0 on
 abbrev pub fed : List (Option Piece) → ℕ → Given
-fed packets i = slice_index_or (all_given packets) i nothing
+fed packets i = slice_index_or (all_given packets) i gives_nothing

@@ -3,10 +3,10 @@ ghost use Rattle.std.specs.Prelude.{◌≡◌, ℕ, List, [], ◌∷◌, ◌++�
 ghost use Rattle.pel_bits.specs.Bits.{bits, number};
 ghost use Rattle.picture_laws.specs.Laws.{kept_length};
 ghost use Rattle.rtp_wire.specs.Rtp.{seen};
-ghost use Rattle.rtp_h261.specs.Depack.{StandsFor, Answers, FinishedAt, IsUnit, given_behind};
+ghost use Rattle.rtp_h261.specs.Depack.{WasFed, Feeds, FinishedAt, IsUnit};
 ghost use Rattle.rtp_h261.specs.Packets.{carried, is_usable, piece_of, piece_of_read};
-ghost use Rattle.rtp_h261.specs.Steps.{starting, collected, turned, step, is_refused, follows};
-ghost use Rattle.rtp_h261.specs.Turns.{Carries, CarriesIf, HasRoom, Stepped, Turned, mode_of};
+ghost use Rattle.rtp_h261.specs.OneByOne.{starting, collected, turned, step, comes_late, follows};
+ghost use Rattle.rtp_h261.specs.Turns.{CanTake, CarriesIf, HasBitRoom, Stays, StaysRoomy, TakesStep, TakesTurn, mode_of};
 ghost use Rattle.rtp_h261.specs.Units.{Piece};
 
 use crate::payload::read_payload;
@@ -121,16 +121,11 @@ struct Collector {
 impl Collector {
     // A packet behind another, or the first of all: `joined` says whether it is the very next one.
     fn turn(&mut self, joined: bool, packet: &Carried<'_>, into: &mut Coded) -> Fed
-        requires format { into.old.format ≡ self.old.format }
-        requires room { HasRoom self.old }
-        requires short { length packet.now.bits ≤ kept_length self.old.format }
-        ensures room { HasRoom self.new }
-        ensures format { self.new.format ≡ self.old.format }
-        ensures into { into.new.format ≡ into.old.format }
-        ensures turned { (p : Piece) → Carries (kept_length self.old.format) packet.now p →
-            Turned self.old.format (turned (kept_length self.old.format) joined (mode_of self.old) p)
-            (mode_of self.new) result into.old into.new }
-        ensures finished { FinishedAt result.unit into.new }
+        requires room { HasBitRoom self.old }
+        requires can { CanTake self.old.format packet.now into.old }
+        ensures stays { StaysRoomy self.old self.new into.old into.new result }
+        ensures turned { TakesTurn self.old.format packet.now
+            (turned (kept_length self.old.format) joined (mode_of self.old)) (mode_of self.new) result into.old into.new }
     {
         match self.phase {
             Phase::Seek => self.start(false, packet, into),
@@ -150,16 +145,11 @@ impl Collector {
 
     // A packet outside a run: it begins one or is skipped.
     fn start(&mut self, lost: bool, packet: &Carried<'_>, into: &mut Coded) -> Fed
-        requires format { into.old.format ≡ self.old.format }
-        requires room { HasRoom self.old }
-        requires short { length packet.now.bits ≤ kept_length self.old.format }
-        ensures room { HasRoom self.new }
-        ensures format { self.new.format ≡ self.old.format }
-        ensures into { into.new.format ≡ into.old.format }
-        ensures turned { (p : Piece) → Carries (kept_length self.old.format) packet.now p →
-            Turned self.old.format (starting (kept_length self.old.format) lost p)
+        requires room { HasBitRoom self.old }
+        requires can { CanTake self.old.format packet.now into.old }
+        ensures stays { StaysRoomy self.old self.new into.old into.new result }
+        ensures turned { TakesTurn self.old.format packet.now (starting (kept_length self.old.format) lost)
             (mode_of self.new) result into.old into.new }
-        ensures finished { FinishedAt result.unit into.new }
     {
         if !starts_picture(&packet.bits) {
             self.phase = Phase::Seek;
@@ -181,16 +171,12 @@ impl Collector {
 
     // A packet that goes on with the run.
     fn go_on(&mut self, stamp: u32, packet: &Carried<'_>, into: &mut Coded) -> Fed
+        requires room { HasBitRoom self.old }
         requires format { into.old.format ≡ self.old.format }
-        requires room { HasRoom self.old }
-        ensures room { HasRoom self.new }
-        ensures format { self.new.format ≡ self.old.format }
-        ensures into { into.new.format ≡ into.old.format }
-        ensures turned { (p : Piece) → Carries (kept_length self.old.format) packet.now p →
-            Turned self.old.format
-            (collected (kept_length self.old.format) true stamp self.old.kept.list p)
-            (mode_of self.new) result into.old into.new }
-        ensures finished { FinishedAt result.unit into.new }
+        ensures stays { StaysRoomy self.old self.new into.old into.new result }
+        ensures turned { TakesTurn self.old.format packet.now
+            (collected (kept_length self.old.format) true stamp self.old.kept.list) (mode_of self.new) result
+            into.old into.new }
     {
         let room = longest_kept(self.format) - self.kept.len();
         let count = packet.bits.len().min(room);
@@ -218,13 +204,13 @@ pub struct Depack {
 
 impl Model for Depack {
     ghost use Rattle.rtp_h261.specs.Depack.{Held};
-    ghost use Rattle.rtp_h261.specs.Turns.{mode_of, HasRoom};
+    ghost use Rattle.rtp_h261.specs.Turns.{mode_of, HasBitRoom};
 
     ghost Value = { Held };
 
     ghost view = { λ d. record { format = d.collector.format; state = record { next = d.next; mode = mode_of d.collector } } };
 
-    ghost invariant = { λ d. HasRoom d.collector };
+    ghost invariant = { λ d. HasBitRoom d.collector };
 }
 
 impl Depack {
@@ -232,7 +218,7 @@ impl Depack {
     /// NoMemory where there is none.
     pub fn reserve(alloc: Global, format: Format) -> Result<Depack, NoMemory>
         ensures format { IfOk result (λ d. d.format ≡ format) }
-        ensures stands { IfOk result (λ d. StandsFor [] d) }
+        ensures stands { IfOk result (λ d. WasFed [] d) }
     {
         Ok(Depack {
             next: None,
@@ -252,13 +238,7 @@ impl Depack {
     /// told.
     pub fn feed(&mut self, packet: &[u8], into: &mut Coded) -> Fed
         requires { into.old.format ≡ self.old.format }
-        ensures format { self.new.format ≡ self.old.format }
-        ensures into { into.new.format ≡ into.old.format }
-        ensures stands { (packets : List (List ℕ)) → StandsFor packets self.old →
-            StandsFor (packets ++ packet.now ∷ []) self.new }
-        ensures given { (packets : List (List ℕ)) → StandsFor packets self.old →
-            Answers self.old.format (given_behind packets packet.now) result into.old into.new }
-        ensures finished { FinishedAt result.unit into.new }
+        ensures { Feeds packet.now result self.old self.new into.old into.new }
     {
         match usable(packet, longest_kept(self.collector.format)) {
             Some(packet) => self.step(&packet, into),
@@ -268,14 +248,10 @@ impl Depack {
 
     // One step, with what a usable packet brings.
     fn step(&mut self, packet: &Carried<'_>, into: &mut Coded) -> Fed
-        requires format { into.old.format ≡ self.old.format }
-        requires short { length packet.now.bits ≤ kept_length self.old.format }
-        ensures format { self.new.format ≡ self.old.format }
-        ensures into { into.new.format ≡ into.old.format }
-        ensures stepped { (p : Piece) → Carries (kept_length self.old.format) packet.now p →
-            Stepped self.old.format (step (kept_length self.old.format) self.old.state (Some p))
-            self.new.state result into.old into.new }
-        ensures finished { FinishedAt result.unit into.new }
+        requires { CanTake self.old.format packet.now into.old }
+        ensures stays { Stays self.old.format self.new.format into.old into.new result }
+        ensures stepped { TakesStep self.old.format packet.now
+            (λ p. step (kept_length self.old.format) self.old.state (Some p)) self.new.state result into.old into.new }
     {
         let Some(joined) = standing(self.next, packet.seq) else {
             return Fed::nothing();
@@ -287,8 +263,8 @@ impl Depack {
 
 // Whether a packet with this number is the very next one; None where it is late or was there before.
 fn standing(expected: Option<u16>, number: u16) -> Option<bool>
-    ensures { (p : Piece) → number ≡ p.number → MatchOption result (is_refused expected p ≡ true)
-        (λ joined. (is_refused expected p ≡ false) × (joined ≡ follows expected p)) }
+    ensures { (p : Piece) → number ≡ p.number → MatchOption result (comes_late expected p ≡ true)
+        (λ joined. (comes_late expected p ≡ false) × (joined ≡ follows expected p)) }
 {
     let Some(expected) = expected else {
         return Some(true);

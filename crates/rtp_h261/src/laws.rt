@@ -1,13 +1,23 @@
-//! Laws of packets and units, each the contract of a function with nothing in its body.
+//! Laws of packets, units and events, each the contract of a function that does nothing.
+ghost use Rattle.rtp_h261.specs.Events.{LawOfOneTelling};
 ghost use Rattle.rtp_h261.specs.Payload.{LawOfHeaders};
-ghost use Rattle.rtp_h261.specs.Rows.{LostMiddlePacket, RepeatedPackets, NumbersPastTheLast, LatePackets, StampsInARun, MarkerWithoutAStart, PlacesOfALoss};
-ghost use Rattle.rtp_h261.specs.Steps.{LawOfSteps, LawOfFronts};
+ghost use Rattle.rtp_h261.specs.WorkedPackets.{WorkedPackets};
+ghost use Rattle.rtp_h261.specs.OneByOne.{LawOfSteps, LawOfFronts};
+
+use picture_laws::one_record_or_one_fault;
 
 /// What a packet gives depends on the packets before it by what one holds of them, and no later packet changes it.
 pub fn packets_one_by_one()
     ensures steps { LawOfSteps }
     ensures fronts { LawOfFronts }
 {}
+
+/// What happens at packets is one list of events.
+pub fn one_telling()
+    ensures { LawOfOneTelling }
+{
+    one_record_or_one_fault();
+}
 
 /// Four octets are those of one payload header.
 pub fn one_header()
@@ -16,11 +26,5 @@ pub fn one_header()
 
 /// What some lists of packets give, computed from the definition.
 pub fn worked_packets()
-    ensures lost { LostMiddlePacket }
-    ensures repeated { RepeatedPackets }
-    ensures turn { NumbersPastTheLast }
-    ensures late { LatePackets }
-    ensures stamps { StampsInARun }
-    ensures marker { MarkerWithoutAStart }
-    ensures places { PlacesOfALoss }
+    ensures { WorkedPackets }
 {}

@@ -2,7 +2,7 @@
 ghost use Rattle.std.specs.Prelude.{◌≡◌, ◌+◌, ◌^◌, ◌<◌, ◌≤◌, [], ◌∷◌, length, take, drop, MatchOption, Some};
 ghost use Rattle.pel_bits.specs.Bits.{bits, field};
 ghost use Rattle.rtp_h261.specs.declared.payload.PayloadHeader.{PayloadHeader as PayloadHeaderOf};
-ghost use Rattle.rtp_h261.specs.Payload.{AreWidths, CanBeSent, FitsFiveBits, header_bits, in_five_bits};
+ghost use Rattle.rtp_h261.specs.Payload.{AreWidths, CanBeSent, FitsFiveBits, payload_header_bits, five_bits_of};
 
 use byteorder::{BigEndian, ByteOrder};
 use pel_bits::Bits;
@@ -33,9 +33,9 @@ pub struct PayloadHeader {
 /// Reads the payload header, the first four octets of a packet's payload. None where there are fewer.
 pub fn read_payload(b: &[u8]) -> Option<PayloadHeader>
     ensures exact { MatchOption result (length b.now < 4) (λ h.
-        (4 ≤ length b.now) × AreWidths h × (header_bits h ≡ take 32 (bits b.now))) }
+        (4 ≤ length b.now) × AreWidths h × (payload_header_bits h ≡ take 32 (bits b.now))) }
     ensures only { (h : PayloadHeaderOf) → AreWidths h → 4 ≤ length b.now →
-        header_bits h ≡ take 32 (bits b.now) → result ≡ Some h }
+        payload_header_bits h ≡ take 32 (bits b.now) → result ≡ Some h }
 {
     if b.len() < 4 {
         return None;
@@ -57,7 +57,7 @@ pub fn read_payload(b: &[u8]) -> Option<PayloadHeader>
 /// Writes the payload header. Each field has to fit its width, and no vector is -16 (RFC 4587, 4.1).
 pub fn write_payload(h: PayloadHeader, out: &mut [u8; 4])
     requires { CanBeSent h }
-    ensures { bits out.new ≡ header_bits h }
+    ensures { bits out.new ≡ payload_header_bits h }
 {
     write_word(word_of(&h), out);
 }
@@ -65,7 +65,7 @@ pub fn write_payload(h: PayloadHeader, out: &mut [u8; 4])
 // The header as a number of 32 bits.
 fn word_of(h: &PayloadHeader) -> u32
     requires { CanBeSent h.now }
-    ensures { field result 32 ≡ header_bits h.now }
+    ensures { field result 32 ≡ payload_header_bits h.now }
 {
     let places = u32::from(h.sbit) * 8 + u32::from(h.ebit);
     let flags = places * 4 + u32::from(h.i) * 2 + u32::from(h.v);
@@ -88,7 +88,7 @@ fn write_word(word: u32, out: &mut [u8])
 fn to_five_bits(number: i8) -> u8
     requires { FitsFiveBits number }
     ensures small { result < 32 }
-    ensures value { result ≡ in_five_bits number }
+    ensures value { result ≡ five_bits_of number }
 {
     if number < 0 {
         (number + 32) as u8
@@ -119,7 +119,7 @@ fn flag_at(bits: &Bits<'_>, at: u32) -> bool
 fn from_five_bits(number: u8) -> i8
     requires { number < 32 }
     ensures fits { FitsFiveBits result }
-    ensures value { in_five_bits result ≡ number }
+    ensures value { five_bits_of result ≡ number }
 {
     if number < 16 {
         number as i8

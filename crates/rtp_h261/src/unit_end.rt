@@ -17,14 +17,20 @@ pub enum UnitStop {
     NoMemory,
 }
 
-/// What was read before the stop.
+/// What was read and written before the stop.
 #[derive(Clone, Copy, Debug, PartialEq, Eq)]
-pub struct UnitEnd {
-    pub stop: UnitStop,
+pub struct UnitTally {
     /// The units that were pictures.
     pub pictures: u64,
     /// The losses, and the units that were no pictures.
     pub gaps: u64,
     /// The octets that were written.
     pub octets: u64,
+}
+
+/// Why the reading stopped, and what was read and written until then.
+#[derive(Clone, Copy, Debug, PartialEq, Eq)]
+pub struct UnitEnd {
+    pub stop: UnitStop,
+    pub tally: UnitTally,
 }

@@ -1,4 +1,4 @@
-use Rattle.std.proofs.Common.{◌≡◌, ℕ, ◌+◌, ◌-◌, ◌++◌, Bool, List, None, drop, append_assoc, ◌∙◌, ap, subst, arith}
+use Rattle.std.proofs.Common.{rules, ◌≡◌, ℕ, ◌+◌, ◌-◌, ◌++◌, Bool, List, None, drop, append_assoc, ◌∙◌, ap, subst, arith}
 use Rattle.std.specs.Prelude.{slice_index_or}
 use Rattle.std.specs.List.{flat_map}
 use Rattle.std.proofs.lemmas.Result.{err_from_is_err_and}
@@ -21,7 +21,7 @@ returns-in_err-header-clause-drawn c =
 
 pub loop-block-init : goal.loop-block-init
 loop-block-init c = record {
-  long = c.requires.next;
+  long = c.requires.planes.next;
   so_far = λ before last m rest is stands bits.
       let parts = has_parts c.args.format c.args.group last m before rest c.args.r.now is bits in
       let word = first_word c.args.format last m before c.args.r.now parts.mid is.rises is.most parts.header in
@@ -33,8 +33,8 @@ loop-block-init c = record {
       );
 }
 
-pub draw_block-requires-clause-address : goal.draw_block-requires-clause-address
-draw_block-requires-clause-address c = c.in_ok-header.ensures.ready.address
+pub draw_block-requires-clause-place : goal.draw_block-requires-clause-place
+draw_block-requires-clause-place c = record { group = c.requires.group; address = c.in_ok-header.ensures.ready.address; block = search rules }
 
 pub returns-in_err-draw_block-clause-drawn : goal.returns-in_err-draw_block-clause-drawn
 returns-in_err-draw_block-clause-drawn c =

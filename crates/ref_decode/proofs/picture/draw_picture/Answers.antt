@@ -9,7 +9,7 @@ use Rattle.ref_decode.proofs.picture.draw_picture.Goals as goal
 
 pub loop-i-init : goal.loop-i-init
 loop-i-init c = record {
-  long = c.requires.next;
+  long = c.requires.planes.next;
   so_far = λ p valid is.
       nothing_so_far c.args.format p c.take.new.self c.args.shown.now c.args.next.now
       (ap (λ (r : List Bool × ℕ). r.0) (c.take.ensures.after ∙ ap (λ (r : List Bool × ℕ). if nat_lt (length r.0) 32 then r else skipped 32 r) (c.new-r.ensures ∙ ap (λ (b : List Bool). (b, 0)) c.bits.ensures.bits)) ∙ behind_picture_header c.args.format p c.args.picture.now is);

@@ -1,12 +1,12 @@
 use Rattle.std.proofs.Common.{◌+◌, ◌*◌, ◌≤◌, arith, ◌∙◌, ap}
 use Rattle.std.specs.Prelude.{unsigned_abs}
-use Rattle.ref_decode.specs.Passes.{at, by_rows, by_columns, combination, rounded}
+use Rattle.ref_decode.specs.Passes.{at_place, by_rows, by_columns, combination, rounded}
 use Rattle.ref_decode.proofs.Rows.{product_small, rows_small, columns_small, row_small, line_small, residual_is, rows_of}
 use Rattle.ref_decode.proofs.transform.in_two_passes.Goals as goal
 
 pub combined-row-requires-clause-small : goal.combined-row-requires-clause-small
 combined-row-requires-clause-small c = λ k x hk hx.
-    rw c.requires.rows (omega (arith, product_small (at c.args.coefs.now (8 * c.loop-v.v + k)) (at by_rows (8 * k + x)) 2048 4017 (c.requires.coefs (8 * c.loop-v.v + k) (omega arith)) (rows_small (8 * k + x))))
+    rw c.requires.rows (omega (arith, product_small (at_place c.args.coefs.now (8 * c.loop-v.v + k)) (at_place by_rows (8 * k + x)) 2048 4017 (c.requires.coefs (8 * c.loop-v.v + k) (omega arith)) (rows_small (8 * k + x))))
 
 pub put_row-requires-clause-small : goal.put_row-requires-clause-small
 put_row-requires-clause-small c = λ x hx.
@@ -16,8 +16,8 @@ put_row-requires-clause-small c = λ x hx.
 pub combined-line-requires-clause-small : goal.combined-line-requires-clause-small
 combined-line-requires-clause-small c = λ k x hk hx.
     let e = c.loop-v.invariant k x (omega arith) hx ∙ ap (λ t. combination c.args.coefs.now (8 * k) t 8 x) c.requires.rows in
-    let row : unsigned_abs (at c.loop-v.rows (8 * k + x)) ≤ 65814528 = omega (arith, ap unsigned_abs e, row_small c.args.coefs.now k x c.requires.coefs (omega arith)) in
-    rw c.requires.columns (omega (arith, product_small (at by_columns (8 * c.loop-y.y + k)) (at c.loop-v.rows (8 * k + x)) 4017 65814528 (columns_small (8 * c.loop-y.y + k)) row))
+    let row : unsigned_abs (at_place c.loop-v.rows (8 * k + x)) ≤ 65814528 = omega (arith, ap unsigned_abs e, row_small c.args.coefs.now k x c.requires.coefs (omega arith)) in
+    rw c.requires.columns (omega (arith, product_small (at_place by_columns (8 * c.loop-y.y + k)) (at_place c.loop-v.rows (8 * k + x)) 4017 65814528 (columns_small (8 * c.loop-y.y + k)) row))
 
 pub put_line-requires-clause-small : goal.put_line-requires-clause-small
 put_line-requires-clause-small c = λ x hx.

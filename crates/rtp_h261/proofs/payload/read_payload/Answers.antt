@@ -4,7 +4,7 @@ use Rattle.std.proofs.lemmas.Int.{to_z-of_z}
 use Rattle.std.proofs.lemmas.List.{take-take}
 use Rattle.pel_bits.specs.Bits.{bits, field}
 use Rattle.rtp_h261.specs.declared.payload.PayloadHeader.{PayloadHeader}
-use Rattle.rtp_h261.specs.Payload.{AreWidths, header_bits}
+use Rattle.rtp_h261.specs.Payload.{AreWidths, payload_header_bits}
 use Rattle.rtp_h261.proofs.HeaderLemmas.{header_law}
 use Rattle.rtp_h261.proofs.PayloadLemmas.{header_is}
 use Rattle.rtp_h261.proofs.payload.read_payload.Goals as goal
@@ -33,7 +33,7 @@ returns c =
       hmvd = c.from_five_bits.ensures.fits;
       vmvd = c.from_five_bits-2.ensures.fits;
     } in
-    let spelled : header_bits h ≡ take 32 (bits c.args.b.now) =
+    let spelled : payload_header_bits h ≡ take 32 (bits c.args.b.now) =
     header_is h c.new-bits.result c.field_at.ensures.value c.field_at-2.ensures.value c.flag_at.ensures c.flag_at-2.ensures c.field_at-3.ensures.value c.field_at-4.ensures.value c.field_at-5.ensures.value
     (ap (λ (n : ℕ). field n 5) c.from_five_bits.ensures.value ∙ c.field_at-6.ensures.value)
     (ap (λ (n : ℕ). field n 5) c.from_five_bits-2.ensures.value ∙ c.field_at-7.ensures.value)

@@ -2,7 +2,7 @@
 use Rattle.std.proofs.Common.{sym, subst}
 use Rattle.picture_laws.specs.Laws.{kept_length}
 use Rattle.rtp_h261.specs.declared.depack.Phase.{Phase}
-use Rattle.rtp_h261.specs.Steps.{turned}
+use Rattle.rtp_h261.specs.OneByOne.{turned}
 use Rattle.rtp_h261.specs.Turns.{Turned, mode_in, mode_of}
 use Rattle.rtp_h261.proofs.TurnLemmas.{idle_turn}
 use Rattle.rtp_h261.proofs.depack.Collector.turn.Goals as goal

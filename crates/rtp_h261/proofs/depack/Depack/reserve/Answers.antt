@@ -1,6 +1,6 @@
 -- Of no packets nothing is held.
 use Rattle.std.proofs.Common.{refl}
-use Rattle.rtp_h261.specs.Steps.{state_of}
+use Rattle.rtp_h261.specs.OneByOne.{state_of}
 use Rattle.rtp_h261.proofs.depack.Depack.reserve.Goals as goal
 
 pub returns-clause-stands : goal.returns-clause-stands

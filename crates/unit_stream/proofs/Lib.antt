@@ -1,4 +1,0 @@
-pub mod Ending
-pub mod Putting
-pub mod Rounding
-pub mod Telling

@@ -1,7 +1,0 @@
--- Bits are one picture or have one first fault.
-use Rattle.unit_stream.proofs.Telling as telling
-use Rattle.unit_stream.proofs.laws.one_telling.Goals as goal
-
-pub returns : goal.returns
-returns c =
-    telling.one_telling c.one_record_or_one_fault.ensures.one_record c.one_record_or_one_fault.ensures.one_fault c.one_record_or_one_fault.ensures.never_both

@@ -1,4 +1,0 @@
-pub mod Ends
-pub mod Events
-pub mod Steps
-pub mod Tellers
