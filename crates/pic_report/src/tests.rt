@@ -3,7 +3,7 @@
 use super::check_frames;
 use io_edge::{MemSink, MemSource};
 use pel_model::Format::{self, Cif, Qcif};
-use rtp_h261::{UnitEnd, UnitStop};
+use rtp_h261::{UnitEnd, UnitStop, UnitTally};
 use std::alloc::{AllocError, Global};
 use std::test::Fail;
 
@@ -121,9 +121,11 @@ fn report(
 fn ended(stop: UnitStop, pictures: u64, gaps: u64, octets: u64) -> UnitEnd {
     UnitEnd {
         stop,
-        pictures,
-        gaps,
-        octets,
+        tally: UnitTally {
+            pictures,
+            gaps,
+            octets,
+        },
     }
 }
 
@@ -181,7 +183,7 @@ fn ends_of_the_input(rt: HostRuntime) -> Result<(), Fail> {
         octets.truncate(len);
         let (end, written) = report(alloc, Qcif, octets, read_fails, 0, budget)?;
         assert_eq!(rt; end, ended(stop, pictures, 0, pictures.wrapping_mul(46)));
-        assert_eq!(rt; written.len() as u64, end.octets);
+        assert_eq!(rt; written.len() as u64, end.tally.octets);
     }
     Ok(())
 }

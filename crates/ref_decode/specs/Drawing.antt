@@ -59,7 +59,8 @@ GroupDrawn format number quant ms shown old new =
     (plane : Plane) (x y : ℕ) → is_inside format plane x y ≡ true
     → sample_in format new plane x y
     ≡ drawn_over (frame_in format shown)
-    (cond (group_of (ratio plane * x / 16) (ratio plane * y / 16) == number) (at_address (address_of (ratio plane * x / 16) (ratio plane * y / 16)) quant ms) None)
+    (cond (group_of (ratio plane * x / 16) (ratio plane * y / 16) == number)
+    (at_address (address_of (ratio plane * x / 16) (ratio plane * y / 16)) quant ms) None)
     plane x y (sample_in format old plane x y)
 
 -- groups were drawn
@@ -155,25 +156,30 @@ BlockDrawn format number found block shown old new =
     (decoded fixed (frame_in format shown) (Some found) plane x y)
     (sample_in format old plane x y)
 
-abbrev pub IsBlockDone : {E : Type 0} → Format → (number : ℕ) → Quantised → (block : ℕ) → (rest : List Bool) → (shown old new : List ℕ) → Result Unit E → List Bool × ℕ → Type 0
+abbrev pub IsBlockDone : {E : Type 0} → Format → (number : ℕ) → Quantised → (block : ℕ) → (rest : List Bool)
+    → (shown old new : List ℕ) → Result Unit E → List Bool × ℕ → Type 0
 IsBlockDone format number found block rest shown old new (Ok _) r = (r.0 ≡ rest) × BlockDrawn format number found block shown old new
 IsBlockDone format number found block rest shown old new (Err e) r = ⊥
 
 -- ---- one macroblock
 
-pub record MacroblockDrawn (format : Format) (number : ℕ) (before : List Element) (last : Option Macroblock) (m : Macroblock) (rest : List Bool) (shown old new : List ℕ) (was now : MbState) (r : List Bool × ℕ) : Type 0 where
+pub record MacroblockDrawn (format : Format) (number : ℕ) (before : List Element) (last : Option Macroblock) (m : Macroblock)
+    (rest : List Bool) (shown old new : List ℕ) (was now : MbState) (r : List Bool × ℕ) : Type 0 where
   pub rest_is : r.0 ≡ rest
   pub stands : Stands number now (after before (macroblock_elements last m))
   pub quant_is : now.quant ≡ quantiser_after was.quant m.mquant
   pub drawn : BlocksDrawn format number (record { macroblock = m; quant = quantiser_after was.quant m.mquant }) 6 shown old new
 
-abbrev pub IsMacroblockDone : {E : Type 0} → Format → (number : ℕ) → List Element → Option Macroblock → Macroblock → (rest : List Bool) → (shown old new : List ℕ) → (was now : MbState) → Result Unit E → List Bool × ℕ → Type 0
-IsMacroblockDone format number before last m rest shown old new was now (Ok _) r = MacroblockDrawn format number before last m rest shown old new was now r
+abbrev pub IsMacroblockDone : {E : Type 0} → Format → (number : ℕ) → List Element → Option Macroblock → Macroblock
+    → (rest : List Bool) → (shown old new : List ℕ) → (was now : MbState) → Result Unit E → List Bool × ℕ → Type 0
+IsMacroblockDone format number before last m rest shown old new was now (Ok _) r =
+    MacroblockDrawn format number before last m rest shown old new was now r
 IsMacroblockDone format number before last m rest shown old new was now (Err e) r = ⊥
 
 -- ---- one group
 
-abbrev pub IsGroupDone : {E : Type 0} → Format → Group → (rest : List Bool) → (shown old new : List ℕ) → Result Unit E → List Bool × ℕ → Type 0
+abbrev pub IsGroupDone : {E : Type 0} → Format → Group → (rest : List Bool) → (shown old new : List ℕ) → Result Unit E
+    → List Bool × ℕ → Type 0
 IsGroupDone format g rest shown old new (Ok _) r = (r.0 ≡ rest) × GroupDrawn format g.number g.quant g.macroblocks shown old new
 IsGroupDone format g rest shown old new (Err e) r = ⊥
 

@@ -6,7 +6,7 @@ use crate::pictures::{
 };
 use io_edge::{MemSink, MemSource};
 use pel_model::Format::{self, Cif, Qcif};
-use rtp_h261::{UnitEnd, UnitStop};
+use rtp_h261::{UnitEnd, UnitStop, UnitTally};
 use std::alloc::{AllocError, Global};
 use std::test::Fail;
 
@@ -73,9 +73,11 @@ fn decode(
 fn ended(stop: UnitStop, pictures: u64, gaps: u64, octets: u64) -> UnitEnd {
     UnitEnd {
         stop,
-        pictures,
-        gaps,
-        octets,
+        tally: UnitTally {
+            pictures,
+            gaps,
+            octets,
+        },
     }
 }
 

@@ -51,13 +51,17 @@ unit-of format None (Some unit) old new h f done = absurd h
 unit-of format (Some bits) None old new h f done = absurd h
 unit-of format (Some bits) (Some Picture) old new h f done = (
   Shown h.0 ∷ [],
-  (Shown h.0, refl, record {
-    picture = h.0;
-    event_is = refl;
-    coded_is = h.2 ∙ ap (λ (k : Format). coding k h.0) (sym f);
-    valid = subst (λ (k : Format). IsValid k h.0) (sym f) h.1.1.valid;
-    finished = done;
-  }),
+  (
+    Shown h.0,
+    refl,
+    record {
+      picture = h.0;
+      event_is = refl;
+      coded_is = h.2 ∙ ap (λ (k : Format). coding k h.0) (sym f);
+      valid = subst (λ (k : Format). IsValid k h.0) (sym f) h.1.1.valid;
+      finished = done;
+    },
+  ),
   (Shown h.0, refl, h.1),
 )
 unit-of format (Some bits) (Some (Gap fault)) old new h f done = (

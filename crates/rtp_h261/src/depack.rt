@@ -125,7 +125,8 @@ impl Collector {
         requires can { CanTake self.old.format packet.now into.old }
         ensures stays { StaysRoomy self.old self.new into.old into.new result }
         ensures turned { TakesTurn self.old.format packet.now
-            (turned (kept_length self.old.format) joined (mode_of self.old)) (mode_of self.new) result into.old into.new }
+            (turned (kept_length self.old.format) joined (mode_of self.old)) (mode_of self.new) result
+            into.old into.new }
     {
         match self.phase {
             Phase::Seek => self.start(false, packet, into),
