@@ -11,5 +11,6 @@ fi
 checks/replay.sh "$program" || status=1
 checks/examples.sh "$PWD/$program" || status=1
 checks/documents.sh "$PWD/$program" || status=1
+python3 -B checks/order.py || status=1
 python3 -B checks/believed.py || status=1
 exit "$status"
