@@ -455,10 +455,17 @@ const WIDE_VIEWS: [(u8, u8, u32, u32, u16, u16); 12] = [
     (12, 8, 411, 0, 4, 0),
 ];
 
+// The picture of `WIDE`.
+fn wide(alloc: Global) -> Result<Coded, Fail>
+    ensures groups { IfOk result (λ coded. length coded.groups ≡ 12) }
+{
+    let sent = Sent::of(alloc, &WIDE)?;
+    parsed(alloc, Cif, sent.bits())
+}
+
 #[test]
-fn a_cif_picture_of_three_groups(rt: HostRuntime) -> Result<(), Fail> {
-    let sent = Sent::of(rt.alloc(), &WIDE)?;
-    let coded = parsed(rt.alloc(), Cif, sent.bits())?;
+fn marks_of_a_cif_picture(rt: HostRuntime) -> Result<(), Fail> {
+    let coded = wide(rt.alloc())?;
     let marks = [
         mark(1, 58, 26, 11, 5),
         Mark {
@@ -472,25 +479,46 @@ fn a_cif_picture_of_three_groups(rt: HostRuntime) -> Result<(), Fail> {
         mark(3, 165, 12, 1, 0),
     ];
     assert_eq!(rt; coded.marks(), marks.as_slice());
+    assert_eq!(rt; (coded.bits().len(), coded.is_refresh()), (411, false));
+    Ok(())
+}
+
+#[test]
+fn groups_of_a_cif_picture(rt: HostRuntime) -> Result<(), Fail> {
+    let coded = wide(rt.alloc())?;
     for (i, (number, quant, from, len, first_mark, marks)) in WIDE_VIEWS.into_iter().enumerate() {
         let want = view(number, quant, from, len, first_mark, marks);
         assert_eq!(rt; coded.group(i), want);
     }
-    let mut strict = Sent::of(rt.alloc(), &WIDE[..5])?;
-    strict.put("0000000000000001 0010 00001 0")?;
-    for piece in &WIDE[5..7] {
-        strict.put(piece)?;
-    }
-    for number in [
-        "0100", "0101", "0110", "0111", "1000", "1001", "1010", "1011",
-    ] {
-        for piece in ["0000000000000001", number, "00001 0"] {
-            strict.put(piece)?;
-        }
-    }
-    strict.put(WIDE[7])?;
+    Ok(())
+}
+
+/// Its strict text.
+const WIDE_WITH_ALL_GROUPS: [&str; 17] = [
+    CIF_HEADER,
+    GROUP_1,
+    "00001010 000000001 00001010 1",
+    "1 00001 00101 1010 10 10",
+    "1 1 1010 10 10",
+    "0000000000000001 0010 00001 0",
+    GROUP_3,
+    "1 000000001 1 1",
+    "0000000000000001 0100 00001 0",
+    "0000000000000001 0101 00001 0",
+    "0000000000000001 0110 00001 0",
+    "0000000000000001 0111 00001 0",
+    "0000000000000001 1000 00001 0",
+    "0000000000000001 1001 00001 0",
+    "0000000000000001 1010 00001 0",
+    "0000000000000001 1011 00001 0",
+    "0000000000000001 1100 01000 0",
+];
+
+#[test]
+fn text_of_a_cif_picture(rt: HostRuntime) -> Result<(), Fail> {
+    let coded = wide(rt.alloc())?;
+    let strict = Sent::of(rt.alloc(), &WIDE_WITH_ALL_GROUPS)?;
     assert_eq!(rt; coded.octets(), strict.octets.as_slice());
-    assert_eq!(rt; (coded.bits().len(), coded.is_refresh()), (411, false));
     Ok(())
 }
 
@@ -554,78 +582,6 @@ fn view(number: u8, quant: u8, from: u32, len: u32, first_mark: u16, marks: u16)
         first_mark,
         marks,
     }
-}
-
-#[test]
-fn groups_copied_into_a_place(rt: HostRuntime) -> Result<(), Fail> {
-    let first = "00001010 000000001 0011 1";
-    let second = "1 000000001 1 1";
-    let sent = Sent::of(rt.alloc(), &[QCIF_HEADER, GROUP_1, first, GROUP_3, second])?;
-    let coded = parsed(rt.alloc(), Qcif, sent.bits())?;
-    let mut whole = Coded::reserve(rt.alloc(), Cif)?;
-    whole.start(1);
-    assert_eq!(rt; whole.bits().len(), 32);
-    whole.empty_group();
-    assert_eq!(rt; whole.bits().len(), 58);
-    let group = coded.group(0);
-    assert_eq!(rt; group.number, 1);
-    assert_eq!(rt; group.len, 22);
-    whole.copy_group(&coded, 0);
-    assert_eq!(rt; whole.bits().len(), 106);
-    whole.empty_group();
-    assert_eq!(rt; whole.bits().len(), 132);
-    let group = coded.group(1);
-    assert_eq!(rt; group.number, 3);
-    assert_eq!(rt; group.len, 12);
-    whole.copy_group(&coded, 1);
-    let text = Sent::of(
-        rt.alloc(),
-        &[
-            CIF_HEADER,
-            "0000000000000001 0001 00001 0",
-            "0000000000000001 0010 01000 0",
-            first,
-            "0000000000000001 0011 00001 0",
-            "0000000000000001 0100 01000 0",
-            second,
-        ],
-    )?;
-    assert_eq!(rt; whole.octets(), text.octets.as_slice());
-    let marks = [mark(2, 84, 22, 11, -2), mark(4, 158, 12, 1, 0)];
-    assert_eq!(rt; whole.marks(), marks.as_slice());
-    assert_eq!(rt; whole.group(3), view(4, 8, 158, 12, 1, 1));
-    Ok(())
-}
-
-#[test]
-fn a_group_copied_within_a_format(rt: HostRuntime) -> Result<(), Fail> {
-    let macroblock = "011 000000001 010 1";
-    let sent = Sent::of(rt.alloc(), &[QCIF_HEADER, GROUP_1, macroblock])?;
-    let coded = parsed(rt.alloc(), Qcif, sent.bits())?;
-    let mut other = Coded::reserve(rt.alloc(), Qcif)?;
-    other.start(7);
-    assert_eq!(rt; other.bits().len(), 32);
-    assert_eq!(rt; other.room(), 65_426);
-    let group = coded.group(0);
-    assert_eq!(rt; group.number, 1);
-    assert_eq!(rt; group.len, 16);
-    other.copy_group(&coded, 0);
-    assert_eq!(rt; other.room(), 65_410);
-    other.empty_group();
-    other.empty_group();
-    let text = Sent::of(
-        rt.alloc(),
-        &[
-            "00000000000000010000 00111 000011 0",
-            GROUP_1,
-            macroblock,
-            "0000000000000001 0011 00001 0",
-            "0000000000000001 0101 00001 0",
-        ],
-    )?;
-    assert_eq!(rt; other.octets(), text.octets.as_slice());
-    assert_eq!(rt; other.marks(), coded.marks());
-    Ok(())
 }
 
 #[test]
