@@ -23,7 +23,7 @@ try_line() {
     try sh -c "$line" sh "$@"
 }
 
-# ended NAME STATUS: the command had this status. What it wrote and said is looked at by the three calls below.
+# ended NAME STATUS: the command had this status. What it wrote and said is looked at by the calls below.
 ended() {
     name=$1
     [ "$status" -eq "$2" ]
@@ -39,6 +39,12 @@ wrote() {
 wrote_nothing() {
     [ ! -s "$room/out" ]
     judge $? "it wrote something"
+}
+
+# said_line TEXT: what it said is this one line.
+said_line() {
+    echo "$1" | cmp -s - "$room/err"
+    judge $? "it said: $(head -n 1 "$room/err")"
 }
 
 # said TEXT: the text is a part of what it said; said_nothing: it said nothing.

@@ -6,12 +6,6 @@ cp "$1" "$room/bridge_cli"
 program=$room/bridge_cli
 striped=$top/examples/striped_top_right.conf
 
-# said_line TEXT: what was said is this one line.
-said_line() {
-    echo "$1" | cmp -s - "$room/err"
-    judge $? "it said: $(cat "$room/err")"
-}
-
 for example in grey_top_left:866 grey_bottom_right:866 striped_top_right:1014; do
     name=${example%:*}
     python3 "$top/checks/composed.py" "$name" > "$room/$name.rtp"
@@ -195,12 +189,35 @@ fails "lanes that are cut or no files, and lines that say nothing" 0 \
     'sleep 2 | "$1" live --lanes="$2/cut_lane,/" --chair="$3"' \
     "$program" "$room" "$top/README.md"
 
-# What is written is in the buffer until the flush at the end, which the device refuses; the line tells of that.
-fails "output is full" 4 "fault write" '"$1" replay < "$2" > /dev/full' "$program" "$striped"
-fails "output is closed" 4 "fault write" '"$1" replay < "$2" >&-' "$program" "$striped"
+# What is written is in the buffer until the flush at the end. Where that fails the line tells of it, whatever the run would
+# have ended with.
 mkfifo "$room/pipe"
-fails "output is a pipe that nobody reads" 4 "fault write" 'exec 3<> "$3" > "$3" 3<&-; exec "$1" replay < "$2"' \
-    "$program" "$striped" "$room/pipe"
+printf 'H261CONF\001\001T\001T\001T' > "$room/two_ticks"
+(cat "$room/striped_top_right.rtp" && printf '\0') > "$room/cut.rtp"
+loses() {
+    lost="$1 of $(basename -- "$2")"
+    fails "$lost, output full" 4 "fault write" '"$1" $2 < "$3" > /dev/full' "$program" "$1" "$2"
+    fails "$lost, output closed" 4 "fault write" '"$1" $2 < "$3" >&-' "$program" "$1" "$2"
+    fails "$lost, output a pipe that nobody reads" 4 "fault write" \
+        'exec 3<> "$4" > "$4" 3<&-; exec "$1" $2 < "$3"' "$program" "$1" "$2" "$room/pipe"
+}
+for file in "$striped" "$room/two_ticks" "$room/kind"; do
+    loses "replay" "$file"
+done
+for command in "check --format=cif" "decode"; do
+    loses "$command" "$room/striped_top_right.rtp"
+    loses "$command" "$room/cut.rtp"
+done
+loses "make" /dev/null
+
+# A run that wrote nothing has lost nothing.
+fails "no conference file, output full" 6 "fault record at 0: header" '"$1" replay < "$1" > /dev/full' "$program"
+fails "input is empty, output full" 5 "fault cut at 0" '"$1" replay < /dev/null > /dev/full' "$program"
+fails "input is a directory, output closed" 3 "fault read" '"$1" replay < / >&-' "$program"
+fails "a lane that is not there, output full" 8 "fault open 0" \
+    '"$1" live --lanes=none --chair=none > /dev/full' "$program"
+try_line '"$1" replay --mtu=999 < "$2" > /dev/full' "$program" "$striped"
+ended "words that ask for no job, output full" 2
 
 # A line that cannot be written.
 for error in "2> /dev/full" "2>&-"; do

@@ -161,6 +161,15 @@ said "fault cut at 15"
 said "wrote 122 octets of framed RTP packets to kept.rtp"
 said "status 5, the input ends too early"
 is_all_told "what the ticks gave is kept" "kept.rtp"
+(head -c -1 "$striped" && printf 'T\001T\001') > "$room/cut"
+echo before > "$here/kept.rtp"
+# the limit of a file's size stands for a device that gets full
+replay_in 'trap "" XFSZ; ulimit -f 1; exec "$@"' "$room/cut" kept.rtp
+ended "a file that is cut, and an output with no room for its ticks" 4
+said "fault write"
+said "status 4, the output failed; kept.rtp was not written"
+is "the output stays as it was there" cmp "$here/kept.rtp" "$room/before"
+is_all_told "no front of an output is left" "kept.rtp"
 
 # ---- output
 
