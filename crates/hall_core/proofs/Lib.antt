@@ -7,3 +7,4 @@ pub mod Taking
 pub mod Waiting
 pub mod Ticking
 pub mod Turning
+pub mod Handing

@@ -11,7 +11,7 @@ use Rattle.stage_plan.specs.PerPlace.{in_place}
 use Rattle.stage_plan.specs.declared.per_place.PerPlace.{PerPlace}
 use Rattle.hall_core.specs.declared.hall.Hall.TheInside.{Inside}
 use Rattle.hall_core.specs.Boxes.{ring_of}
-use Rattle.hall_core.specs.Fields.{view_of, IsHall}
+use Rattle.hall_core.specs.Fields.{hall_view, IsHall}
 use Rattle.hall_core.specs.Stands.{ring_behind, StandsFor}
 
 abbrev pub ordered : Inside → PlanView → PerPlace (Option ℕ) → Inside
@@ -41,7 +41,7 @@ hall-ordered a command plan last is room lanes follows = record {
 pub order-stands : (a : Inside) (H : History) (command : Command) (reply : Reply) (plan : PlanView) (last : PerPlace (Option ℕ)) →
     plan.lanes ≡ a.plan.lanes → IsPlanOf plan (command ∷ commands H) →
     ((q : Quad) → in_place last q ≡ cond (is_changed plan.lanes (command ∷ commands H) q) None (in_place a.last q)) →
-    StandsFor (view_of a) H → StandsFor (view_of (ordered a plan last)) (Order command reply ∷ H)
+    StandsFor (hall_view a) H → StandsFor (hall_view (ordered a plan last)) (Order command reply ∷ H)
 order-stands a H command reply plan last lanes follows lasts stands = record {
   rings = subst (λ (n : ℕ). (c : ℕ) → c < n → slice_get (map ring_of a.lanes.items) c ≡ Some (ring_behind n H c)) (sym lanes) stands.rings;
   plan = follows;

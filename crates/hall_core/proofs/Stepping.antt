@@ -18,7 +18,7 @@ use Rattle.pel_model.specs.Records.{Picture}
 use Rattle.pel_model.specs.Refresh.{is_refresh, IsRefresh}
 use Rattle.hall_core.specs.declared.hall.Hall.TheInside.{Inside}
 use Rattle.hall_core.specs.Boxes.{value_of, ring_of, IsQcifLane}
-use Rattle.hall_core.specs.Fields.{view_of, IsHall}
+use Rattle.hall_core.specs.Fields.{hall_view, IsHall}
 use Rattle.hall_core.specs.Hall.{RingView, HallView, is_over}
 use Rattle.hall_core.specs.Stands.{ring_behind, StandsFor}
 use Rattle.hall_core.proofs.Rings.{get-map, some-same, map-last, gap-ring, gap-others, post-ring, post-others, rings-step}
@@ -39,10 +39,10 @@ pub has-room : (hall : HallView) → is_over hall ≡ false → hall.steps < hal
 has-room hall e = let under : nat_le hall.limit hall.steps ≡ false = or-right hall.ended _ e in grind (arith, nat_tests)
 
 -- of the fields, where the hall's value is known
-pub room-inside : (a : Inside) (hall : HallView) → view_of a ≡ hall → is_over hall ≡ false → a.steps < a.limit
-room-inside a hall is e = has-room (view_of a) (ap is_over is ∙ e)
+pub room-inside : (a : Inside) (hall : HallView) → hall_view a ≡ hall → is_over hall ≡ false → a.steps < a.limit
+room-inside a hall is e = has-room (hall_view a) (ap is_over is ∙ e)
 
-pub lane-inside : (a : Inside) (hall : HallView) (i lane : ℕ) → view_of a ≡ hall → lane < hall.plan.lanes → i ≡ lane → i < a.plan.lanes
+pub lane-inside : (a : Inside) (hall : HallView) (i lane : ℕ) → hall_view a ≡ hall → lane < hall.plan.lanes → i ≡ lane → i < a.plan.lanes
 lane-inside a hall i lane is below same =
     let lanes : a.plan.lanes ≡ hall.plan.lanes = ap (λ (h : HallView). h.plan.lanes) is in omega (arith, lanes, below, same)
 
@@ -84,7 +84,7 @@ hall-changed a i new is room boxes count = record {
 -- ---- histories
 
 ring-was : (a : Inside) (H : History) (c : ℕ) (old : LaneView (Box Coding)) → IsHall a → c < a.plan.lanes → old ≡ get_or a.lanes.items c old →
-    StandsFor (view_of a) H → ring_of old ≡ ring_behind a.plan.lanes H c
+    StandsFor (hall_view a) H → ring_of old ≡ ring_behind a.plan.lanes H c
 ring-was a H c old is below here stands =
     some-same (ring_of old) (ring_behind a.plan.lanes H c)
     (sym (get-map ring_of a.lanes.items c old
@@ -100,7 +100,7 @@ rings-changed a c old new ring is below are at others k under =
     (omega (arith, is.lanes, below, length-map a.lanes.items ring_of)) at others k under
 
 pub gap-stands : (a : Inside) (H : History) (c : ℕ) (old new : LaneView (Box Coding)) → IsHall a → c < a.plan.lanes → old ≡ get_or a.lanes.items c old →
-    new.held ≡ old.held → new.count ≡ old.count + 1 → StandsFor (view_of a) H → StandsFor (view_of (changed a c new)) (Gap c ∷ H)
+    new.held ≡ old.held → new.count ≡ old.count + 1 → StandsFor (hall_view a) H → StandsFor (hall_view (changed a c new)) (Gap c ∷ H)
 gap-stands a H c old new is below here held count stands =
     let lanes = a.plan.lanes in
     let same : ring_of new ≡ ring_behind lanes (Gap c ∷ H) c =
@@ -147,7 +147,7 @@ pub post-stands : (a : Inside) (H : History) (c : ℕ) (p : Picture) (old new : 
     IsHall a → c < a.plan.lanes → old ≡ get_or a.lanes.items c old →
     new.held ≡ last_of lane_room (old.held ++ record { serial = old.count + 1; refresh = refresh; item = item } ∷ []) → new.count ≡ old.count + 1 →
     refresh ≡ is_refresh Qcif p → item.value ≡ coding Qcif p →
-    StandsFor (view_of a) H → StandsFor (view_of (changed a c new)) (Post c p ∷ H)
+    StandsFor (hall_view a) H → StandsFor (hall_view (changed a c new)) (Post c p ∷ H)
 post-stands a H c p old new refresh item is below here held count refreshes coded stands =
     let lanes = a.plan.lanes in
     let same : ring_of new ≡ ring_behind lanes (Post c p ∷ H) c =

@@ -25,7 +25,7 @@ use Rattle.stage_plan.specs.declared.per_place.PerPlace.{PerPlace}
 use Rattle.stage_plan.proofs.Standing.{seating}
 use Rattle.hall_core.specs.declared.hall.Hall.TheInside.{Inside}
 use Rattle.hall_core.specs.Boxes.{value_of, ring_of, IsQcifLane}
-use Rattle.hall_core.specs.Fields.{view_of, IsHall}
+use Rattle.hall_core.specs.Fields.{hall_view, IsHall}
 use Rattle.hall_core.specs.Hall.{RingView}
 use Rattle.hall_core.specs.Taking.{ring_in, next_of, next_in, told_as, told_in, left_in, drained, rings_behind, behind_take}
 use Rattle.hall_core.proofs.Rings.{get-map}
@@ -96,7 +96,7 @@ hall-taken a c new last is boxes count = record {
 }
 
 pub ring-inside : (a : Inside) (c : ℕ) (old : LaneView (Box Coding)) → IsHall a → c < a.plan.lanes → old ≡ get_or a.lanes.items c old →
-    ring_in (view_of a) c ≡ ring_of old
+    ring_in (hall_view a) c ≡ ring_of old
 ring-inside a c old is below here =
     get_or_from_slice_get (map ring_of a.lanes.items) c (ring_of old) (record { held = []; count = 0 })
     (get-map ring_of a.lanes.items c old
@@ -112,33 +112,33 @@ pub record IsTaken (a : Inside) (q : Quad) (c : ℕ) (last : Option ℕ) (old ne
   pub count : new.count ≡ old.count
 
 module _ (a : Inside) (q : Quad) (c : ℕ) (last : Option ℕ) (old new : LaneView (Box Coding)) (t : IsTaken a q c last old new) where
-  ring-is : ring_in (view_of a) c ≡ ring_of old
+  ring-is : ring_in (hall_view a) c ≡ ring_of old
   ring-is = ring-inside a c old t.hall (seated a q c t.hall t.seat) t.here
 
-  rings-taken : map ring_of (slice_set a.lanes.items c new) ≡ rings_behind (view_of a) q (lane_in a.plan q)
+  rings-taken : map ring_of (slice_set a.lanes.items c new) ≡ rings_behind (hall_view a) q (lane_in a.plan q)
   rings-taken =
       let new-is : ring_of new ≡ drained last (ring_of old) =
       ap₂ (λ (hs : List (Held (Box Coding))) (n : ℕ). record { held = map (held_as value_of) hs; count = n }) t.held t.count
       ∙ drained-map value_of last old.held old.count in
       map-set ring_of a.lanes.items c new
       ∙ ap (set (map ring_of a.lanes.items) c) (new-is ∙ ap₂ drained t.behind (sym ring-is))
-      ∙ ap (rings_behind (view_of a) q) (sym t.seat)
+      ∙ ap (rings_behind (hall_view a) q) (sym t.seat)
 
-  next-is : next_in (view_of a) q ≡ option_map (held_as value_of) (first_to_show last old.held)
+  next-is : next_in (hall_view a) q ≡ option_map (held_as value_of) (first_to_show last old.held)
   next-is =
-      ap (next_of (view_of a) q) t.seat
+      ap (next_of (hall_view a) q) t.seat
       ∙ ap₂ (λ (l : Option ℕ) (r : RingView). first_to_show l r.held) (sym t.behind) ring-is
       ∙ view_law.first value_of last old.held
 
-  pub told-is : (serial : Option ℕ) → serial ≡ serial_of (first_to_show last old.held) → told_in (view_of a) q ≡ told_by c serial
+  pub told-is : (serial : Option ℕ) → serial ≡ serial_of (first_to_show last old.held) → told_in (hall_view a) q ≡ told_by c serial
   told-is serial found = ap₂ told_as t.seat next-is ∙ told-serial c (first_to_show last old.held) ∙ ap (told_by c) (sym found)
 
-  pub left-is : (before after : Box Coding) → after ≡ slot_item (first_to_show last old.held) before → after.value ≡ left_in (next_in (view_of a) q) before.value
+  pub left-is : (before after : Box Coding) → after ≡ slot_item (first_to_show last old.held) before → after.value ≡ left_in (next_in (hall_view a) q) before.value
   left-is before after is =
       ap value_of is ∙ left-value (first_to_show last old.held) before ∙ ap (λ n. left_in n before.value) (sym next-is)
 
   pub behind-is : (serial : Option ℕ) (lasts : PerPlace (Option ℕ)) → serial ≡ serial_of (first_to_show last old.held) →
-      lasts ≡ with_place a.last q (serial_or (told_by c serial) (in_place a.last q)) → view_of (taken a c new lasts) ≡ behind_take (view_of a) q
+      lasts ≡ with_place a.last q (serial_or (told_by c serial) (in_place a.last q)) → hall_view (taken a c new lasts) ≡ behind_take (hall_view a) q
   behind-is serial lasts found is =
-      ap₂ (λ (rings : List RingView) (l : PerPlace (Option ℕ)). record (view_of a) { rings = rings; last = l }) rings-taken
+      ap₂ (λ (rings : List RingView) (l : PerPlace (Option ℕ)). record (hall_view a) { rings = rings; last = l }) rings-taken
       (is ∙ ap (λ told. with_place a.last q (serial_or told (in_place a.last q))) (sym (told-is serial found)))

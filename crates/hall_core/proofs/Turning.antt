@@ -15,7 +15,7 @@ use Rattle.hall_core.specs.declared.machine.HallReply.{HallReply}
 use Rattle.hall_core.specs.declared.machine.HallReply.TheVariants.{Spare, Counted, Ordered, Ticked, Finished, Ended}
 use Rattle.hall_core.specs.Hall.{HallView, lanes_of, is_over, IsSameConference}
 use Rattle.hall_core.specs.Stands.{StandsFor}
-use Rattle.hall_core.specs.Machine.{Fits, TellsStep, Makes, HallSteps, is_ended, is_finish, turn_tells, TurnsTo, TurnLaw, FinishLaw}
+use Rattle.hall_core.specs.Machine.{Fits, TellsStep, Makes, HallSteps, is_ended, is_finish, turn_tells, TurnsTo, TurnLaw, NeverLateLaw}
 
 -- one turn: the steps that it tells, and the hall behind them
 record Turned (old : HallView) (call : HallCall) (reply : HallReply) (new : HallView) (H : History) : Type 0 where
@@ -190,7 +190,7 @@ ends = record {
       omega (arith, st.limit, short call reply st.part st.told, ap (λ (w : History). length w) st.history ∙ length-append st.part a.history);
 }
 
-pub finish_law : FinishLaw
+pub finish_law : NeverLateLaw
 finish_law first last turns stands led fits own owns finish =
     let all : AllByRecursion (λ (t : Turn HallCall HallReply). Fits (lanes_of first) t.call) turns =
     recursion_from_All (λ (t : Turn HallCall HallReply). Fits (lanes_of first) t.call) turns led.calls_fit in

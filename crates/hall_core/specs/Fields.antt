@@ -10,8 +10,8 @@ use Rattle.stage_plan.specs.Places.{IsPlanOf}
 use Rattle.hall_core.specs.Boxes.{ring_of, IsQcifLane}
 use Rattle.hall_core.specs.Hall.{HallView}
 
-abbrev pub view_of : Inside → HallView
-view_of a = record {
+abbrev pub hall_view : Inside → HallView
+hall_view a = record {
   rings = map ring_of a.lanes.items;
   plan = a.plan;
   last = a.last;

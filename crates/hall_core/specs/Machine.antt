@@ -103,8 +103,8 @@ TurnLaw =
 
 -- Of a worker that alone finishes, by its last call, no call is given back, where the hall may make as many steps as there
 -- are turns.
-abbrev pub FinishLaw : Type 0
-FinishLaw =
+abbrev pub NeverLateLaw : Type 0
+NeverLateLaw =
     (first last : HallView) (turns : List (Turn HallCall HallReply)) → StandsFor first [] →
     Leads lanes_of Fits HallSteps first turns last → length turns ≤ first.limit →
     (own : Turn HallCall HallReply → Bool) → ((t : Turn HallCall HallReply) → is_finish t.call ≡ true → own t ≡ true) →

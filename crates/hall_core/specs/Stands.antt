@@ -1,5 +1,5 @@
 -- The history of a conference that a hall stands for, and what its calls make of it.
-use Rattle.std.specs.Prelude.{◌≡◌, ℕ, ◌<◌, Option, Some, None, ◌∷◌, length, map, slice_get}
+use Rattle.std.specs.Prelude.{◌≡◌, ℕ, ◌<◌, Option, Some, None, ◌∷◌, length, map, slice_get, Result, is_err, IfOk, IfErr}
 use Rattle.h261_pic.specs.Coded.{Coding, coding}
 use Rattle.h261_pic.specs.declared.hand.Hand.{Hand}
 use Rattle.lane_ring.specs.Arrivals.{held_as}
@@ -13,7 +13,8 @@ use Rattle.pel_model.specs.Records.{Picture}
 use Rattle.pel_model.specs.Takes.{last_taken, held_pictures, choice}
 use Rattle.stage_plan.specs.Places.{IsPlanOf}
 use Rattle.stage_plan.specs.PerPlace.{in_place}
-use Rattle.hall_core.specs.Hall.{RingView, HallView, lanes_of}
+use Rattle.h261_pic.specs.Hand.{box_of, HasTaken}
+use Rattle.hall_core.specs.Hall.{RingView, HallView, lanes_of, is_over, IsSameConference}
 
 -- a lane's ring behind a history: the codings of the pictures that are held, each under its serial, and how many serials
 -- were given
@@ -41,14 +42,15 @@ abbrev pub KeepsRules : HallView → Step → Type 0
 KeepsRules hall s =
     (H : History) → StandsFor hall H → Legal (lanes_of hall) H → Legal (lanes_of hall) (s ∷ H)
 
--- ---- the hand of a tick
+-- the call made the step that its answer tells; or none may follow, and the hall stays as it was
+pub record StepsOrStays {X E : Type 0} (old new : HallView) (result : Result X E) (step : X → Step) : Type 0 where
+  pub ended : is_err result ≡ is_over old
+  pub kept : IfErr result (λ _. new ≡ old)
+  pub same : IsSameConference old new
+  pub stands : IfOk result (λ x. Steps old new (step x))
+  pub legal : IfOk result (λ x. KeepsRules old (step x))
 
--- what stands in the box of a place
-abbrev pub box_of : Hand → Quad → Coding
-box_of hand One = hand.one.value
-box_of hand Two = hand.two.value
-box_of hand Three = hand.three.value
-box_of hand Four = hand.four.value
+-- ---- the hand of a tick
 
 -- what stands in a box behind a tick: the coding of the picture that was taken, or else what stood there
 abbrev pub box_behind : Option (Held Picture) → Coding → Coding
@@ -64,3 +66,9 @@ TakesInto hall old new =
 -- all four boxes have format QCIF
 abbrev pub IsQcifHand : Hand → Type 0
 IsQcifHand hand = (q : Quad) → (box_of hand q).format ≡ Qcif
+
+-- what a tick put into a hand is what its places took
+abbrev pub TakesLaw : Type 0
+TakesLaw =
+    (hall : HallView) (old new : Hand) (H : History) → StandsFor hall H → TakesInto hall old new →
+    HasTaken (lanes_of hall) H new

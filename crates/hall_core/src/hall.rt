@@ -7,7 +7,7 @@ ghost use Rattle.pel_model.specs.History.{History, Post as Posted, Gap as Lost, 
 ghost use Rattle.pel_model.specs.Legal.{IsPostable};
 ghost use Rattle.pel_model.specs.Records.{Picture};
 ghost use Rattle.hall_core.specs.Hall.{lanes_of, is_over, IsSameConference};
-ghost use Rattle.hall_core.specs.Stands.{StandsFor, Steps, KeepsRules, TakesInto, IsQcifHand};
+ghost use Rattle.hall_core.specs.Stands.{StandsFor, Steps, StepsOrStays, KeepsRules, TakesInto, IsQcifHand};
 ghost use Rattle.hall_core.specs.Boxes.{IsQcifLane, ring_of};
 ghost use Rattle.hall_core.specs.Taking.{behind_take, told_in, next_in, left_in, is_ring_at_loss, is_waited_at, is_waited_in, waiting_in};
 
@@ -48,32 +48,21 @@ impl Model for Hall {
 
     ghost Value = { HallView };
 
-    ghost use Rattle.hall_core.specs.Fields.{view_of, IsHall};
+    ghost use Rattle.hall_core.specs.Fields.{hall_view, IsHall};
 
-    ghost view = { view_of };
+    ghost view = { hall_view };
 
     ghost invariant = { IsHall };
 }
 
-/// An empty picture for a lane.
-fn empty_picture(alloc: Global) -> Result<Box<Coded>, NoMemory>
-    ensures { IfOk result (λ picture. picture.value.format ≡ Qcif) }
-{
-    let Ok(picture) = Box::new(alloc, Coded::reserve(alloc, Format::Qcif)?) else {
-        return Err(NoMemory);
-    };
-    Ok(picture)
-}
-
 /// A lane that holds nothing, with its eight pictures.
 fn empty_lane(alloc: Global) -> Result<Lane<Box<Coded>>, NoMemory>
-    ensures held { IfOk result (λ lane. lane.held ≡ []) }
-    ensures count { IfOk result (λ lane. lane.count ≡ 0) }
+    ensures empty { IfOk result (λ lane. (lane.held ≡ []) × (lane.count ≡ 0)) }
     ensures format { IfOk result IsQcifLane }
 {
     let mut boxes = Vec::new(alloc);
     while boxes.len() < ROOM {
-        let Ok(()) = boxes.push(empty_picture(alloc)?) else {
+        let Ok(()) = boxes.push(Coded::boxed(alloc, Format::Qcif)?) else {
             return Err(NoMemory);
         };
     }
@@ -155,12 +144,8 @@ impl Hall {
 
     /// One or more pictures of a lane were lost: the lane's next serial is given to nothing.
     pub fn gap(&mut self, lane: u8) -> Result<(), Ended<()>>
-        requires lane { lane < lanes_of self.old }
-        ensures ended { is_err result ≡ is_over self.old }
-        ensures kept { IfErr result (λ _. self.new ≡ self.old) }
-        ensures same { IsSameConference self.old self.new }
-        ensures stands { IfOk result (λ _. Steps self.old self.new (Lost lane)) }
-        ensures legal { IfOk result (λ _. KeepsRules self.old (Lost lane)) }
+        requires { lane < lanes_of self.old }
+        ensures { StepsOrStays self.old self.new result (λ _. Lost lane) }
     {
         if self.is_over() {
             return Err(Ended(()));
@@ -172,11 +157,7 @@ impl Hall {
 
     /// The conference ends.
     pub fn end(&mut self) -> Result<(), Ended<()>>
-        ensures ended { is_err result ≡ is_over self.old }
-        ensures kept { IfErr result (λ _. self.new ≡ self.old) }
-        ensures same { IsSameConference self.old self.new }
-        ensures stands { IfOk result (λ _. Steps self.old self.new Closed) }
-        ensures legal { IfOk result (λ _. KeepsRules self.old Closed) }
+        ensures { StepsOrStays self.old self.new result (λ _. Closed) }
     {
         if self.is_over() {
             return Err(Ended(()));
@@ -188,11 +169,7 @@ impl Hall {
 
     /// The chair gives a command. A refused one is a step too, and changes nothing else.
     pub fn command(&mut self, command: Command) -> Result<Reply, Ended<()>>
-        ensures ended { is_err result ≡ is_over self.old }
-        ensures kept { IfErr result (λ _. self.new ≡ self.old) }
-        ensures same { IsSameConference self.old self.new }
-        ensures stands { IfOk result (λ reply. Steps self.old self.new (Ordered command reply)) }
-        ensures legal { IfOk result (λ reply. KeepsRules self.old (Ordered command reply)) }
+        ensures { StepsOrStays self.old self.new result (Ordered command) }
     {
         if self.is_over() {
             return Err(Ended(()));
@@ -258,11 +235,8 @@ impl Hall {
     pub fn tick(&mut self, step: u8, hand: &mut Hand) -> Result<TickNote, Ended<()>>
         requires step { (1 ≤ step) × (step ≤ 31) }
         requires hand { IsQcifHand hand.old }
-        ensures ended { is_err result ≡ is_over self.old }
-        ensures kept { IfErr result (λ _. (self.new ≡ self.old) × (hand.new ≡ hand.old)) }
-        ensures same { IsSameConference self.old self.new }
-        ensures stands { IfOk result (λ note. Steps self.old self.new (Ticked note)) }
-        ensures legal { IfOk result (λ note. KeepsRules self.old (Ticked note)) }
+        ensures made { StepsOrStays self.old self.new result Ticked }
+        ensures kept { IfErr result (λ _. hand.new ≡ hand.old) }
         ensures step { IfOk result (λ note. note.step ≡ step) }
         ensures taken { IfOk result (λ _. TakesInto self.old hand.old hand.new) }
         ensures hand { IsQcifHand hand.new }

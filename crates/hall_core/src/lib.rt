@@ -13,4 +13,4 @@ pub use h261_pic::{Coded, Hand};
 pub use hall::{Ended, Hall};
 pub use machine::{HallCall, HallReply};
 pub use pel_model::{Command, Quad, Reply, Take, TickNote};
-pub use turns::{finish_is_never_late, turns_are_steps};
+pub use turns::{finish_is_never_late, taken_into_hand, turns_are_steps};

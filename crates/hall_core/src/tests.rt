@@ -207,6 +207,12 @@ fn ninety_eight_intra(rt: HostRuntime) -> Result<(), Fail> {
     )
 }
 
+// All that comes is a gap, as a picture over the limit of its bits leaves one.
+#[test]
+fn a_gap_alone_is_waited_for(rt: HostRuntime) -> Result<(), Fail> {
+    follow(&rt, rt.alloc(), &[PLACE_1, Gap(0), Tick(None, None, 1)])
+}
+
 #[test]
 fn pushed_out_then_waiting(rt: HostRuntime) -> Result<(), Fail> {
     follow(

@@ -1,7 +1,8 @@
-//! The hall as a machine: what it replies, and what it gives back behind its end and at its limit, counted by hand.
+//! The hall as a machine, and under a lock: what it replies, and what comes back behind its end, at its limit and behind the
+//! lock's last turn, counted by hand.
 
 use crate::{Command, Hall, HallCall, HallReply, Hand, Quad, Reply, TickNote};
-use hall_lock::Machine;
+use hall_lock::{Machine, Over, Shared};
 use std::process::Abort;
 use std::test::Fail;
 
@@ -53,13 +54,32 @@ fn calls_behind_the_end_come_back(rt: HostRuntime) -> Result<(), Fail> {
 
 #[test]
 fn calls_at_the_limit_come_back(rt: HostRuntime) -> Result<(), Fail> {
-    let mut hall = Hall::reserve(rt.alloc(), 2, 1)?;
-    assert!(rt; matches!(hall.step(HallCall::Gap { lane: 1 }), HallReply::Counted));
+    let mut hall = Hall::reserve(rt.alloc(), 1, 2)?;
+    let hand = Hand::reserve(rt.alloc())?;
+    assert!(rt; matches!(hall.step(HallCall::Gap { lane: 0 }), HallReply::Counted));
     assert!(rt;
         matches!(
-            hall.step(HallCall::Order(Command::Clear(Quad::One))),
-            HallReply::Ended(HallCall::Order(Command::Clear(Quad::One)))
+            hall.step(HallCall::Tick { step: 1, hand }),
+            HallReply::Ticked { .. }
         )
     );
+    assert!(rt;
+        matches!(
+            hall.step(HallCall::Gap { lane: 0 }),
+            HallReply::Ended(HallCall::Gap { lane: 0 })
+        )
+    );
+    Ok(())
+}
+
+#[test]
+fn a_lock_of_one_turn(rt: HostRuntime) -> Result<(), Fail> {
+    let hall = Hall::reserve(rt.alloc(), 1, 2)?;
+    let (lock, mut seat) = Shared::reserve(rt.alloc(), hall, 1)?;
+    let first = lock.call(&rt, &mut seat, HallCall::Gap { lane: 0 });
+    assert!(rt; matches!(first, Ok(HallReply::Counted)));
+    let second = lock.call(&rt, &mut seat, HallCall::Finish);
+    assert!(rt; matches!(second, Err(Over(HallCall::Finish))));
+    assert_eq!(rt; lock.glance(&mut seat), 1);
     Ok(())
 }

@@ -5,7 +5,7 @@ use Rattle.pel_model.specs.Plan.{is_lane}
 use Rattle.stage_plan.specs.PerPlace.{in_place}
 use Rattle.stage_plan.specs.Places.{lane_in}
 use Rattle.hall_core.specs.Boxes.{ring_of}
-use Rattle.hall_core.specs.Fields.{view_of}
+use Rattle.hall_core.specs.Fields.{hall_view}
 use Rattle.hall_core.specs.Taking.{ring_in, is_ring_at_loss, is_waited_at}
 use Rattle.hall_core.proofs.Taking.{seated, ring-inside}
 use Rattle.hall_core.proofs.hall.Hall.is_waited_for_in.Goals as goal
@@ -30,10 +30,10 @@ pub returns-then-eq : goal.returns-then-eq
 returns-then-eq c =
     let a = c.self.inside in
     let seat : lane_in a.plan c.args.place ≡ Some c.args.lane = sym c.at.ensures.lane ∙ seat-is c.at.result c.args.lane (sym c.eq.ensures ∙ c.if-eq.true) in
-    let ring : ring_in (view_of a) c.args.lane ≡ ring_of c.index.result.now =
+    let ring : ring_in (hall_view a) c.args.lane ≡ ring_of c.index.result.now =
     ring-inside a c.args.lane c.index.result.now c.self.invariant (seated a c.args.place c.args.lane c.self.invariant seat)
     (c.index.ensures ∙ ap (λ (i : ℕ). get_or a.lanes.items i c.index.result.now) c.from.ensures) in
     let here : is_lane c.args.lane (lane_in a.plan c.args.place) ≡ true = ap (is_lane c.args.lane) seat ∙ itself c.args.lane in
     c.is_at_loss.ensures ∙ ap₂ is_ring_at_loss c.of.ensures (sym ring)
-    ∙ sym (ap (λ (b : Bool). b && is_ring_at_loss (in_place a.last c.args.place) (ring_in (view_of a) c.args.lane)) here)
+    ∙ sym (ap (λ (b : Bool). b && is_ring_at_loss (in_place a.last c.args.place) (ring_in (hall_view a) c.args.lane)) here)
     ∙ ap (λ hall. is_waited_at hall c.args.lane c.args.place) c.self.view_is

@@ -1,7 +1,7 @@
 use Rattle.std.proofs.Common.{ℕ, ◌<◌, ◌≤◌, ◌∷◌, length, sym, subst, ◌∙◌, arith}
 use Rattle.pel_model.specs.History.{Post}
 use Rattle.hall_core.specs.Boxes.{IsQcifLane}
-use Rattle.hall_core.specs.Fields.{view_of}
+use Rattle.hall_core.specs.Fields.{hall_view}
 use Rattle.hall_core.specs.Hall.{HallView}
 use Rattle.hall_core.specs.Stands.{StandsFor}
 use Rattle.hall_core.proofs.Boxes.{post-qcif, given-qcif}
@@ -24,7 +24,7 @@ pub returns-clause-stands : goal.returns-clause-stands
 returns-clause-stands c p coded postable H stands =
     let a = c.self.inside in
     let below = lane-inside a c.args.self.now c.from.result c.args.lane c.self.view_is c.requires.lane c.from.ensures in
-    subst (λ (k : ℕ). StandsFor (view_of (changed a c.from.result c.post.new.self)) (Post k p ∷ H)) c.from.ensures
+    subst (λ (k : ℕ). StandsFor (hall_view (changed a c.from.result c.post.new.self)) (Post k p ∷ H)) c.from.ensures
     (post-stands a H c.from.result p c.index_mut.result.now c.post.new.self c.is_refresh-refresh.result c.args.item c.self.invariant below c.index_mut.ensures.value
     c.post.ensures.held c.post.ensures.count
     (refresh-is c.deref.result.now c.is_refresh-refresh.result p c.is_refresh-refresh.ensures.refresh (c.deref.ensures ∙ coded)) coded

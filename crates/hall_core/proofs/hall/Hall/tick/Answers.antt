@@ -1,9 +1,9 @@
-use Rattle.std.proofs.Common.{◌≡◌, ℕ, ◌+◌, ◌∷◌, sym, ap, subst, ◌∙◌, arith}
+use Rattle.std.proofs.Common.{rules, ◌≡◌, ℕ, ◌+◌, ◌∷◌, sym, ap, subst, ◌∙◌, arith}
 use Rattle.pel_model.specs.declared.Quad.TheVariants.{One, Two, Three, Four}
 use Rattle.pel_model.specs.declared.note.TickNote.{TickNote}
 use Rattle.pel_model.specs.History.{Tick}
 use Rattle.pel_model.specs.Takes.{choice, waiting}
-use Rattle.hall_core.specs.Fields.{view_of}
+use Rattle.hall_core.specs.Fields.{hall_view}
 use Rattle.hall_core.specs.Hall.{HallView}
 use Rattle.hall_core.specs.Stands.{StandsFor}
 use Rattle.hall_core.specs.Taking.{behind_take, told_in, next_in, left_in, waiting_in}
@@ -28,68 +28,71 @@ take-taken_four-requires c = c.requires.hand Four
 abbrev stepped : HallView → ℕ → HallView
 stepped v k = record v { steps = v.steps + 1; total = v.total + k }
 
-pub returns-clause-stands : goal.returns-clause-stands
-returns-clause-stands c H stands =
-    let one = c.take-taken_one.ensures.hall in
-    let two = c.take-taken_two.ensures.hall ∙ ap (λ h. behind_take h Two) one in
-    let three = c.take-taken_three.ensures.hall ∙ ap (λ h. behind_take h Three) two in
-    let four = c.take-taken_four.ensures.hall ∙ ap (λ h. behind_take h Four) three in
-    let note : TickNote = record {
-      step = c.args.step;
-      total = c.self.inside.total + c.from.result;
-      taken_one = c.take-taken_one.result;
-      taken_two = c.take-taken_two.result;
-      taken_three = c.take-taken_three.result;
-      taken_four = c.take-taken_four.result;
-      waiting = c.waiting-waiting.result;
-    } in
-    subst (λ (v : HallView). StandsFor (stepped v c.from.result) (Tick note ∷ H)) (sym (c.self.view_is ∙ four))
-    (tick-stands c.args.self.now H stands c.from.result note (record {
-      is_step = sym c.from.ensures;
-      one = c.take-taken_one.ensures.told;
-      two = c.take-taken_two.ensures.told ∙ ap (λ h. told_in h Two) one;
-      three = c.take-taken_three.ensures.told ∙ ap (λ h. told_in h Three) two;
-      four = c.take-taken_four.ensures.told ∙ ap (λ h. told_in h Four) three;
-    }))
-
-pub returns-clause-legal : goal.returns-clause-legal
-returns-clause-legal c H stands legal =
-    let one = c.take-taken_one.ensures.hall in
-    let two = c.take-taken_two.ensures.hall ∙ ap (λ h. behind_take h Two) one in
-    let three = c.take-taken_three.ensures.hall ∙ ap (λ h. behind_take h Three) two in
-    let four = c.take-taken_four.ensures.hall ∙ ap (λ h. behind_take h Four) three in
-    let inside = c.self.view_is ∙ four in
-    let note : TickNote = record {
-      step = c.args.step;
-      total = c.self.inside.total + c.from.result;
-      taken_one = c.take-taken_one.result;
-      taken_two = c.take-taken_two.result;
-      taken_three = c.take-taken_three.result;
-      taken_four = c.take-taken_four.result;
-      waiting = c.waiting-waiting.result;
-    } in
-    let told : IsTold c.args.self.now H stands c.from.result note = record {
-      is_step = sym c.from.ensures;
-      one = c.take-taken_one.ensures.told;
-      two = c.take-taken_two.ensures.told ∙ ap (λ h. told_in h Two) one;
-      three = c.take-taken_three.ensures.told ∙ ap (λ h. told_in h Three) two;
-      four = c.take-taken_four.ensures.told ∙ ap (λ h. told_in h Four) three;
-    } in
-    let ticks = tick-stands c.args.self.now H stands c.from.result note told in
-    let total : c.self.inside.total ≡ c.args.self.now.total = ap (λ (v : HallView). v.total) inside in
-    let waits : waiting_in (stepped (view_of c.self.inside) c.from.result) ≡ waiting c.args.self.now.plan.lanes (Tick note ∷ H) =
-    subst (λ (v : HallView). waiting_in (stepped v c.from.result) ≡ waiting c.args.self.now.plan.lanes (Tick note ∷ H)) (sym inside)
-    (waiting-same (ticked c.args.self.now H stands c.from.result) (Tick note ∷ H) ticks) in (
-      legal,
-      sym stands.ended ∙ goes-on c.args.self.now (sym c.is_over.ensures ∙ c.if-is_over.false),
-      record {
-        low = c.requires.step.0;
-        high = c.requires.step.1;
-        total = omega (arith, total, stands.total, c.from.ensures);
-        takes = takes-told c.args.self.now H stands c.from.result note told;
-        waits = c.waiting-waiting.ensures ∙ waits;
-      },
-    )
+pub returns-clause-made : goal.returns-clause-made
+returns-clause-made c = record {
+  ended = search rules;
+  kept = search rules;
+  same = search rules;
+  stands = λ H stands.
+      let one = c.take-taken_one.ensures.hall in
+      let two = c.take-taken_two.ensures.hall ∙ ap (λ h. behind_take h Two) one in
+      let three = c.take-taken_three.ensures.hall ∙ ap (λ h. behind_take h Three) two in
+      let four = c.take-taken_four.ensures.hall ∙ ap (λ h. behind_take h Four) three in
+      let note : TickNote = record {
+        step = c.args.step;
+        total = c.self.inside.total + c.from.result;
+        taken_one = c.take-taken_one.result;
+        taken_two = c.take-taken_two.result;
+        taken_three = c.take-taken_three.result;
+        taken_four = c.take-taken_four.result;
+        waiting = c.waiting-waiting.result;
+      } in
+      subst (λ (v : HallView). StandsFor (stepped v c.from.result) (Tick note ∷ H)) (sym (c.self.view_is ∙ four))
+      (tick-stands c.args.self.now H stands c.from.result note (record {
+        is_step = sym c.from.ensures;
+        one = c.take-taken_one.ensures.told;
+        two = c.take-taken_two.ensures.told ∙ ap (λ h. told_in h Two) one;
+        three = c.take-taken_three.ensures.told ∙ ap (λ h. told_in h Three) two;
+        four = c.take-taken_four.ensures.told ∙ ap (λ h. told_in h Four) three;
+      }));
+  legal = λ H stands legal.
+      let one = c.take-taken_one.ensures.hall in
+      let two = c.take-taken_two.ensures.hall ∙ ap (λ h. behind_take h Two) one in
+      let three = c.take-taken_three.ensures.hall ∙ ap (λ h. behind_take h Three) two in
+      let four = c.take-taken_four.ensures.hall ∙ ap (λ h. behind_take h Four) three in
+      let inside = c.self.view_is ∙ four in
+      let note : TickNote = record {
+        step = c.args.step;
+        total = c.self.inside.total + c.from.result;
+        taken_one = c.take-taken_one.result;
+        taken_two = c.take-taken_two.result;
+        taken_three = c.take-taken_three.result;
+        taken_four = c.take-taken_four.result;
+        waiting = c.waiting-waiting.result;
+      } in
+      let told : IsTold c.args.self.now H stands c.from.result note = record {
+        is_step = sym c.from.ensures;
+        one = c.take-taken_one.ensures.told;
+        two = c.take-taken_two.ensures.told ∙ ap (λ h. told_in h Two) one;
+        three = c.take-taken_three.ensures.told ∙ ap (λ h. told_in h Three) two;
+        four = c.take-taken_four.ensures.told ∙ ap (λ h. told_in h Four) three;
+      } in
+      let ticks = tick-stands c.args.self.now H stands c.from.result note told in
+      let total : c.self.inside.total ≡ c.args.self.now.total = ap (λ (v : HallView). v.total) inside in
+      let waits : waiting_in (stepped (hall_view c.self.inside) c.from.result) ≡ waiting c.args.self.now.plan.lanes (Tick note ∷ H) =
+      subst (λ (v : HallView). waiting_in (stepped v c.from.result) ≡ waiting c.args.self.now.plan.lanes (Tick note ∷ H)) (sym inside)
+      (waiting-same (ticked c.args.self.now H stands c.from.result) (Tick note ∷ H) ticks) in (
+        legal,
+        sym stands.ended ∙ goes-on c.args.self.now (sym c.is_over.ensures ∙ c.if-is_over.false),
+        record {
+          low = c.requires.step.0;
+          high = c.requires.step.1;
+          total = omega (arith, total, stands.total, c.from.ensures);
+          takes = takes-told c.args.self.now H stands c.from.result note told;
+          waits = c.waiting-waiting.ensures ∙ waits;
+        },
+      );
+}
 
 pub returns-clause-taken : goal.returns-clause-taken
 returns-clause-taken c H stands One =
