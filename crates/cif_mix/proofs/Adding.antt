@@ -10,7 +10,7 @@ use Rattle.pel_model.specs.Composed.{or_blank}
 use Rattle.pel_model.specs.Records.{Group, Picture, with_group}
 use Rattle.pel_model.specs.Regions.{blank, renumbered, empty_group}
 use Rattle.pel_model.specs.Text.{group_header}
-use Rattle.cif_mix.specs.Rows.{MayGrow, MayCopy, IsAdded}
+use Rattle.cif_mix.specs.Rows.{CanGrow, CanGive, IsAdded}
 use Rattle.cif_mix.specs.Shows.{Shows}
 
 bits-grown : (old : Coding) (quant : ℕ) (bits : List Bool) (marks : List Mark) → length (grown old quant bits marks).bits ≡ length old.bits + 26 + length bits
@@ -40,7 +40,7 @@ copied-is picture old new i cif qcif copies (Some q) whole shows old_is =
     copies whole q (old_is ∙ ap (λ (f : Format). coding f whole) (sym cif)) (shows.0 ∙ ap (λ (f : Format). coding f q) (sym qcif))
     ∙ ap (λ (f : Format). coding f (with_group whole (renumbered (next_number old) (group_in q i)))) cif
 
-pub add-copied : (picture old new : Coding) (i : ℕ) → MayGrow old → MayCopy picture i old
+pub add-copied : (picture old new : Coding) (i : ℕ) → CanGrow old → CanGive picture i old
     → new ≡ grown old (view_of picture i).quant (macroblock_bits picture i) (marks_in picture i) → Copies picture old new i → IsAdded true picture i old new
 add-copied picture old new i grows may grown_is copies =
     let view = view_of picture i in
@@ -48,7 +48,7 @@ add-copied picture old new i grows may grown_is copies =
     ap (λ (c : Coding). length c.bits) grown_is ∙ bits-grown old view.quant (macroblock_bits picture i) (marks_in picture i) in
     record {
       cif = ap (λ (c : Coding). c.format) grown_is ∙ grows.cif;
-      begun = omega (arith, grows.begun, long);
+      begun = omega (arith, grows.next.begun, long);
       more = ap (λ (c : Coding). length c.groups) grown_is ∙ groups-grown old view.quant (macroblock_bits picture i) (marks_in picture i);
       long = omega (arith, long, length-take view.len (drop view.from picture.bits));
       is = copied-is picture old new i grows.cif may.qcif copies;
@@ -78,12 +78,12 @@ emptied-is picture old new i less cif empties (Some q) whole shows old_is = absu
     some-none : (q : Picture) → Some q ≡ None → Prim.⊥
     some-none q e = cc
 
-pub add-empty : (picture old new : Coding) (i : ℕ) → i < 3 → MayGrow old → new ≡ grown old 1 [] [] → Empties old new → IsAdded false picture i old new
+pub add-empty : (picture old new : Coding) (i : ℕ) → i < 3 → CanGrow old → new ≡ grown old 1 [] [] → Empties old new → IsAdded false picture i old new
 add-empty picture old new i less grows grown_is empties =
     let long : length new.bits ≡ length old.bits + 26 + 0 = ap (λ (c : Coding). length c.bits) grown_is ∙ bits-grown old 1 [] [] in
     record {
       cif = ap (λ (c : Coding). c.format) grown_is ∙ grows.cif;
-      begun = omega (arith, grows.begun, long);
+      begun = omega (arith, grows.next.begun, long);
       more = ap (λ (c : Coding). length c.groups) grown_is ∙ groups-grown old 1 [] [];
       long = omega (arith, long);
       is = emptied-is picture old new i less grows.cif empties;

@@ -11,9 +11,9 @@ use Rattle.pel_model.specs.declared.Quad.TheVariants.{One, Two, Three, Four}
 use Rattle.pel_model.specs.Composed.{or_blank, composed_of}
 use Rattle.pel_model.specs.Records.{Group, Picture}
 use Rattle.pel_model.specs.Regions.{composed}
-use Rattle.pel_model.specs.Valid.{IsValid}
+use Rattle.pel_model.specs.Valid.{IsValid, group_count}
 use Rattle.cif_mix.specs.Rows.{with_rows, IsAtRow, IsRowAdded}
-use Rattle.cif_mix.specs.Shows.{Shows}
+use Rattle.cif_mix.specs.Shows.{Shows, IsComposed}
 
 -- a picture that has no groups yet
 abbrev pub begun : ℕ → Picture
@@ -35,11 +35,16 @@ module _ (one two three four : Bool) (first second third fourth : Coding) where
       let six : length mid.groups ≡ 6 = row.more ∙ ap (λ (c : Coding). length c.groups + 6) is in
       record { cif = row.cif; begun = row.begun; row = inr six; room = omega (arith, row.long, long, six) }
 
-  pub whole-within : (start mid new : Coding) (tr : ℕ) → start ≡ coding Cif (begun tr) → IsRowAdded one first two second start mid → IsRowAdded three third four fourth mid new
-      → length new.bits ≤ 262048
-  whole-within start mid new tr is upper lower =
+  pub whole-composed : (start mid new : Coding) (tr : ℕ) → start ≡ coding Cif (begun tr) → IsRowAdded one first two second start mid
+      → IsRowAdded three third four fourth mid new → IsComposed new
+  whole-composed start mid new tr is upper lower =
       let long : length start.bits ≡ 32 = ap (λ (c : Coding). length c.bits) is ∙ length-text Cif (begun tr) in
-      omega (arith, long, upper.long, lower.long)
+      let none : length start.groups ≡ 0 = ap (λ (c : Coding). length c.groups) is in
+      record {
+        cif = lower.cif;
+        finished = (lower.begun, omega (arith, lower.more, upper.more, none, ap group_count lower.cif));
+        within = omega (arith, long, upper.long, lower.long);
+      }
 
 abbrev AreRows : (tr : ℕ) → (one two three four : Picture) → Type 0
 AreRows tr one two three four = with_rows (with_rows (begun tr) one two 0 3) three four 6 3 ≡ composed tr one two three four

@@ -2,3 +2,4 @@ pub mod Adding
 pub mod Boxes
 pub mod Composing
 pub mod RowLaws
+pub mod Taking

@@ -10,7 +10,7 @@ use Rattle.pel_model.specs.Composed.{or_blank}
 use Rattle.pel_model.specs.Records.{Group, Picture, with_group}
 use Rattle.pel_model.specs.Regions.{number_in, renumbered}
 use Rattle.pel_model.specs.Valid.{group_count, group_numbers, limit}
-use Rattle.cif_mix.specs.Rows.{IsFinishedQcif, bits_below, IsBox, MayGrow, MayCopy, bits_shown, IsAdded, with_rows, IsAtRow, IsRowAdded}
+use Rattle.cif_mix.specs.Rows.{IsFinishedQcif, bits_below, IsBox, CanGrow, CanGive, CanTake, bits_shown, IsAdded, with_rows, IsAtRow, IsRowAdded}
 use Rattle.cif_mix.specs.Shows.{MayBeShown, Shows}
 
 -- ---- what is copied next
@@ -22,18 +22,23 @@ next-is whole cif below =
 
 may-copy : (picture whole : Coding) (i : ℕ) (place : Quad) → IsFinishedQcif picture → IsBox picture → i < 3 → whole.format ≡ Cif → length whole.groups < 12
     → length whole.groups + 1 ≡ number_in place (2 * i + 1) → length whole.bits + (view_of picture i).len + 26 * (12 - length whole.groups) ≤ 262144
-    → MayCopy picture i whole
+    → CanGive picture i whole
 may-copy picture whole i place finished box less cif below number room = record {
-  finished = finished.1;
   qcif = finished.0;
-  there = omega (arith, finished.1.1 ∙ ap group_count finished.0);
-  belongs =
-      subst (λ (f : Format). Belongs f (view_of picture i).number whole.format (next_number whole)) (sym finished.0)
-      (subst (λ (f : Format). Belongs Qcif (view_of picture i).number f (next_number whole)) (sym cif)
-      (place, next-is whole cif below ∙ number ∙ ap (number_in place) (sym (box.numbers i less))));
-  room =
-      subst (λ (f : Format). length whole.bits + (view_of picture i).len + 26 * (group_count f - length whole.groups) ≤ limit f) (sym cif) room;
+  copied = record {
+    finished = finished.1;
+    there = omega (arith, finished.1.1 ∙ ap group_count finished.0);
+    belongs =
+        subst (λ (f : Format). Belongs f (view_of picture i).number whole.format (next_number whole)) (sym finished.0)
+        (subst (λ (f : Format). Belongs Qcif (view_of picture i).number f (next_number whole)) (sym cif)
+        (place, next-is whole cif below ∙ number ∙ ap (number_in place) (sym (box.numbers i less))));
+    room =
+        subst (λ (f : Format). length whole.bits + (view_of picture i).len + 26 * (group_count f - length whole.groups) ≤ limit f) (sym cif) room;
+  };
 }
+
+grows-below : (whole : Coding) → CanGrow whole → length whole.groups < 12
+grows-below whole grows = omega (arith, grows.next.next, ap group_count grows.cif)
 
 -- the macroblock bits of the first n groups of a picture, where it is shown
 abbrev pub shown_below : Bool → Coding → ℕ → ℕ
@@ -81,53 +86,67 @@ module _ (show_left : Bool) (left : Coding) (show_right : Bool) (right : Coding)
   few-groups (inl none) = omega (arith, none)
   few-groups (inr six) = omega (arith, six)
 
-  pub left-grows : (now : Coding) (i : ℕ) → IsAtRow old → i < 3 → Pair now i → MayGrow now
+  left-grows : (now : Coding) (i : ℕ) → IsAtRow old → i < 3 → Pair now i → CanGrow now
   left-grows now i row less pair = record {
     cif = pair.cif;
-    begun = pair.begun;
-    next = omega (arith, pair.more, few-groups row.row);
+    next = record { begun = pair.begun; next = omega (arith, ap group_count pair.cif, pair.more, few-groups row.row) };
   }
 
-  pub right-grows : (now mid : Coding) (i : ℕ) → IsAtRow old → i < 3 → Pair now i → IsAdded show_left left i now mid → MayGrow mid
+  right-grows : (now mid : Coding) (i : ℕ) → IsAtRow old → i < 3 → Pair now i → IsAdded show_left left i now mid → CanGrow mid
   right-grows now mid i row less pair added = record {
     cif = added.cif;
-    begun = added.begun;
-    next = omega (arith, added.more, pair.more, few-groups row.row);
+    next = record { begun = added.begun; next = omega (arith, ap group_count added.cif, added.more, pair.more, few-groups row.row) };
   }
 
   copies-left : (now : Coding) (i : ℕ) → (length old.groups ≡ 0) ⊎ (length old.groups ≡ 6) → i < 3 → Pair now i → IsFinishedQcif left → IsBox left → length now.groups < 12
-      → length now.bits + (view_of left i).len + 26 * (12 - length now.groups) ≤ 262144 → MayCopy left i now
+      → length now.bits + (view_of left i).len + 26 * (12 - length now.groups) ≤ 262144 → CanGive left i now
   copies-left now i (inl none) less pair finished box below room =
       may-copy left now i One finished box less pair.cif below (omega (arith, pair.more, none)) room
   copies-left now i (inr six) less pair finished box below room =
       may-copy left now i Three finished box less pair.cif below (omega (arith, pair.more, six)) room
 
   copies-right : (now mid : Coding) (i : ℕ) → (length old.groups ≡ 0) ⊎ (length old.groups ≡ 6) → i < 3 → Pair now i → IsAdded show_left left i now mid → IsFinishedQcif right → IsBox right
-      → length mid.groups < 12 → length mid.bits + (view_of right i).len + 26 * (12 - length mid.groups) ≤ 262144 → MayCopy right i mid
+      → length mid.groups < 12 → length mid.bits + (view_of right i).len + 26 * (12 - length mid.groups) ≤ 262144 → CanGive right i mid
   copies-right now mid i (inl none) less pair added finished box below room =
       may-copy right mid i Two finished box less added.cif below (omega (arith, added.more, pair.more, none)) room
   copies-right now mid i (inr six) less pair added finished box below room =
       may-copy right mid i Four finished box less added.cif below (omega (arith, added.more, pair.more, six)) room
 
-  pub left-copies : (now : Coding) (i : ℕ) → IsAtRow old → i < 3 → Pair now i → MayBeShown show_left left → (IsFinishedQcif left → IsBox left) → (IsFinishedQcif right → IsBox right)
-      → MayBeShown show_right right → show_left ≡ true → MayCopy left i now
+  left-copies : (now : Coding) (i : ℕ) → IsAtRow old → i < 3 → Pair now i → MayBeShown show_left left → (IsFinishedQcif left → IsBox left) → (IsFinishedQcif right → IsBox right)
+      → MayBeShown show_right right → show_left ≡ true → CanGive left i now
   left-copies now i row less pair may box box_right may_right shown =
       let this : shown_below show_left left i + (view_of left i).len ≤ 65426 =
       subst (λ (s : Bool). shown_below s left i + (view_of left i).len ≤ 65426) (sym shown) (below-three left i (box (may shown)) less) in
       let other : shown_below show_right right i + bits_shown show_right right i ≤ 65426 = shown-few show_right right i (λ s. box_right (may_right s)) less in
       copies-left now i row.row less pair (may shown) (box (may shown))
-      (left-grows now i row less pair).next
+      (grows-below now (left-grows now i row less pair))
       (omega (arith, this, other, pair.long, pair.more, row.room, few-groups row.row))
 
-  pub right-copies : (now mid : Coding) (i : ℕ) → IsAtRow old → i < 3 → Pair now i → IsAdded show_left left i now mid → MayBeShown show_left left → (IsFinishedQcif left → IsBox left)
-      → (IsFinishedQcif right → IsBox right) → MayBeShown show_right right → show_right ≡ true → MayCopy right i mid
+  right-copies : (now mid : Coding) (i : ℕ) → IsAtRow old → i < 3 → Pair now i → IsAdded show_left left i now mid → MayBeShown show_left left → (IsFinishedQcif left → IsBox left)
+      → (IsFinishedQcif right → IsBox right) → MayBeShown show_right right → show_right ≡ true → CanGive right i mid
   right-copies now mid i row less pair added may box box_right may_right shown =
       let this : shown_below show_right right i + (view_of right i).len ≤ 65426 =
       subst (λ (s : Bool). shown_below s right i + (view_of right i).len ≤ 65426) (sym shown) (below-three right i (box_right (may_right shown)) less) in
       let other : shown_below show_left left i + bits_shown show_left left i ≤ 65426 = shown-few show_left left i (λ s. box (may s)) less in
       copies-right now mid i row.row less pair added (may_right shown) (box_right (may_right shown))
-      (right-grows now mid i row less pair added).next
+      (grows-below mid (right-grows now mid i row less pair added))
       (omega (arith, this, other, pair.long, pair.more, added.long, added.more, row.room, few-groups row.row))
+
+  pub left-takes : (now : Coding) (i : ℕ) → IsAtRow old → i < 3 → Pair now i → MayBeShown show_left left → MayBeShown show_right right
+      → (IsFinishedQcif left → IsBox left) → (IsFinishedQcif right → IsBox right) → CanTake show_left left i now
+  left-takes now i row less pair may may_right box box_right = record {
+    there = less;
+    grows = left-grows now i row less pair;
+    gives = left-copies now i row less pair may box box_right may_right;
+  }
+
+  pub right-takes : (now mid : Coding) (i : ℕ) → IsAtRow old → i < 3 → Pair now i → IsAdded show_left left i now mid → MayBeShown show_left left
+      → MayBeShown show_right right → (IsFinishedQcif left → IsBox left) → (IsFinishedQcif right → IsBox right) → CanTake show_right right i mid
+  right-takes now mid i row less pair added may may_right box box_right = record {
+    there = less;
+    grows = right-grows now mid i row less pair added;
+    gives = right-copies now mid i row less pair added may box box_right may_right;
+  }
 
   -- both were added
   pub pair-more : (now mid new : Coding) (i : ℕ) → IsAtRow old → i < 3 → Pair now i → IsAdded show_left left i now mid → IsAdded show_right right i mid new → Pair new (i + 1)
@@ -145,8 +164,8 @@ module _ (show_left : Bool) (left : Coding) (show_right : Bool) (right : Coding)
             second.is r (with_group so_far (renumbered (next_number now) g)) shows_right (first.is l so_far shows_left (pair.is l r whole shows_left shows_right old_is))
             ∙ ap₂ (λ (n m : ℕ). coding Cif (with_group (with_group so_far (renumbered n g)) (renumbered m h)))
             {x = next_number now} {y = length old.groups + 2 * i + 1}
-            (next-is now pair.cif (left-grows now i row less pair).next ∙ omega (arith, pair.more))
-            (next-is mid first.cif (right-grows now mid i row less pair first).next ∙ omega (arith, first.more, pair.more));
+            (next-is now pair.cif (grows-below now (left-grows now i row less pair)) ∙ omega (arith, pair.more))
+            (next-is mid first.cif (grows-below mid (right-grows now mid i row less pair first)) ∙ omega (arith, first.more, pair.more));
       })
 
   pub row-added : (new : Coding) → Pair new 3 → (IsFinishedQcif left → IsBox left) → (IsFinishedQcif right → IsBox right) → MayBeShown show_left left → MayBeShown show_right right

@@ -1,12 +1,11 @@
 -- Inner contracts alone use this; nothing here has to be believed.
 -- A CIF picture that grows by the groups of two places, by turns.
 use Rattle.std.specs.Prelude.{◌≡◌, ◌⊎◌, ℕ, zero, suc, ◌+◌, ◌-◌, ◌*◌, ◌<◌, ◌≤◌, Bool, true, false, length, Option}
-use Rattle.h261_pic.specs.Coded.{Coding, coding, next_number, view_of, group_in, Belongs, IsFinished}
+use Rattle.h261_pic.specs.Coded.{Coding, coding, next_number, view_of, group_in, HasNextGroup, CanBeCopied, IsFinished}
 use Rattle.pel_model.specs.declared.Format.TheVariants.{Qcif, Cif}
 use Rattle.pel_model.specs.Composed.{or_blank}
 use Rattle.pel_model.specs.Records.{Picture, with_group}
 use Rattle.pel_model.specs.Regions.{renumbered}
-use Rattle.pel_model.specs.Valid.{group_count, limit}
 use Rattle.cif_mix.specs.Shows.{Shows}
 
 -- ---- a picture that is shown
@@ -26,17 +25,21 @@ pub record IsBox (box : Coding) : Type 0 where
 
 -- ---- a group more
 
-pub record MayGrow (whole : Coding) : Type 0 where
+-- a CIF picture that can get a group more
+pub record CanGrow (whole : Coding) : Type 0 where
   pub cif : whole.format ≡ Cif
-  pub begun : 0 < length whole.bits
-  pub next : length whole.groups < 12
+  pub next : HasNextGroup whole
 
-pub record MayCopy (picture : Coding) (i : ℕ) (whole : Coding) : Type 0 where
-  pub finished : IsFinished picture
+-- group `i` of a QCIF picture can be that group
+pub record CanGive (picture : Coding) (i : ℕ) (whole : Coding) : Type 0 where
   pub qcif : picture.format ≡ Qcif
-  pub there : i < length picture.groups
-  pub belongs : Belongs picture.format (view_of picture i).number whole.format (next_number whole)
-  pub room : length whole.bits + (view_of picture i).len + 26 * (group_count whole.format - length whole.groups) ≤ limit whole.format
+  pub copied : CanBeCopied picture i whole
+
+-- it can be where the picture is shown
+pub record CanTake (shown : Bool) (picture : Coding) (i : ℕ) (whole : Coding) : Type 0 where
+  pub there : i < 3
+  pub grows : CanGrow whole
+  pub gives : shown ≡ true → CanGive picture i whole
 
 -- the macroblock bits that are copied
 abbrev pub bits_shown : Bool → Coding → ℕ → ℕ
