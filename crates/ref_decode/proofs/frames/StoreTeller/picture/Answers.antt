@@ -14,5 +14,5 @@ returns g c p valid is =
 
 pub returns-in_err-write_planes : goal.returns-in_err-write_planes
 returns-in_err-write_planes g c p valid is =
-    put-front c.from_residual.result c.in_err-write_planes.field-0 c.args.self.now c.show.new.self c.args._number p _ _ c.show.ensures.format (c.show.ensures.decoded p valid is) c.from_residual.ensures.0
+    put-front c.from_residual.result c.in_err-write_planes.field-0.0 c.args.self.now c.show.new.self c.args._number p _ _ c.show.ensures.format (c.show.ensures.decoded p valid is) c.from_residual.ensures.0
     c.in_err-write_planes.ensures
