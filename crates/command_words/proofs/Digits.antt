@@ -1,20 +1,18 @@
 -- Texts of one to thirteen digits, as clap and std read them.
-use Rattle.std.proofs.Common.{◌≡◌, ℕ, ◌+◌, ◌<◌, ◌≤◌, ◌^◌, ◌&&◌, List, [], ◌∷◌, Option, Some, None, Result, Ok, Err, Bool, true, false, refl, ap, sym, ◌∙◌, length, arith, nat_le, cond, rules, subst}
-use Rattle.std.specs.Prelude.{option_map, unwrap_or}
+use Rattle.std.proofs.Common.{◌≡◌, ℕ, ◌<◌, ◌≤◌, ◌^◌, ◌&&◌, Option, Some, None, Result, Ok, Err, Bool, true, false, refl, ap, sym, length, arith, nat_le, cond, rules, subst}
+use Rattle.std.specs.Prelude.{option_map}
 use Rattle.std.specs.Option.{option_map_or}
 use Rattle.std.proofs.lemmas.Bool.Decides.{nat_tests}
 use Rattle.std.proofs.lemmas.Str.Parse.{IsNumeralModel, numerals_by_value, digits_value_short, not_in_digits, without_leading_plus_none, parse_digits}
 use Rattle.std.specs.List.{list_all}
 use Rattle.std.specs.Char.{is_ascii_digit}
-use Rattle.std.specs.Str.Parse.{digits_value, AllDigits, IsNumeral, without_leading_plus, ParsesUnsigned}
-use Rattle.clap.specs.Values.{IsUnsignedIn, Accepts}
+use Rattle.std.specs.Str.Parse.{digits_value, IsNumeral, without_leading_plus, ParsesUnsigned}
+use Rattle.clap.specs.Values.{IsUnsignedIn}
 use Rattle.clap.specs.Matches.{ReadsOne}
 use Rattle.clap.specs.ValueTests.{accepts}
 use Rattle.clap.proofs.ValueTestLemmas.{accepts-Accepts, Accepts-accepts}
 use Rattle.clap.specs.declared.builder.value_parser.ValueParser.TheVariants.{Unsigned}
-use Rattle.command_words.specs.Options.{Text, Number, are_digits, number_in, number_or}
-use Rattle.command_words.specs.Given.{has_digits, passes}
-use Rattle.command_words.specs.Rows.{NumberRow}
+use Rattle.command_words.specs.Options.{Text, Number, are_digits, number_of_text, number_or}
 
 own : IsNumeralModel (λ ds. list_all is_ascii_digit ds ≡ true) (digits_value 10)
 own = numerals_by_value _ (search rules)
@@ -90,41 +88,17 @@ is_read None h e = cc
 is_read (Some t) h e = cc
 
 -- what is given, or the default, is the option's number
-in_range_is : (o : Number) (t : Text) → are_digits t ≡ true → o.low ≤ digits_value 10 t → digits_value 10 t ≤ o.high
-    → number_in o t ≡ Some (digits_value 10 t)
+pub in_range_is : (o : Number) (t : Text) → are_digits t ≡ true → o.low ≤ digits_value 10 t → digits_value 10 t ≤ o.high
+    → number_of_text o t ≡ Some (digits_value 10 t)
 in_range_is o t h above below =
     ap (λ b. cond b (Some (digits_value 10 t)) None)
     (and_true (are_digits t && nat_le o.low (digits_value 10 t)) (nat_le (digits_value 10 t) o.high)
     (and_true (are_digits t) (nat_le o.low (digits_value 10 t)) h (le_true _ _ above)) (le_true _ _ below))
 
--- an option's number and the row of it that a parse gives
-pub number_row : (o : Number) (otherwise : Text) (g row : Option Text) → row ≡ Some (unwrap_or g otherwise)
-    → digits_value 10 otherwise ≡ o.otherwise → are_digits otherwise ≡ true → nat_le o.low o.otherwise ≡ true → nat_le o.otherwise o.high ≡ true
-    → has_digits g ≡ true → passes (Unsigned o.low o.high) g ≡ true → NumberRow o g row
-number_row o otherwise None row is value well low high digits passed = record {
-  text = otherwise;
-  is = is;
-  digits = well;
-  low = rw value (true_le _ _ low);
-  high = rw value (true_le _ _ high);
-  number = ap Some (sym value);
-}
-number_row o otherwise (Some t) row is value well low high digits passed =
-    let range = accepts_in o.low o.high t digits passed in
-    record {
-      text = t;
-      is = is;
-      digits = digits;
-      low = range.0;
-      high = range.1;
-      number = in_range_is o t digits range.0 range.1;
-    }
-
 -- a number is of digits, and `clap` takes it
-pub number_taken : (o : Number) (g : Option Text) (n : ℕ) → number_or o g ≡ Some n
-    → (has_digits g ≡ true) × (passes (Unsigned o.low o.high) g ≡ true)
-number_taken o None n h = (refl, refl)
-number_taken o (Some t) n h =
+pub number_taken : (o : Number) (t : Text) (n : ℕ) → number_of_text o t ≡ Some n
+    → (are_digits t ≡ true) × (accepts false (Unsigned o.low o.high) t ≡ true)
+number_taken o t n h =
     go (are_digits t && nat_le o.low (digits_value 10 t) && nat_le (digits_value 10 t) o.high) refl h
   where
     go : (b : Bool) → (are_digits t && nat_le o.low (digits_value 10 t) && nat_le (digits_value 10 t) o.high) ≡ b

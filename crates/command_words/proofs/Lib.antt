@@ -1,9 +1,7 @@
 pub mod Finds
 pub mod Digits
-pub mod Formats
-pub mod Parsed
+pub mod OneValue
 pub mod Parts
 pub mod OneJob
-pub mod Results
-pub mod WorkedWords
 pub mod Jobs
+pub mod WorkedWords

@@ -1,32 +1,31 @@
 -- Words ask for at most one job.
-use Rattle.std.proofs.Common.{◌≡◌, ℕ, List, [], ◌∷◌, Option, Some, None, refl, ap, sym, subst, ◌∙◌, codes, true, false, Bool, slice_index, ◌==◌, arith}
+use Rattle.std.proofs.Common.{◌≡◌, ℕ, List, ◌∷◌, Option, Some, None, refl, ap, sym, subst, ◌∙◌, codes, false, slice_index, ◌==◌, arith}
 use Rattle.std.proofs.lemmas.Bool.Decides.{nat_tests}
 use Rattle.pel_model.specs.declared.Format.{Format}
 use Rattle.pel_model.specs.declared.Format.TheVariants.{Qcif, Cif}
-use Rattle.command_words.specs.declared.job.Job.{Job}
 use Rattle.command_words.specs.declared.job.Job.TheVariants.{Replay, Check, Decode, Make, Live}
-use Rattle.command_words.specs.declared.job.ReplayOptions.{ReplayOptions}
+use Rattle.command_words.specs.declared.job.PacketOptions.{PacketOptions}
 use Rattle.command_words.specs.declared.job.FormatOptions.{FormatOptions}
 use Rattle.command_words.specs.declared.job.MakeOptions.{MakeOptions}
 use Rattle.command_words.specs.declared.job.LiveOptions.{LiveOptions}
-use Rattle.command_words.specs.Options.{Text, Number, given, number}
-use Rattle.command_words.specs.Asks.{mtu, ssrc, seq, stamp, seed, ticks, lanes, turns, Asks, OneJob, IsCommand, IsFormat, HasReplay, HasMake, HasLive, format_name}
+use Rattle.command_words.specs.Options.{Text, Number, given, number_given}
+use Rattle.command_words.specs.Asks.{mtu, ssrc, seq, stamp, seed, ticks, lanes, turns, OneJob, IsCommand, IsFormat, HasPackets, HasMake, HasLive, format_name}
 
-one_number : (words : List Text) (o : Number) (m n : ℕ) → number words o ≡ Some m → number words o ≡ Some n → m ≡ n
+one_number : (words : List Text) (o : Number) (m n : ℕ) → number_given words o ≡ Some m → number_given words o ≡ Some n → m ≡ n
 one_number words o m n p q = let e : Some m ≡ Some n = sym p ∙ q in cc
 
-replay_of : ℕ → ℕ → ℕ → ℕ → ReplayOptions
-replay_of a b c d = record { mtu = a; ssrc = b; seq = c; stamp = d }
+packets_of : ℕ → ℕ → ℕ → ℕ → PacketOptions
+packets_of a b c d = record { mtu = a; ssrc = b; seq = c; stamp = d }
 
-same_replay : (a b : ReplayOptions) → a.mtu ≡ b.mtu → a.ssrc ≡ b.ssrc → a.seq ≡ b.seq → a.stamp ≡ b.stamp → a ≡ b
-unfolding replay_of
-same_replay a b m r q t =
-    ap (λ x. replay_of x a.ssrc a.seq a.stamp) m ∙ (ap (λ x. replay_of b.mtu x a.seq a.stamp) r
-    ∙ (ap (λ x. replay_of b.mtu b.ssrc x a.stamp) q ∙ ap (λ x. replay_of b.mtu b.ssrc b.seq x) t))
+same_packets : (a b : PacketOptions) → a.mtu ≡ b.mtu → a.ssrc ≡ b.ssrc → a.seq ≡ b.seq → a.stamp ≡ b.stamp → a ≡ b
+unfolding packets_of
+same_packets a b m r q t =
+    ap (λ x. packets_of x a.ssrc a.seq a.stamp) m ∙ (ap (λ x. packets_of b.mtu x a.seq a.stamp) r
+    ∙ (ap (λ x. packets_of b.mtu b.ssrc x a.stamp) q ∙ ap (λ x. packets_of b.mtu b.ssrc b.seq x) t))
 
-one_replay : (words : List Text) (a b : ReplayOptions) → HasReplay words a → HasReplay words b → a ≡ b
-one_replay words a b p q =
-    same_replay a b (one_number words mtu a.mtu b.mtu p.mtu q.mtu) (one_number words ssrc a.ssrc b.ssrc p.ssrc q.ssrc)
+one_packets : (words : List Text) (a b : PacketOptions) → HasPackets words a → HasPackets words b → a ≡ b
+one_packets words a b p q =
+    same_packets a b (one_number words mtu a.mtu b.mtu p.mtu q.mtu) (one_number words ssrc a.ssrc b.ssrc p.ssrc q.ssrc)
     (one_number words seq a.seq b.seq p.seq q.seq) (one_number words stamp a.stamp b.stamp p.stamp q.stamp)
 
 make_of : ℕ → ℕ → ℕ → MakeOptions
@@ -42,7 +41,7 @@ one_make words a b p q =
     same_make a b (one_number words seed a.seed b.seed p.seed q.seed) (one_number words ticks a.ticks b.ticks p.ticks q.ticks)
     (one_number words lanes a.lanes b.lanes p.lanes q.lanes)
 
-live_of : List Text → Text → ReplayOptions → ℕ → LiveOptions
+live_of : List Text → Text → PacketOptions → ℕ → LiveOptions
 live_of a b c d = record { lanes = a; chair = b; packets = c; turns = d }
 
 same_live : (a b : LiveOptions) → a.lanes ≡ b.lanes → a.chair ≡ b.chair → a.packets ≡ b.packets → a.turns ≡ b.turns → a ≡ b
@@ -57,7 +56,7 @@ one_thing o a b p q = let e : Some a ≡ Some b = sym p ∙ q in cc
 one_live : (words : List Text) (a b : LiveOptions) → HasLive words a → HasLive words b → a ≡ b
 one_live words a b p q =
     same_live a b (one_thing _ a.lanes b.lanes p.lanes q.lanes) (one_thing _ a.chair b.chair p.chair q.chair)
-    (one_replay words a.packets b.packets p.packets q.packets) (one_number words turns a.turns b.turns p.turns q.turns)
+    (one_packets words a.packets b.packets p.packets q.packets) (one_number words turns a.turns b.turns p.turns q.turns)
 
 pub one_name : (f g : Format) → format_name f ≡ format_name g → f ≡ g
 one_name Qcif Qcif e = refl
@@ -94,7 +93,7 @@ differs c d e ne =
 pub one_job : OneJob
 one_job words (Replay a) (Replay b) p q =
     let same = one_list words _ _ _ p.0 q.0 p.1 q.1 in
-    ap Replay (one_replay q.0 a b (subst (λ l. HasReplay l a) same p.2) q.2)
+    ap Replay (one_packets q.0 a b (subst (λ l. HasPackets l a) same p.2) q.2)
 one_job words (Check a) (Check b) p q =
     let same = one_list words _ _ _ p.0 q.0 p.1 q.1 in
     ap Check (one_format_option q.0 Qcif _ a b (subst (λ l. IsFormat Qcif (given l (codes "format")) a.format) same p.2) q.2)

@@ -1,13 +1,13 @@
 -- Which words ask for which job. The words are those after the program's name: a command, and then its options.
-use Rattle.std.specs.Prelude.{◌≡◌, ◌≤◌, ℕ, Bool, true, Option, Some, None, List, [], ◌∷◌, codes, length}
+use Rattle.std.specs.Prelude.{◌≡◌, ◌≤◌, ℕ, true, Option, Some, None, List, [], ◌∷◌, codes, length}
 use Rattle.pel_model.specs.declared.Format.{Format}
 use Rattle.pel_model.specs.declared.Format.TheVariants.{Qcif, Cif}
 use Rattle.command_words.specs.declared.job.Job.{Job}
 use Rattle.command_words.specs.declared.job.Job.TheVariants.{Replay, Check, Decode, Make, Live}
-use Rattle.command_words.specs.declared.job.ReplayOptions.{ReplayOptions}
+use Rattle.command_words.specs.declared.job.PacketOptions.{PacketOptions}
 use Rattle.command_words.specs.declared.job.MakeOptions.{MakeOptions}
 use Rattle.command_words.specs.declared.job.LiveOptions.{LiveOptions}
-use Rattle.command_words.specs.Options.{Text, Number, are_options, given, number}
+use Rattle.command_words.specs.Options.{Text, Number, are_options, given, number_given}
 use Rattle.command_words.specs.Names.{name, names}
 
 abbrev pub number_option : Text → ℕ → ℕ → ℕ → Number
@@ -59,23 +59,23 @@ pub record IsCommand (words : List Text) (command : Text) (names : List Text) (o
   pub whole : words ≡ command ∷ options
   pub formed : are_options names options ≡ true
 
-pub record HasReplay (words : List Text) (o : ReplayOptions) : Type 0 where
-  pub mtu : number words mtu ≡ Some o.mtu
-  pub ssrc : number words ssrc ≡ Some o.ssrc
-  pub seq : number words seq ≡ Some o.seq
-  pub stamp : number words stamp ≡ Some o.stamp
+pub record HasPackets (words : List Text) (o : PacketOptions) : Type 0 where
+  pub mtu : number_given words mtu ≡ Some o.mtu
+  pub ssrc : number_given words ssrc ≡ Some o.ssrc
+  pub seq : number_given words seq ≡ Some o.seq
+  pub stamp : number_given words stamp ≡ Some o.stamp
 
 pub record HasMake (words : List Text) (o : MakeOptions) : Type 0 where
-  pub seed : number words seed ≡ Some o.seed
-  pub ticks : number words ticks ≡ Some o.ticks
-  pub lanes : number words lanes ≡ Some o.lanes
+  pub seed : number_given words seed ≡ Some o.seed
+  pub ticks : number_given words ticks ≡ Some o.ticks
+  pub lanes : number_given words lanes ≡ Some o.lanes
 
 -- the names of the lanes and of the chair have to be given
 pub record HasLive (words : List Text) (o : LiveOptions) : Type 0 where
   pub lanes : names words (codes "lanes") ≡ Some o.lanes
   pub chair : name words (codes "chair") ≡ Some o.chair
-  pub packets : HasReplay words o.packets
-  pub turns : number words turns ≡ Some o.turns
+  pub packets : HasPackets words o.packets
+  pub turns : number_given words turns ≡ Some o.turns
 
 abbrev pub format_name : Format → Text
 format_name Qcif = codes "qcif"
@@ -89,7 +89,7 @@ IsFormat otherwise (Some text) format = text ≡ format_name format
 -- the words ask for the job
 abbrev pub Asks : List Text → Job → Type 0
 Asks words (Replay o) =
-    (options : List Text) × IsCommand words (codes "replay") replay_names options × HasReplay options o
+    (options : List Text) × IsCommand words (codes "replay") replay_names options × HasPackets options o
 Asks words (Check o) =
     (options : List Text) × IsCommand words (codes "check") format_names options
     × IsFormat Qcif (given options (codes "format")) o.format

@@ -1,7 +1,5 @@
 pub mod Options
 pub mod Names
 pub mod Asks
-pub mod Given
-pub mod Commands
+pub mod Numbers
 pub mod Answers
-pub mod Rows

@@ -7,14 +7,15 @@ abbrev pub comma : ℕ
 comma = 44
 
 -- the parts with one octet more at the front of the first
-abbrev pub grown : ℕ → List Text → List Text
-grown octet [] = (octet ∷ []) ∷ []
-grown octet (part ∷ parts) = (octet ∷ part) ∷ parts
+abbrev pub prepended : ℕ → List Text → List Text
+prepended octet [] = (octet ∷ []) ∷ []
+prepended octet (part ∷ parts) = (octet ∷ part) ∷ parts
 
 -- what stands between the commas of a text
-abbrev pub parts : Text → List Text
-parts [] = [] ∷ []
-parts (octet ∷ text) = if octet == comma then [] ∷ parts text else grown octet (parts text)
+abbrev pub between_commas : Text → List Text
+between_commas [] = [] ∷ []
+between_commas (octet ∷ text) =
+    if octet == comma then [] ∷ between_commas text else prepended octet (between_commas text)
 
 -- a name is not empty
 abbrev pub is_name : Text → Bool
@@ -30,7 +31,7 @@ are_names names = nat_le (length names) 16 && list_all is_name names
 
 abbrev pub names_in : Option Text → Option (List Text)
 names_in None = None
-names_in (Some text) = if are_names (parts text) then Some (parts text) else None
+names_in (Some text) = if are_names (between_commas text) then Some (between_commas text) else None
 
 -- the option's name, where the words have one
 abbrev pub name : List Text → Text → Option Text

@@ -14,22 +14,22 @@ abbrev pub start_of : Text → Text
 start_of name = (codes "--" ++ name) ++ codes "="
 
 -- the word begins so
-abbrev pub begins : Text → Text → Bool
-begins start word = bytes_eq start (take (length start) word)
+abbrev pub begins_with : Text → Text → Bool
+begins_with start word = bytes_eq start (take (length start) word)
 
 -- the word gives the option of this name
-abbrev pub gives : Text → Text → Bool
-gives name = begins (start_of name)
+abbrev pub gives_option : Text → Text → Bool
+gives_option name = begins_with (start_of name)
 
 -- each word gives an option of these names, and no two words give the same one
 abbrev pub are_options : List Text → List Text → Bool
 are_options names words =
-    list_all (λ word. list_any (λ name. gives name word) names) words
-    && list_all (λ name. nat_le (count_by (gives name) words) 1) names
+    list_all (λ word. list_any (λ name. gives_option name word) names) words
+    && list_all (λ name. nat_le (count_by (gives_option name) words) 1) names
 
 -- what the words give to the option: what stands behind `=`, if a word gives it at all
 abbrev pub given : List Text → Text → Option Text
-given words name = option_map (drop (length (start_of name))) (find (gives name) words)
+given words name = option_map (drop (length (start_of name))) (find (gives_option name) words)
 
 -- one to thirteen decimal digits
 abbrev pub are_digits : Text → Bool
@@ -43,15 +43,15 @@ pub record Number : Type 0 where
   pub otherwise : ℕ
 
 -- the number that the text spells, where the option takes it
-abbrev pub number_in : Number → Text → Option ℕ
-number_in option text =
+abbrev pub number_of_text : Number → Text → Option ℕ
+number_of_text option text =
     let n = digits_value 10 text in
     if are_digits text && nat_le option.low n && nat_le n option.high then Some n else None
 
 abbrev pub number_or : Number → Option Text → Option ℕ
 number_or option None = Some option.otherwise
-number_or option (Some text) = number_in option text
+number_or option (Some text) = number_of_text option text
 
 -- the option's number, where the words have one
-abbrev pub number : List Text → Number → Option ℕ
-number words option = number_or option (given words option.name)
+abbrev pub number_given : List Text → Number → Option ℕ
+number_given words option = number_or option (given words option.name)

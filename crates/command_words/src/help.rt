@@ -1,9 +1,14 @@
 //! What a person is told of a command. Its options come from the table that the words are read by.
 
+ghost use Rattle.std.specs.Prelude.{◌≡◌, ◌≢◌, MatchOption};
+ghost use Rattle.command_words.specs.declared.help.Command.{Command};
+ghost use Rattle.command_words.specs.Answers.{name_of_command};
+
 use crate::table::{
     CHAIR_NAME, CHECK_FORMAT, DECODE_FORMAT, FORMAT_START, FormatOption, LANE_NAMES, LANES, MTU,
     NameOption, NumberOption, SEED, SEQ, SSRC, STAMP, TICKS, TURNS,
 };
+use pel_model::Format;
 use std::fmt::{Display, Formatter, Result, Write};
 
 /// A command, as a person is told of it: it shows as some lines of text, each ended by LF, with what it reads and writes, its
@@ -17,9 +22,34 @@ pub enum Command {
     Live,
 }
 
+/// The commands, in the order in which a person is told of them.
+pub const COMMANDS: [Command; 5] = [
+    Command::Replay,
+    Command::Check,
+    Command::Decode,
+    Command::Make,
+    Command::Live,
+];
+
 impl Command {
+    /// The command of this name.
+    pub fn named(name: &str) -> Option<Command>
+        ensures { MatchOption result ((c : Command) → name.now ≢ name_of_command c) (λ c. name.now ≡ name_of_command c) }
+    {
+        match name {
+            "replay" => Some(Command::Replay),
+            "check" => Some(Command::Check),
+            "decode" => Some(Command::Decode),
+            "make" => Some(Command::Make),
+            "live" => Some(Command::Live),
+            _ => None,
+        }
+    }
+
     /// Its name, the first word.
-    pub fn name(self) -> &'static str {
+    pub fn name(self) -> &'static str
+        ensures { result.now ≡ name_of_command self }
+    {
         match self {
             Command::Replay => "replay",
             Command::Check => "check",
@@ -84,7 +114,10 @@ impl Display for NameOption {
 impl Display for FormatOption {
     fn fmt<W: Write>(&self, f: &mut Formatter<W>) -> Result {
         let about = self.about;
-        let otherwise = self.otherwise;
+        let otherwise = match self.otherwise {
+            Format::Qcif => "qcif",
+            Format::Cif => "cif",
+        };
         writeln!(
             f,
             "  {FORMAT_START}F  {about}: qcif or cif, {otherwise} if not given"

@@ -7,7 +7,7 @@ use pel_model::Format;
 #[derive(Debug, Drop)]
 pub enum Job<'a> {
     /// A conference file is composed into framed packets.
-    Replay(ReplayOptions),
+    Replay(PacketOptions),
     /// The pictures of framed packets are reported.
     Check(FormatOptions),
     /// The pictures of framed packets are decoded.
@@ -20,7 +20,7 @@ pub enum Job<'a> {
 
 /// How packets are written.
 #[derive(Clone, Copy, Debug, PartialEq, Eq)]
-pub struct ReplayOptions {
+pub struct PacketOptions {
     /// The most octets of a packet, 1,000 to 9,000.
     pub mtu: u16,
     /// The SSRC.
@@ -55,7 +55,7 @@ pub struct LiveOptions<'a> {
     pub lanes: Names<'a>,
     /// The name of what the chair's lines come from.
     pub chair: Name<'a>,
-    pub packets: ReplayOptions,
+    pub packets: PacketOptions,
     /// The most turns of lanes, chair and ticks together, 1 to 1,099,511,627,776.
     pub turns: u64,
 }

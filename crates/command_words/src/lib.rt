@@ -1,7 +1,6 @@
 //! The words after the program's name: which words ask for which job, and the help that tells a person.
 #![tactic(auto)]
 
-mod clap_edge;
 mod fault;
 mod given;
 mod help;
@@ -9,14 +8,15 @@ mod job;
 mod laws;
 mod live;
 mod names;
+mod number;
 mod reader;
 mod table;
 #[cfg(test)]
 mod tests;
 
 pub use fault::WordsFault;
-pub use help::Command;
-pub use job::{FormatOptions, Job, LiveOptions, MakeOptions, ReplayOptions};
+pub use help::{COMMANDS, Command};
+pub use job::{FormatOptions, Job, LiveOptions, MakeOptions, PacketOptions};
 pub use laws::one_job;
 pub use names::{Name, Names};
 pub use pel_model::Format;

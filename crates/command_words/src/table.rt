@@ -1,5 +1,7 @@
 //! The options: their names, ranges and defaults. What reads words and what tells a person of them both use this.
 
+use pel_model::Format;
+
 /// An option whose value is a number.
 #[derive(Clone, Copy)]
 pub struct NumberOption {
@@ -80,25 +82,22 @@ pub const LANES: NumberOption = NumberOption {
 /// An option whose value is `qcif` or `cif`.
 #[derive(Clone, Copy)]
 pub struct FormatOption {
-    /// The value where no word gives it, as a word would.
-    pub otherwise: &'static str,
+    /// The format where no word gives it.
+    pub otherwise: Format,
     /// What it is, for a person.
     pub about: &'static str,
 }
-
-/// The name of that option.
-pub const FORMAT_NAME: &str = "format";
 
 /// How a word begins that gives it.
 pub const FORMAT_START: &str = "--format=";
 
 pub const CHECK_FORMAT: FormatOption = FormatOption {
-    otherwise: "qcif",
+    otherwise: Format::Qcif,
     about: "format of the pictures",
 };
 
 pub const DECODE_FORMAT: FormatOption = FormatOption {
-    otherwise: "cif",
+    otherwise: Format::Cif,
     about: "format of the pictures",
 };
 

@@ -1,26 +1,35 @@
-use Rattle.std.proofs.Common.{◌≡◌, ◌∷◌, ◌∙◌, List, map, string_bytes, sym, subst, ap}
-use Rattle.command_words.specs.Asks.{Asks}
-use Rattle.command_words.specs.Answers.{Answers, command_name}
-use Rattle.command_words.specs.declared.job.Job.{Job}
-use Rattle.command_words.proofs.Jobs.{none_asked, no_command}
+-- The options that are not found, by the command.
+use Rattle.std.proofs.Common.{map, string_bytes}
+use Rattle.command_words.specs.Answers.{IsJobOf}
+use Rattle.command_words.proofs.Jobs.{passed_on, refuses_replay, refuses_check, refuses_decode, refuses_make, refuses_live}
 use Rattle.command_words.proofs.reader.read_job.Goals as goal
 
-pub returns-in-None : goal.returns-in-None
-returns-in-None c = none_asked string_bytes c.args.words.now c.in-None.ensures.cases
+pub returns-in_err-read_packets-in-Replay : goal.returns-in_err-read_packets-in-Replay
+returns-in_err-read_packets-in-Replay c =
+    let words = map string_bytes c.args.options.now in
+    passed_on (IsJobOf c.args.command words) c.from_residual.result _ c.from_residual.ensures.1
+    (refuses_replay c.args.command words _ c.in-Replay.is c.in_err-read_packets-in-Replay.ensures)
 
-pub returns-in-None-command_named : goal.returns-in-None-command_named
-returns-in-None-command_named c =
-    let texts : map string_bytes c.args.words.now ≡ string_bytes c.in-Some.name.now ∷ map string_bytes c.in-Some.options.now =
-    ap (map string_bytes) c.in-Some.ensures.cases.0 in
-    subst (λ l. (o : Job) → Asks l o → ⊥) (sym texts)
-    (no_command (string_bytes c.in-Some.name.now) (map string_bytes c.in-Some.options.now)
-    (λ k e. c.in-None-command_named.ensures k (c.as_str.ensures.value ∙ e)))
+pub returns-in_err-read_format-in-Check : goal.returns-in_err-read_format-in-Check
+returns-in_err-read_format-in-Check c =
+    let words = map string_bytes c.args.options.now in
+    passed_on (IsJobOf c.args.command words) c.from_residual-in_err-read_format-in-Check.result _ c.from_residual-in_err-read_format-in-Check.ensures.1
+    (refuses_check c.args.command words _ c.in-Check.is c.in_err-read_format-in-Check.ensures)
 
-pub returns-in-Some-command_named : goal.returns-in-Some-command_named
-returns-in-Some-command_named c =
-    let texts : map string_bytes c.args.words.now ≡ string_bytes c.in-Some.name.now ∷ map string_bytes c.in-Some.options.now =
-    ap (map string_bytes) c.in-Some.ensures.cases.0 in
-    let named : string_bytes c.in-Some.name.now ≡ command_name c.in-Some-command_named.command =
-    sym c.as_str.ensures.value ∙ c.in-Some-command_named.ensures in
-    subst (λ l. Answers l c.read_options.result) (sym (texts ∙ ap (λ n. n ∷ map string_bytes c.in-Some.options.now) named))
-    c.read_options.ensures
+pub returns-in_err-read_format-in-Decode : goal.returns-in_err-read_format-in-Decode
+returns-in_err-read_format-in-Decode c =
+    let words = map string_bytes c.args.options.now in
+    passed_on (IsJobOf c.args.command words) c.from_residual-in_err-read_format-in-Decode.result _ c.from_residual-in_err-read_format-in-Decode.ensures.1
+    (refuses_decode c.args.command words _ c.in-Decode.is c.in_err-read_format-in-Decode.ensures)
+
+pub returns-in_err-read_make-in-Make : goal.returns-in_err-read_make-in-Make
+returns-in_err-read_make-in-Make c =
+    let words = map string_bytes c.args.options.now in
+    passed_on (IsJobOf c.args.command words) c.from_residual-in_err-read_make-in-Make.result _ c.from_residual-in_err-read_make-in-Make.ensures.1
+    (refuses_make c.args.command words _ c.in-Make.is c.in_err-read_make-in-Make.ensures)
+
+pub returns-in_err-read_live-in-Live : goal.returns-in_err-read_live-in-Live
+returns-in_err-read_live-in-Live c =
+    let words = map string_bytes c.args.options.now in
+    passed_on (IsJobOf c.args.command words) c.from_residual-in_err-read_live-in-Live.result _ c.from_residual-in_err-read_live-in-Live.ensures.1
+    (refuses_live c.args.command words _ c.in-Live.is c.in_err-read_live-in-Live.ensures)

@@ -1,7 +1,7 @@
 use Rattle.clap.specs.Simple.{is_simple, built, app_of}
 use Rattle.clap.specs.Faults.{is_free_app}
 use Rattle.command_words.proofs.Digits.{both}
-use Rattle.command_words.proofs.clap_edge.parse.Goals as goal
+use Rattle.command_words.proofs.number.parse.Goals as goal
 
 pub returns-in-Ok : goal.returns-in-Ok
 returns-in-Ok c =
