@@ -2,7 +2,7 @@
 use Rattle.std.proofs.Common.{◌≡◌, ◌≢◌, ℕ, List, [], ◌∷◌, ◌++◌, Option, Some, length, refl, sym, ap, ap₂, subst, ◌∙◌, suc, inl, inr, ◌⊎◌}
 use Rattle.std.proofs.lemmas.List.Elements.{All-head, All-tail}
 use Rattle.command_words.specs.Options.{Text}
-use Rattle.io_edge.specs.House.{NamedOctets, TakesEntry, HasNone}
+use Rattle.io_edge.specs.Directory.{NamedOctets, TakesEntry, HasNone}
 use Rattle.bridge_cli.specs.Opening.{TakeEntries, MissesAt}
 
 entry : Text → Text → NamedOctets

@@ -1,3 +1,4 @@
 pub mod Openings
-pub mod Exact
 pub mod Living
+pub mod Exact
+pub mod Running

@@ -7,8 +7,9 @@ use Rattle.std.specs.Borrow.{Bor}
 use Rattle.command_words.specs.Options.{Text}
 use Rattle.io_edge.specs.Causes.{Rose}
 use Rattle.io_edge.specs.declared.edges.Failed.{Failed}
-use Rattle.io_edge.specs.House.{NamedOctets, TakesEntry, HasNone, Reaches}
-use Rattle.bridge_cli.specs.Opening.{House, TakeEntries, GivesAll, ReachesAll, Misses, FailsAt, IsUnopened, number_of_name}
+use Rattle.io_edge.specs.Directory.{NamedOctets, Directory, TakesEntry, HasNone, Reaches}
+use Rattle.io_edge.specs.Outside.{Input}
+use Rattle.bridge_cli.specs.Opening.{TakeEntries, GivesAll, ReachesAll, Misses, CannotOpen, IsUnopened, number_of_name}
 use Rattle.bridge_cli.specs.declared.status.Status.{Status}
 use Rattle.bridge_cli.specs.declared.status.Status.TheVariants as status
 
@@ -21,61 +22,65 @@ take_more [] name first house mid rest octets t one =
 take_more (n ∷ ns) name first house mid rest octets (f, more, next, is, here, behind) one =
     (f, more ++ first ∷ [], next, ap (λ o. o ++ first ∷ []) is, here, take_more ns name first next mid rest more behind one)
 
-gives_more : {S : Type 0} (left : S → Option Text) (names : List Text) (name : Text) (lefts : List (Option Text)) (src : S)
-    (o m n : Option (List NamedOctets)) → GivesAll names lefts o m → Reaches {E = Failed} left m n name (Ok src)
-    → GivesAll (names ++ name ∷ []) (lefts ++ left src ∷ []) o n
-gives_more left names name lefts src None m n all one = tt
-gives_more {S} left names name lefts src (Some house) m n (octets, rest, takes, is, now) one =
-    go (subst (λ x. Reaches {E = Failed} left x n name (Ok src)) now one)
+abbrev left_of : Input → Option Text
+left_of input = input.left
+
+gives_more : {S : Type 0} (tells : S → Input) (names : List Text) (name : Text) (opened : List Input) (src : S)
+    (o m n : Option (List NamedOctets)) → GivesAll names opened o m → Reaches {E = Failed} tells m n name (Ok src)
+    → GivesAll (names ++ name ∷ []) (opened ++ tells src ∷ []) o n
+gives_more tells names name opened src None m n all one = tt
+gives_more {S} tells names name opened src (Some house) m n (octets, rest, takes, is, now) one =
+    go (subst (λ x. Reaches {E = Failed} tells x n name (Ok src)) now one)
   where
-    go : Reaches {E = Failed} left (Some rest) n name (Ok src)
-        → GivesAll (names ++ name ∷ []) (lefts ++ left src ∷ []) (Some house) n
+    go : Reaches {E = Failed} tells (Some rest) n name (Ok src)
+        → GivesAll (names ++ name ∷ []) (opened ++ tells src ∷ []) (Some house) n
     go (first, after, entry, has, new) = (
       octets ++ first ∷ [],
       after,
       take_more names name first house rest after octets takes entry,
-      ap (λ l. l ++ left src ∷ []) is ∙ (ap (λ x. map Some octets ++ x ∷ []) has ∙ sym (map-append Some octets (first ∷ []))),
+      map-append left_of opened (tells src ∷ [])
+          ∙ (ap (λ l. l ++ (tells src).left ∷ []) is ∙ (ap (λ x. map Some octets ++ x ∷ []) has ∙ sym (map-append Some octets (first ∷ [])))),
       new,
     )
 
 -- one name more was reached
-pub reaches_more : {S : Type 0} (left : S → Option Text) (names : List Text) (name : Text) (lefts : List (Option Text)) (src : S)
-    (before mid after : House) → ReachesAll names lefts before mid
-    → Reaches {E = Failed} left mid.entries after.entries name (Ok src) → after.faults ≡ mid.faults
-    → ReachesAll (names ++ name ∷ []) (lefts ++ left src ∷ []) before after
-reaches_more {S} left names name lefts src before mid after all one kept = record {
-  number = length_push lefts (left src) ∙ (ap (λ n. n + 1) all.number ∙ sym (length_push names name));
-  gives = gives_more left names name lefts src before.entries mid.entries after.entries all.gives one;
+pub reaches_more : {S : Type 0} (tells : S → Input) (names : List Text) (name : Text) (opened : List Input) (src : S)
+    (before mid after : Directory) → ReachesAll names opened before mid
+    → Reaches {E = Failed} tells mid.names after.names name (Ok src) → after.faults ≡ mid.faults
+    → ReachesAll (names ++ name ∷ []) (opened ++ tells src ∷ []) before after
+reaches_more {S} tells names name opened src before mid after all one kept = record {
+  number = length_push opened (tells src) ∙ (ap (λ n. n + 1) all.number ∙ sym (length_push names name));
+  gives = gives_more tells names name opened src before.names mid.names after.names all.gives one;
   kept = kept ∙ all.kept;
 }
 
-pub reaches_none : (before : House) → ReachesAll [] [] before before
-reaches_none before = record { number = refl; gives = none before.entries; kept = refl }
+pub reaches_none : (before : Directory) → ReachesAll [] [] before before
+reaches_none before = record { number = refl; gives = none before.names; kept = refl }
   where
     none : (o : Option (List NamedOctets)) → GivesAll [] [] o o
     none None = tt
     none (Some house) = ([], house, (refl, refl), refl, refl)
 
-misses_one : {S : Type 0} (e : Failed) (left : S → Option Text) (names : List Text) (name : Text) (lefts : List (Option Text))
-    (o m n : Option (List NamedOctets)) → GivesAll names lefts o m → Reaches {S = S} {E = Failed} left m n name (Err e)
+misses_one : {S : Type 0} (e : Failed) (tells : S → Input) (names : List Text) (name : Text) (opened : List Input)
+    (o m n : Option (List NamedOctets)) → GivesAll names opened o m → Reaches {S = S} {E = Failed} tells m n name (Err e)
     → Misses names name o n
-misses_one e left names name lefts None m n all one = tt
-misses_one {S} e left names name lefts (Some house) m n (octets, rest, takes, is, now) one =
-    let last = subst (λ x. Reaches {S = S} {E = Failed} left x n name (Err e)) now one in
+misses_one e tells names name opened None m n all one = tt
+misses_one {S} e tells names name opened (Some house) m n (octets, rest, takes, is, now) one =
+    let last = subst (λ x. Reaches {S = S} {E = Failed} tells x n name (Err e)) now one in
     (octets, rest, takes, last.0, last.1)
 
 -- the name behind those that were reached could not be
-pub fails_at : {S : Type 0} (e : Failed) (left : S → Option Text) (names reached : List Text) (name : Text) (others : List Text)
-    (lefts : List (Option Text)) (before mid after : House) → names ≡ reached ++ name ∷ others → ReachesAll reached lefts before mid
-    → Reaches {S = S} {E = Failed} left mid.entries after.entries name (Err e) → Rose mid.faults after.faults
-    → FailsAt names (length reached) before after
-fails_at {S} e left names reached name others lefts before mid after is all one rose = record {
+pub fails_at : {S : Type 0} (e : Failed) (tells : S → Input) (names reached : List Text) (name : Text) (others : List Text)
+    (opened : List Input) (before mid after : Directory) → names ≡ reached ++ name ∷ others → ReachesAll reached opened before mid
+    → Reaches {S = S} {E = Failed} tells mid.names after.names name (Err e) → Rose mid.faults after.faults
+    → CannotOpen names (length reached) before after
+fails_at {S} e tells names reached name others opened before mid after is all one rose = record {
   reached = reached;
   name = name;
   others = others;
   is = is;
   place_is = refl;
-  misses = misses_one {S = S} e left reached name lefts before.entries mid.entries after.entries all.gives one;
+  misses = misses_one {S = S} e tells reached name opened before.names mid.names after.names all.gives one;
   rose = subst (λ (n : ℕ). Rose n after.faults) all.kept rose;
 }
 
@@ -92,7 +97,7 @@ chairs_own lanes = ap (λ b. cond b lanes 16) not_lt
     not_lt = grind (arith, nat_tests)
 
 -- where a lane could not be opened, so much is said of all names
-pub lanes_unopened : (names : List Text) (chair : Text) (before after : House) (s : Status)
+pub lanes_unopened : (names : List Text) (chair : Text) (before after : Directory) (s : Status)
     → IsUnopened names (λ place. place) before after s
     → IsUnopened (names ++ chair ∷ []) (number_of_name (length names)) before after s
 lanes_unopened names chair before after (status.OpenFault lane) (place, lane_is, fails) =
@@ -125,34 +130,34 @@ lanes_unopened names chair before after status.Limit u = absurd u
 lanes_unopened names chair before after status.NoteFault u = absurd u
 
 -- the chair could not be
-pub chair_unopened : (names : List Text) (chair : Text) (before after : House) (lane : ℕ) → lane ≡ 16
-    → FailsAt (names ++ chair ∷ []) (length names) before after
+pub chair_unopened : (names : List Text) (chair : Text) (before after : Directory) (lane : ℕ) → lane ≡ 16
+    → CannotOpen (names ++ chair ∷ []) (length names) before after
     → IsUnopened (names ++ chair ∷ []) (number_of_name (length names)) before after (status.OpenFault lane)
 chair_unopened names chair before after lane is fails = (length names, is ∙ sym (chairs_own (length names)), fails)
 
 -- one name more of a list that is gone through was reached
-pub reaches_next : {S : Type 0} (left : S → Option Text) (names : List (Bor Text)) (i : ℕ) (d : Bor Text) (lanes new : List S) (src : S)
-    (before mid after : House) → i < length names → ReachesAll (map (λ n. n.now) (take i names)) (map left lanes) before mid
-    → Reaches {E = Failed} left mid.entries after.entries (get_or names i d).now (Ok src) → after.faults ≡ mid.faults
-    → new ≡ lanes ++ src ∷ [] → ReachesAll (map (λ n. n.now) (take (i + 1) names)) (map left new) before after
-reaches_next {S} left names i d lanes new src before mid after inside all one kept is =
+pub reaches_next : {S : Type 0} (tells : S → Input) (names : List (Bor Text)) (i : ℕ) (d : Bor Text) (lanes new : List S) (src : S)
+    (before mid after : Directory) → i < length names → ReachesAll (map (λ n. n.now) (take i names)) (map tells lanes) before mid
+    → Reaches {E = Failed} tells mid.names after.names (get_or names i d).now (Ok src) → after.faults ≡ mid.faults
+    → new ≡ lanes ++ src ∷ [] → ReachesAll (map (λ n. n.now) (take (i + 1) names)) (map tells new) before after
+reaches_next {S} tells names i d lanes new src before mid after inside all one kept is =
     let text : Bor Text → Text = λ n. n.now in
-    subst (λ ns. ReachesAll ns (map left new) before after) (sym (map_more text names i d inside))
+    subst (λ ns. ReachesAll ns (map tells new) before after) (sym (map_more text names i d inside))
     (subst (λ l. ReachesAll (map text (take i names) ++ (get_or names i d).now ∷ []) l before after)
-    (sym (ap (map left) is ∙ map_push left lanes src))
-    (reaches_more left (map text (take i names)) (get_or names i d).now (map left lanes) src before mid after all one kept))
+    (sym (ap (map tells) is ∙ map_push tells lanes src))
+    (reaches_more tells (map text (take i names)) (get_or names i d).now (map tells lanes) src before mid after all one kept))
 
 -- the next name could not be
-pub fails_next : {S : Type 0} (e : Failed) (left : S → Option Text) (names : List (Bor Text)) (i : ℕ) (d : Bor Text) (lanes : List S)
-    (before mid after : House) → i < length names → ReachesAll (map (λ n. n.now) (take i names)) (map left lanes) before mid
-    → Reaches {S = S} {E = Failed} left mid.entries after.entries (get_or names i d).now (Err e) → Rose mid.faults after.faults
-    → FailsAt (map (λ n. n.now) names) i before after
-fails_next {S} e left names i d lanes before mid after inside all one rose =
+pub fails_next : {S : Type 0} (e : Failed) (tells : S → Input) (names : List (Bor Text)) (i : ℕ) (d : Bor Text) (lanes : List S)
+    (before mid after : Directory) → i < length names → ReachesAll (map (λ n. n.now) (take i names)) (map tells lanes) before mid
+    → Reaches {S = S} {E = Failed} tells mid.names after.names (get_or names i d).now (Err e) → Rose mid.faults after.faults
+    → CannotOpen (map (λ n. n.now) names) i before after
+fails_next {S} e tells names i d lanes before mid after inside all one rose =
     let text : Bor Text → Text = λ n. n.now in
     let cut : map text names ≡ map text (take i names) ++ (get_or names i d).now ∷ map text (drop (suc i) names) =
     ap (map text) (sym (take-append-drop i names) ∙ ap (λ ys. take i names ++ ys) (drop-cons names i d inside))
     ∙ map-append text (take i names) (get_or names i d ∷ drop (suc i) names) in
     let place : length (map text (take i names)) ≡ i = length-map (take i names) text ∙ length-take-le i names (omega arith) in
-    subst (λ p. FailsAt (map text names) p before after) place
-    (fails_at {S = S} e left (map text names) (map text (take i names)) (get_or names i d).now (map text (drop (suc i) names)) (map left lanes)
+    subst (λ p. CannotOpen (map text names) p before after) place
+    (fails_at {S = S} e tells (map text names) (map text (take i names)) (get_or names i d).now (map text (drop (suc i) names)) (map tells lanes)
     before mid after cut all one rose)

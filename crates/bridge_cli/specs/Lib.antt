@@ -1,4 +1,5 @@
-pub mod Ends
-pub mod Lives
 pub mod Notes
+pub mod Runs
 pub mod Opening
+pub mod Lives
+pub mod Answers

@@ -2,26 +2,27 @@
 use Rattle.std.specs.Prelude.{ℕ, ◌++◌, List, [], decimal, codes}
 use Rattle.bridge_cli.specs.declared.status.Status.{Status}
 use Rattle.bridge_cli.specs.declared.status.Status.TheVariants.{Done, Usage, ReadFault, WriteFault, Cut, BadRecord, Limit, OpenFault, NoMemory, NoteFault}
-use Rattle.bridge_replay.specs.declared.ends.ReplayEnd.{ReplayEnd}
 use Rattle.bridge_replay.specs.declared.ends.ReplayStop.{ReplayStop}
 use Rattle.bridge_replay.specs.declared.ends.ReplayStop.TheVariants as Stops
-use Rattle.tick_picture.specs.declared.tally.Tally.{Tally}
-use Rattle.conf_make.specs.declared.maker.MakeEnd.{MakeEnd}
+use Rattle.cif_pack.specs.declared.tally.Tally.{Tally}
+use Rattle.conf_make.specs.declared.output.MakeTally.{MakeTally}
 use Rattle.conf_make.specs.declared.maker.MakeStop.{MakeStop}
 use Rattle.conf_make.specs.declared.maker.MakeStop.TheVariants as Makes
-use Rattle.rtp_h261.specs.declared.unit_end.UnitEnd.{UnitEnd}
+use Rattle.rtp_h261.specs.declared.unit_end.UnitTally.{UnitTally}
 use Rattle.rtp_h261.specs.declared.unit_end.UnitStop.{UnitStop}
 use Rattle.rtp_h261.specs.declared.unit_end.UnitStop.TheVariants as Units
 use Rattle.conf_file.specs.declared.answers.EntryWhy.{EntryWhy}
 use Rattle.conf_file.specs.declared.answers.EntryWhy.TheVariants.{Header, Kind, Lane, Step, Order}
+use Rattle.command_words.specs.declared.fault.WordsFault.{WordsFault}
+use Rattle.command_words.specs.declared.fault.WordsFault.TheVariants as Words
 
 -- what is at fault in a conference file
-abbrev pub word_of : EntryWhy → List ℕ
-word_of Header = codes "header"
-word_of Kind = codes "kind"
-word_of Lane = codes "lane"
-word_of Step = codes "step"
-word_of (Order fault) = codes "command"
+abbrev pub word_for : EntryWhy → List ℕ
+word_for Header = codes "header"
+word_for Kind = codes "kind"
+word_for Lane = codes "lane"
+word_for Step = codes "step"
+word_for (Order fault) = codes "command"
 
 -- the line of a run that did not end as it should
 abbrev pub fault_line : Status → List ℕ
@@ -31,7 +32,7 @@ fault_line ReadFault = codes "fault read\n"
 fault_line WriteFault = codes "fault write\n"
 fault_line (Cut place) = codes "fault cut at " ++ decimal place ++ codes "\n"
 fault_line (BadRecord place why) =
-    codes "fault record at " ++ decimal place ++ codes ": " ++ word_of why ++ codes "\n"
+    codes "fault record at " ++ decimal place ++ codes ": " ++ word_for why ++ codes "\n"
 fault_line Limit = codes "fault limit\n"
 fault_line (OpenFault lane) = codes "fault open " ++ decimal lane ++ codes "\n"
 fault_line NoMemory = codes "fault memory\n"
@@ -51,25 +52,30 @@ tally_line t =
     ++ codes "\n"
 
 -- the line of framed packets that were reported
-unfoldable pub report_line : UnitEnd → List ℕ
-report_line end =
-    codes "done pictures " ++ decimal end.pictures ++ codes " gaps " ++ decimal end.gaps ++ codes "\n"
+unfoldable pub report_line : UnitTally → List ℕ
+report_line t =
+    codes "done pictures " ++ decimal t.pictures ++ codes " gaps " ++ decimal t.gaps ++ codes "\n"
 
 -- the line of framed packets whose pictures were decoded
-unfoldable pub planes_line : UnitEnd → List ℕ
-planes_line end =
-    codes "done pictures " ++ decimal end.pictures
-    ++ codes " gaps " ++ decimal end.gaps
-    ++ codes " octets " ++ decimal end.octets
+unfoldable pub planes_line : UnitTally → List ℕ
+planes_line t =
+    codes "done pictures " ++ decimal t.pictures
+    ++ codes " gaps " ++ decimal t.gaps
+    ++ codes " octets " ++ decimal t.octets
     ++ codes "\n"
 
 -- the line of a conference file of so many ticks that was made
-unfoldable pub made_line : (ticks : ℕ) → MakeEnd → List ℕ
-made_line ticks end =
+unfoldable pub made_line : (ticks : ℕ) → MakeTally → List ℕ
+made_line ticks t =
     codes "done ticks " ++ decimal ticks
-    ++ codes " records " ++ decimal end.records
-    ++ codes " octets " ++ decimal end.octets
+    ++ codes " records " ++ decimal t.records
+    ++ codes " octets " ++ decimal t.octets
     ++ codes "\n"
+
+-- the status that tells why words were not read
+abbrev pub status_of_words : WordsFault → Status
+status_of_words Words.Usage = Usage
+status_of_words Words.NoMemory = NoMemory
 
 -- the status that tells of a stop
 abbrev pub status_of_replay : ReplayStop → Status
@@ -95,6 +101,6 @@ status_of_make Makes.WriteFault = WriteFault
 status_of_make Makes.NoMemory = NoMemory
 
 -- the line of a status, where a job that is done has this one
-abbrev pub line_of : (done : List ℕ) → Status → List ℕ
-line_of done Done = done
-line_of done status = fault_line status
+abbrev pub line_for : (done : List ℕ) → Status → List ℕ
+line_for done Done = done
+line_for done status = fault_line status

@@ -2,14 +2,10 @@
 use Rattle.std.specs.Prelude.{⊤, ◌≡◌, ℕ, List, [], ◌∷◌, ◌++◌, length, map, nat_lt, if◌then◌else◌, Option, Some, None}
 use Rattle.command_words.specs.Options.{Text}
 use Rattle.io_edge.specs.Causes.{Rose}
-use Rattle.io_edge.specs.House.{NamedOctets, TakesEntry, HasNone}
+use Rattle.io_edge.specs.Directory.{NamedOctets, Directory, TakesEntry, HasNone}
+use Rattle.io_edge.specs.Outside.{Input}
 use Rattle.bridge_cli.specs.declared.status.Status.{Status}
 use Rattle.bridge_cli.specs.declared.status.Status.TheVariants.{OpenFault, NoMemory}
-
--- an opener at one moment: the entries that it has left, where it tells them, and its count of faults
-pub record House : Type 0 where
-  pub entries : Option (List NamedOctets)
-  pub faults : ℕ
 
 -- each name takes the first entry of its name that is left then, and these octets stand behind them
 abbrev pub TakeEntries : (names : List Text) → (house rest : List NamedOctets) → (octets : List (List ℕ)) → Type 0
@@ -19,16 +15,16 @@ TakeEntries (name ∷ names) house rest octets =
     × TakesEntry name house next first × TakeEntries names next rest more
 
 -- the sources of the names have the octets of their entries left
-abbrev pub GivesAll : (names : List Text) → (lefts : List (Option (List ℕ))) → (old new : Option (List NamedOctets)) → Type 0
-GivesAll names lefts None new = ⊤
-GivesAll names lefts (Some house) new =
+abbrev pub GivesAll : (names : List Text) → (opened : List Input) → (old new : Option (List NamedOctets)) → Type 0
+GivesAll names opened None new = ⊤
+GivesAll names opened (Some house) new =
     (octets : List (List ℕ)) × (rest : List NamedOctets) × TakeEntries names house rest octets
-    × (lefts ≡ map Some octets) × (new ≡ Some rest)
+    × (map (λ (input : Input). input.left) opened ≡ map Some octets) × (new ≡ Some rest)
 
--- all names were reached, and their sources have this left, where they tell it
-pub record ReachesAll (names : List Text) (lefts : List (Option (List ℕ))) (before after : House) : Type 0 where
-  pub number : length lefts ≡ length names
-  pub gives : GivesAll names lefts before.entries after.entries
+-- all names were reached, and this is what their sources tell
+pub record ReachesAll (names : List Text) (opened : List Input) (before after : Directory) : Type 0 where
+  pub number : length opened ≡ length names
+  pub gives : GivesAll names opened before.names after.names
   pub kept : after.faults ≡ before.faults
 
 -- these names took their entries, and then no entry has this name
@@ -51,13 +47,13 @@ pub record MissesAt (names : List Text) (house : List NamedOctets) (place : ℕ)
   pub none : HasNone name rest
 
 -- the name at this place could not be reached, and those before it were
-pub record FailsAt (names : List Text) (place : ℕ) (before after : House) : Type 0 where
+pub record CannotOpen (names : List Text) (place : ℕ) (before after : Directory) : Type 0 where
   pub reached : List Text
   pub name : Text
   pub others : List Text
   pub is : names ≡ reached ++ name ∷ others
   pub place_is : length reached ≡ place
-  pub misses : Misses reached name before.entries after.entries
+  pub misses : Misses reached name before.names after.names
   pub rose : Rose before.faults after.faults
 
 -- the number by which a name is told of, where the names are those of so many lanes and then the chair's: a lane's own, or 16
@@ -65,8 +61,8 @@ abbrev pub number_of_name : (lanes place : ℕ) → ℕ
 number_of_name lanes place = if nat_lt place lanes then place else 16
 
 -- why names were not opened: one of them could not be; or there was not the memory, and none had failed
-abbrev pub IsUnopened : (names : List Text) → (number : ℕ → ℕ) → (before after : House) → Status → Type 0
+abbrev pub IsUnopened : (names : List Text) → (number : ℕ → ℕ) → (before after : Directory) → Status → Type 0
 IsUnopened names number before after (OpenFault lane) =
-    (place : ℕ) × (lane ≡ number place) × FailsAt names place before after
+    (place : ℕ) × (lane ≡ number place) × CannotOpen names place before after
 IsUnopened names number before after NoMemory = after.faults ≡ before.faults
 IsUnopened names number before after _ = ⊥

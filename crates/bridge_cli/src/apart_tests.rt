@@ -1,6 +1,6 @@
 //! A live conference whose workers can't run one after another: each waits for something that another one does.
 
-ghost use Rattle.std.specs.Prelude.{◌<◌, length, IfSome, IsErr};
+ghost use Rattle.std.specs.Prelude.{◌<◌, length, IfSome, IsErr, None};
 ghost use Rattle.std.specs.Io.{ReadsAtMost};
 ghost use Rattle.io_edge.specs.Causes.{HasCause};
 
@@ -148,7 +148,7 @@ impl<'a> Parted<'a> {
 }
 
 impl<'a> Source for Parted<'a> {
-    ghost faults = { λ s. s.faults };
+    ghost tells = { λ s. record { left = None; faults = s.faults } };
 
     fn read(&mut self, buf: &mut [u8]) -> Result<usize, Failed> {
         let count = self.take(buf)?;
@@ -188,7 +188,7 @@ impl<'a> PartedHouse<'a> {
 impl<'a> Opener for PartedHouse<'a> {
     type Src = Parted<'a>;
 
-    ghost faults = { λ h. h.faults };
+    ghost tells = { λ h. record { names = None; faults = h.faults } };
 
     fn reach(&mut self, name: &str) -> Result<Parted<'a>, Failed> {
         let Some(at) = self.place_of(name) else {
@@ -209,7 +209,7 @@ struct PartedTicker<'a> {
 }
 
 impl<'a> Ticker for PartedTicker<'a> {
-    ghost faults = { λ t. t.faults };
+    ghost tells = { λ t. record { left = None; faults = t.faults } };
 
     fn next(&mut self) -> Result<Option<u8>, Failed> {
         let waits: &[Sign] = match self.given {
@@ -238,7 +238,7 @@ struct ShownSink<'a> {
 }
 
 impl<'a> Sink for ShownSink<'a> {
-    ghost faults = { λ s. s.faults };
+    ghost tells = { λ s. record { written = None; faults = s.faults } };
 
     fn write(&mut self, piece: &[u8]) -> Result<usize, Failed> {
         match self.sink.write(piece) {

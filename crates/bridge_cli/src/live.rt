@@ -1,20 +1,21 @@
 //! The call `live`: a conference over what its words name, and the line that tells how it ended.
 
-ghost use Rattle.std.specs.Prelude.{◌≡◌, ◌⊎◌, MatchResult, List, [], ◌∷◌, ◌++◌, length, map, string_bytes};
+ghost use Rattle.std.specs.Prelude.{◌≡◌, ◌⊎◌, [], ◌∷◌, ◌++◌, length, map, string_bytes, List, MatchResult};
 ghost use Rattle.command_words.specs.Asks.{Asks, IsInRange};
 ghost use Rattle.command_words.specs.Options.{Text};
 ghost use Rattle.command_words.specs.declared.job.Job.TheVariants.{Live};
-ghost use Rattle.bridge_live.specs.Handed.{inputs, outputs};
-ghost use Rattle.bridge_cli.specs.Opening.{House, ReachesAll};
+ghost use Rattle.io_edge.specs.Directory.{Directory};
+ghost use Rattle.bridge_cli.specs.Opening.{ReachesAll};
 ghost use Rattle.bridge_cli.specs.declared.status.Status.TheVariants.{NoMemory, Usage};
-ghost use Rattle.bridge_cli.specs.Lives.{AskNoLive, Comes, IsComplete, IsExact, Lives, Retells, names_of, packing};
+ghost use Rattle.bridge_cli.specs.Lives.{AskNoLive, Comes, Lives, names_of};
+ghost use Rattle.bridge_cli.specs.Answers.{Retells};
 
 use crate::notes::{failed, note, tally_line, told};
 use crate::opening::{Sources, open_all};
+use crate::settings::settings_of;
 use crate::status::Status;
 use bridge_live::{ServeEnd, Unserved, serve};
-use cif_pack::Settings;
-use command_words::{Job, LiveOptions, ReplayOptions, WordsFault, read_words};
+use command_words::{Job, LiveOptions, read_words};
 use io_edge::{Opener, Sink, Source, Ticker};
 use std::alloc::Global;
 use std::sync::Wait;
@@ -51,18 +52,8 @@ pub fn live<P: Opener, C: Ticker + Send, K: Sink + Send, N: Sink>(
 ) -> LiveEnd<P::Src, C, K>
 where
     P::Src: Send + Drop,
-    ensures lives { Lives (inputs P.Src.left P.Src.faults) (inputs C.steps C.faults)
-        (outputs K.written K.faults) (map string_bytes words.now)
-        (record { entries = P.house house.old; faults = P.faults house.old })
-        (record { entries = P.house house.new; faults = P.faults house.new })
-        ticker sink result (N.written notes.old) (N.written notes.new) (N.faults notes.old) (N.faults notes.new) }
-    ensures exact { IsExact (map string_bytes words.now)
-        (record { entries = P.house house.old; faults = P.faults house.old }) result }
-    ensures complete { IsComplete (inputs P.Src.left P.Src.faults) (inputs C.steps C.faults)
-        (outputs K.written K.faults) (map string_bytes words.now)
-        (record { entries = P.house house.old; faults = P.faults house.old })
-        (record { entries = P.house house.new; faults = P.faults house.new })
-        ticker sink (N.faults notes.old) (N.faults notes.new) result }
+    ensures lives { Lives P.Src.tells C.tells K.tells (map string_bytes words.now) (P.tells house.old) (P.tells house.new)
+        ticker sink (N.tells notes.old) (N.tells notes.new) result }
 {
     let end = obey(rt, alloc, words, house, ticker, sink);
     tell(end, notes)
@@ -79,13 +70,21 @@ fn obey<P: Opener, C: Ticker + Send, K: Sink + Send>(
 ) -> LiveEnd<P::Src, C, K>
 where
     P::Src: Send + Drop,
-    ensures { Comes (inputs P.Src.left P.Src.faults) (inputs C.steps C.faults)
-        (outputs K.written K.faults) (map string_bytes words.now)
-        (record { entries = P.house house.old; faults = P.faults house.old })
-        (record { entries = P.house house.new; faults = P.faults house.new }) ticker sink result }
+    ensures { Comes P.Src.tells C.tells K.tells (map string_bytes words.now) (P.tells house.old) (P.tells house.new)
+        ticker sink result }
 {
-    match options_of(alloc, words) {
-        Ok(options) => convene(rt, alloc, &options, house, ticker, sink),
+    let options = match options_of(alloc, words) {
+        Ok(options) => options,
+        Err(status) => {
+            return LiveEnd::Refused {
+                status,
+                ticker,
+                sink,
+            };
+        }
+    };
+    match open_all(alloc, &options, house) {
+        Ok(sources) => hold(rt, alloc, &options, sources, ticker, sink),
         Err(status) => LiveEnd::Refused {
             status,
             ticker,
@@ -102,40 +101,8 @@ fn options_of<'a>(alloc: Global, words: &'a [String]) -> Result<LiveOptions<'a>,
 {
     match read_words(alloc, words) {
         Ok(Job::Live(options)) => Ok(options),
-        Ok(Job::Replay(_)) => Err(Status::Usage),
-        Ok(Job::Check(_)) => Err(Status::Usage),
-        Ok(Job::Decode(_)) => Err(Status::Usage),
-        Ok(Job::Make(_)) => Err(Status::Usage),
-        Err(WordsFault::Usage) => Err(Status::Usage),
-        Err(WordsFault::NoMemory) => Err(Status::NoMemory),
-    }
-}
-
-/// Opens what the options name, and holds the conference.
-fn convene<P: Opener, C: Ticker + Send, K: Sink + Send>(
-    rt: &(impl Threads + Wait + Sync),
-    alloc: Global,
-    options: &LiveOptions<'_>,
-    house: &mut P,
-    ticker: C,
-    sink: K,
-) -> LiveEnd<P::Src, C, K>
-where
-    P::Src: Send + Drop,
-    requires { IsInRange (Live options.now) }
-    ensures { (words : List Text) → Asks words (Live options.now) →
-        Comes (inputs P.Src.left P.Src.faults) (inputs C.steps C.faults)
-        (outputs K.written K.faults) words
-        (record { entries = P.house house.old; faults = P.faults house.old })
-        (record { entries = P.house house.new; faults = P.faults house.new }) ticker sink result }
-{
-    match open_all(alloc, options, house) {
-        Err(status) => LiveEnd::Refused {
-            status,
-            ticker,
-            sink,
-        },
-        Ok(sources) => hold(rt, alloc, options, sources, ticker, sink),
+        Ok(_other) => Err(Status::Usage),
+        Err(fault) => Err(Status::of_words(fault)),
     }
 }
 
@@ -150,13 +117,12 @@ fn hold<S: Source + Send + Drop, C: Ticker + Send, K: Sink + Send>(
 ) -> LiveEnd<S, C, K>
     requires range { IsInRange (Live options.now) }
     requires lanes { length sources.lanes.items ≡ length options.now.lanes }
-    ensures { (words : List Text) (before after : House) → Asks words (Live options.now)
-        → ReachesAll (names_of options.now) (map S.left sources.lanes.items ++ S.left sources.chair ∷ []) before after →
-        Comes (inputs S.left S.faults) (inputs C.steps C.faults)
-        (outputs K.written K.faults) words before after ticker sink result }
+    ensures { (words : List Text) (before after : Directory) → Asks words (Live options.now)
+        → ReachesAll (names_of options.now) (map S.tells sources.lanes.items ++ S.tells sources.chair ∷ []) before after
+        → Comes S.tells C.tells K.tells words before after ticker sink result }
 {
     let Sources { lanes, chair } = sources;
-    let settings = packing(&options.packets);
+    let settings = settings_of(&options.packets);
     match serve(
         rt,
         alloc,
@@ -188,7 +154,7 @@ fn hold<S: Source + Send + Drop, C: Ticker + Send, K: Sink + Send>(
 
 /// Writes the line that tells of the end to `notes`, and puts the status of the call into it.
 fn tell<S, C, K, N: Sink>(end: LiveEnd<S, C, K>, notes: &mut N) -> LiveEnd<S, C, K>
-    ensures { Retells end result (N.written notes.old) (N.written notes.new) (N.faults notes.old) (N.faults notes.new) }
+    ensures { Retells end result (N.tells notes.old) (N.tells notes.new) }
 {
     match end {
         LiveEnd::Refused {
@@ -207,17 +173,5 @@ fn tell<S, C, K, N: Sink>(end: LiveEnd<S, C, K>, notes: &mut N) -> LiveEnd<S, C,
             ),
             end,
         },
-    }
-}
-
-/// How packets are written.
-fn packing(options: &ReplayOptions) -> Settings
-    ensures { result ≡ packing options.now }
-{
-    Settings {
-        mtu: options.mtu,
-        seq: options.seq,
-        stamp: options.stamp,
-        ssrc: options.ssrc,
     }
 }

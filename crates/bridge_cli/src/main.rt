@@ -10,11 +10,12 @@ mod live_tests;
 mod notes;
 mod opening;
 mod run;
+mod settings;
 mod status;
 #[cfg(test)]
 mod tests;
 
-use command_words::Command;
+use command_words::{COMMANDS, Command};
 use io_edge::{Failed, FileHouse, LineTicker, MemSink, ReadEdge, WriteEdge, put_all};
 use live::{LiveEnd, live};
 use notes::{failed, note};
@@ -44,14 +45,6 @@ Usage: bridge_cli replay [--NAME=VALUE ..] < CONFERENCE > PACKETS
        bridge_cli live --lanes=FILE,.. --chair=FILE [--NAME=VALUE ..] < STEPS > PACKETS
        bridge_cli [COMMAND] --help | --version";
 
-const COMMANDS: [Command; 5] = [
-    Command::Replay,
-    Command::Check,
-    Command::Decode,
-    Command::Make,
-    Command::Live,
-];
-
 const EXAMPLE: &str = "\
 Example, at the top of the repository:
        bridge_cli replay < examples/four_faces.conf > composed.rtp
@@ -74,7 +67,7 @@ const VERSION: &str = "bridge_cli 0.1.0";
 
 fn main(rt: HostRuntime) -> ExitCode {
     let status = match arguments(&rt) {
-        Ok(words) => serve(&rt, &rt, &words),
+        Ok(words) => answer(&rt, &rt, &words),
         Err(status) => tell(&rt, status),
     };
     if status == Status::Usage {
@@ -97,10 +90,10 @@ fn arguments(rt: &HostRuntime) -> Result<Vec<String>, Status> {
 }
 
 // Answers `--help`, alone or behind a command, and `--version`, and runs any other words.
-fn serve(rt: &HostRuntime, threads: &(impl Threads + Wait + Sync), words: &[String]) -> Status {
+fn answer(rt: &HostRuntime, threads: &(impl Threads + Wait + Sync), words: &[String]) -> Status {
     match words {
-        [word] if word.as_str() == "--help" => printed(help(rt)),
-        [word] if word.as_str() == "--version" => printed(rt.println(VERSION)),
+        [word] if word.as_str() == "--help" => printed(rt, help(rt)),
+        [word] if word.as_str() == "--version" => printed(rt, rt.println(VERSION)),
         [command, word] if word.as_str() == "--help" => help_of(rt, command.as_str()),
         [command, ..] if command.as_str() == "live" => live_on_standard_streams(rt, threads, words),
         _ => run_on_standard_streams(rt, words),
@@ -118,19 +111,17 @@ fn help(rt: &HostRuntime) -> io::Result<()> {
 
 // Prints what a person is told of a command.
 fn help_of(rt: &HostRuntime, name: &str) -> Status {
-    for command in COMMANDS {
-        if command.name() == name {
-            return printed(print!(rt; "{command}"));
-        }
+    match Command::named(name) {
+        Some(command) => printed(rt, print!(rt; "{command}")),
+        None => tell(rt, Status::Usage),
     }
-    tell(rt, Status::Usage)
 }
 
-// How a run that only prints ended.
-fn printed(printing: io::Result<()>) -> Status {
+// How a run that only prints ended. That it could not is told.
+fn printed(rt: &HostRuntime, printing: io::Result<()>) -> Status {
     match printing {
         Ok(()) => Status::Done,
-        Err(_error) => Status::WriteFault,
+        Err(_error) => tell(rt, Status::WriteFault),
     }
 }
 
@@ -154,10 +145,12 @@ fn run_on_standard_streams(rt: &HostRuntime, words: &[String]) -> Status {
     };
     let mut input = ReadEdge::new(reader);
     let mut output = WriteEdge::new(writer);
-    let status = run(alloc, words, &mut input, &mut output, &mut notes);
-    match output.flush() {
-        Err(Failed) if status == Status::Done => tell(rt, Status::WriteFault),
-        _ => hand_on(rt, status, notes.bytes()),
+    let ran = run(alloc, words, &mut input, &mut output, &mut notes);
+    let status = ran.after_flush(output.flush());
+    if status == ran {
+        hand_on(rt, status, notes.bytes())
+    } else {
+        tell(rt, status)
     }
 }
 

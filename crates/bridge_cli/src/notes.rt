@@ -2,17 +2,17 @@
 
 ghost use Rattle.std.specs.Prelude.{◌≡◌, ◌+◌, ◌≤◌, ◌++◌, decimal, length};
 ghost use Rattle.arrayvec.specs.ArrayString.{array_string_len};
-ghost use Rattle.bridge_cli.specs.Ends.{Notes, without_note};
-ghost use Rattle.bridge_cli.specs.Notes.{fault_line, line_of, made_line, planes_line, report_line, tally_line, word_of};
+ghost use Rattle.bridge_cli.specs.Runs.{Notes, without_note};
+ghost use Rattle.bridge_cli.specs.Notes.{fault_line, line_for, made_line, planes_line, report_line, tally_line, word_for};
 
 use crate::status::Status;
 use arrayvec::ArrayString;
 use bridge_replay::Tally;
 use conf_file::EntryWhy;
-use conf_make::MakeEnd;
+use conf_make::MakeTally;
 use io_edge::{Failed, Sink, put_all};
 use itoa::Buffer;
-use rtp_h261::UnitEnd;
+use rtp_h261::UnitTally;
 
 /// The most octets of a line.
 const LONGEST: usize = 256;
@@ -40,8 +40,7 @@ pub fn failed(status: Status) -> Ended
 /// Writes the line to `notes`. Gives the status of the run: that of the job, or NoteFault where a job that was done could
 /// not be told of.
 pub fn note<N: Sink>(ended: &Ended, notes: &mut N) -> Status
-    ensures { Notes ended.now.status ended.now.line.bytes result
-        (N.written notes.old) (N.written notes.new) (N.faults notes.old) (N.faults notes.new) }
+    ensures { Notes ended.now.status ended.now.line.bytes result (N.tells notes.old) (N.tells notes.new) }
 {
     match put_all(notes, ended.line.as_bytes()) {
         Ok(()) => ended.status,
@@ -87,53 +86,53 @@ pub fn tally_line(tally: &Tally) -> Line
 
 /// The line of framed packets that were reported.
 #[tactic(auto, unfolding(crate::specs::Notes::report_line))]
-pub fn report_line(end: &UnitEnd) -> Line
-    ensures { result.bytes ≡ report_line end.now }
+pub fn report_line(tally: &UnitTally) -> Line
+    ensures { result.bytes ≡ report_line tally.now }
 {
     let mut line = Line::new();
     line.push_str("done pictures ");
-    push_number(&mut line, end.pictures);
+    push_number(&mut line, tally.pictures);
     line.push_str(" gaps ");
-    push_number(&mut line, end.gaps);
+    push_number(&mut line, tally.gaps);
     line.push_str("\n");
     line
 }
 
 /// The line of framed packets whose pictures were decoded.
 #[tactic(auto, unfolding(crate::specs::Notes::planes_line))]
-pub fn planes_line(end: &UnitEnd) -> Line
-    ensures { result.bytes ≡ planes_line end.now }
+pub fn planes_line(tally: &UnitTally) -> Line
+    ensures { result.bytes ≡ planes_line tally.now }
 {
     let mut line = Line::new();
     line.push_str("done pictures ");
-    push_number(&mut line, end.pictures);
+    push_number(&mut line, tally.pictures);
     line.push_str(" gaps ");
-    push_number(&mut line, end.gaps);
+    push_number(&mut line, tally.gaps);
     line.push_str(" octets ");
-    push_number(&mut line, end.octets);
+    push_number(&mut line, tally.octets);
     line.push_str("\n");
     line
 }
 
 /// The line of a conference file of so many ticks that was made.
 #[tactic(auto, unfolding(crate::specs::Notes::made_line))]
-pub fn made_line(ticks: u32, end: &MakeEnd) -> Line
-    ensures { result.bytes ≡ made_line ticks end.now }
+pub fn made_line(ticks: u32, tally: &MakeTally) -> Line
+    ensures { result.bytes ≡ made_line ticks tally.now }
 {
     let mut line = Line::new();
     line.push_str("done ticks ");
     push_number(&mut line, u64::from(ticks));
     line.push_str(" records ");
-    push_number(&mut line, end.records);
+    push_number(&mut line, tally.records);
     line.push_str(" octets ");
-    push_number(&mut line, end.octets);
+    push_number(&mut line, tally.octets);
     line.push_str("\n");
     line
 }
 
 /// An end with this status: where it is Done, the line is that of the job.
 pub fn told(status: Status, done: Line) -> Ended
-    ensures { (result.status ≡ status) × (result.line.bytes ≡ line_of done.bytes status) }
+    ensures { (result.status ≡ status) × (result.line.bytes ≡ line_for done.bytes status) }
 {
     match status {
         Status::Done => Ended { status, line: done },
@@ -178,7 +177,7 @@ fn push_record(line: &mut Line, place: u64, why: EntryWhy)
     line.push_str("fault record at ");
     push_number(line, place);
     line.push_str(": ");
-    line.push_str(word_of(why));
+    line.push_str(word_for(why));
     line.push_str("\n");
 }
 
@@ -193,8 +192,8 @@ fn push_open(line: &mut Line, lane: u8)
 }
 
 /// What is at fault in a conference file, as a word.
-fn word_of(why: EntryWhy) -> &'static str
-    ensures word { result.now ≡ word_of why }
+fn word_for(why: EntryWhy) -> &'static str
+    ensures word { result.now ≡ word_for why }
     ensures short { length result.now ≤ 7 }
 {
     match why {

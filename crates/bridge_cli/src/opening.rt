@@ -2,6 +2,7 @@
 
 ghost use Rattle.std.specs.Prelude.{◌≡◌, ◌≤◌, [], ◌∷◌, ◌++◌, length, map, MatchResult};
 ghost use Rattle.bridge_cli.specs.Opening.{IsUnopened, ReachesAll, number_of_name};
+ghost use Rattle.bridge_cli.specs.Lives.{names_of};
 
 use crate::status::Status;
 use command_words::LiveOptions;
@@ -28,12 +29,8 @@ where
     P::Src: Drop,
     requires { length names.now ≤ 16 }
     ensures { MatchResult result
-        (λ lanes. ReachesAll (map (λ n. n.now) names.now) (map P.Src.left lanes.items)
-        (record { entries = P.house house.old; faults = P.faults house.old })
-        (record { entries = P.house house.new; faults = P.faults house.new }))
-        (IsUnopened (map (λ n. n.now) names.now) (λ place. place)
-        (record { entries = P.house house.old; faults = P.faults house.old })
-        (record { entries = P.house house.new; faults = P.faults house.new })) }
+        (λ lanes. ReachesAll (map (λ n. n.now) names.now) (map P.Src.tells lanes.items) (P.tells house.old) (P.tells house.new))
+        (IsUnopened (map (λ n. n.now) names.now) (λ place. place) (P.tells house.old) (P.tells house.new)) }
 {
     let mut lanes = Vec::new(alloc);
     for name in names {
@@ -62,13 +59,9 @@ where
     P::Src: Drop,
     requires { length options.now.lanes ≤ 16 }
     ensures { MatchResult result
-        (λ sources. ReachesAll (options.now.lanes ++ options.now.chair ∷ [])
-        (map P.Src.left sources.lanes.items ++ P.Src.left sources.chair ∷ [])
-        (record { entries = P.house house.old; faults = P.faults house.old })
-        (record { entries = P.house house.new; faults = P.faults house.new }))
-        (IsUnopened (options.now.lanes ++ options.now.chair ∷ []) (number_of_name (length options.now.lanes))
-        (record { entries = P.house house.old; faults = P.faults house.old })
-        (record { entries = P.house house.new; faults = P.faults house.new })) }
+        (λ sources. ReachesAll (names_of options.now) (map P.Src.tells sources.lanes.items ++ P.Src.tells sources.chair ∷ [])
+        (P.tells house.old) (P.tells house.new))
+        (IsUnopened (names_of options.now) (number_of_name (length options.now.lanes)) (P.tells house.old) (P.tells house.new)) }
 {
     match open_lanes(alloc, options.lanes.as_slice(), house) {
         Err(status) => Err(status),

@@ -1,14 +1,16 @@
 //! How a run ends.
 
 ghost use Rattle.std.specs.Prelude.{◌≡◌};
-ghost use Rattle.bridge_cli.specs.Ends.{number_of_status};
+ghost use Rattle.bridge_cli.specs.Runs.{after_flush, loses_output, number_of_status};
 ghost use Rattle.bridge_cli.specs.Lives.{status_of_mixer};
-ghost use Rattle.bridge_cli.specs.Notes.{status_of_make, status_of_replay, status_of_units};
+ghost use Rattle.bridge_cli.specs.Notes.{status_of_make, status_of_replay, status_of_units, status_of_words};
 
 use bridge_live::MixStop;
 use bridge_replay::ReplayStop;
+use command_words::WordsFault;
 use conf_file::EntryWhy;
 use conf_make::MakeStop;
+use io_edge::Failed;
 use rtp_h261::UnitStop;
 
 /// How a run ends.
@@ -53,6 +55,43 @@ impl Status {
             Status::OpenFault { .. } => 8,
             Status::NoMemory => 9,
             Status::NoteFault => 10,
+        }
+    }
+
+    /// The status of a run with this one, whose output was handed on or could not be. Where it could not, output is lost, and
+    /// the status is WriteFault, but for a run that had none.
+    pub fn after_flush(self, flushed: Result<(), Failed>) -> Status
+        ensures { result ≡ after_flush self flushed }
+    {
+        match flushed {
+            Err(Failed) if self.loses_output() => Status::WriteFault,
+            _ => self,
+        }
+    }
+
+    /// Whether a run with this status may have had output that is held back.
+    fn loses_output(self) -> bool
+        ensures { result ≡ loses_output self }
+    {
+        match self {
+            Status::Done
+            | Status::ReadFault
+            | Status::Cut { .. }
+            | Status::BadRecord { .. }
+            | Status::Limit
+            | Status::NoteFault => true,
+            Status::Usage | Status::WriteFault | Status::OpenFault { .. } | Status::NoMemory =>
+                false,
+        }
+    }
+
+    /// The status that tells why words were not read.
+    pub fn of_words(fault: WordsFault) -> Status
+        ensures { result ≡ status_of_words fault }
+    {
+        match fault {
+            WordsFault::Usage => Status::Usage,
+            WordsFault::NoMemory => Status::NoMemory,
         }
     }
 

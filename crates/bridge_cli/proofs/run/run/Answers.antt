@@ -1,10 +1,9 @@
 -- What was done, and the note of it.
+use Rattle.std.proofs.Common.{map, string_bytes}
+use Rattle.bridge_cli.proofs.Running.{runs}
 use Rattle.bridge_cli.proofs.run.run.Goals as goal
 
-pub returns-clause-runs : goal.returns-clause-runs
-returns-clause-runs g c = record {
-  told = c.obey-ended.result.status;
-  line = c.obey-ended.result.line.bytes;
-  did = c.obey-ended.ensures.did;
-  notes = c.note.ensures;
-}
+pub returns : goal.returns
+returns g c =
+    runs (map string_bytes c.args.words.now) _ _ c.obey-ended.result.status c.note.result c.obey-ended.result.line.bytes _ _ c.obey-ended.ensures
+    c.note.ensures
