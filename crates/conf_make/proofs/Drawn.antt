@@ -8,17 +8,17 @@ use Rattle.pel_model.specs.Bits.{field, is_odd}
 use Rattle.pel_model.specs.Codes.{word}
 use Rattle.pel_model.specs.Headers.{group_header_text, picture_header_text}
 use Rattle.pel_model.specs.Text.{group_header, picture_header}
-use Rattle.conf_make.specs.Draws.{next, draw, behind}
-use Rattle.conf_make.specs.Pictures.{times, grey_macroblock, grey_group, grey_picture, macroblock, macroblocks, count, group, behind_group, drawn_picture, behind_picture}
-use Rattle.conf_make.specs.Steps.{with_bits}
+use Rattle.conf_make.specs.Draws.{next_state, draw, state_after}
+use Rattle.conf_make.specs.Pictures.{repeated, grey_macroblock, grey_group, grey_picture, macroblock, macroblocks, count, drawn_group, behind_group, drawn_picture, behind_picture}
+use Rattle.conf_make.specs.Writing.{with_bits}
 
 mod-sum : (a c n : ℕ) → (a % n + c) % n ≡ (a + c) % n
 mod-sum a c n =
     let whole : n * (a / n) + (a % n + c) ≡ a + c = sym (add_assoc (n * (a / n)) (a % n) c) ∙ ap (λ (t : ℕ). t + c) (div-add-mod a n) in
     sym (mul-add-mod_self_left n (a / n) (a % n + c)) ∙ ap (λ (t : ℕ). t % n) whole
 
-pub draws-on : (x : ℕ) → (x * 6364136223846793005 % 2 ^ 64 + 1442695040888963407) % 2 ^ 64 ≡ next x
-unfolding next
+pub draws-on : (x : ℕ) → (x * 6364136223846793005 % 2 ^ 64 + 1442695040888963407) % 2 ^ 64 ≡ next_state x
+unfolding next_state
 draws-on x = mod-sum (x * 6364136223846793005) 1442695040888963407 (2 ^ 64)
 
 -- ---- pushes one after another
@@ -49,7 +49,7 @@ unfolding wire_field field group_header_text
 group-header-is number = refl
 
 pub grey-is : wire_field 17 5 ++ (wire_field 1072692222 30 ++ wire_field 1072692222 30) ≡ grey_macroblock
-unfolding wire_field grey_macroblock times
+unfolding wire_field grey_macroblock repeated
 grey-is = refl
 
 abbrev chosen : ℕ → Bool → List Bool
@@ -70,27 +70,27 @@ odd-is drawn odd = ap (λ (r : ℕ). chosen r (is_odd (drawn / 2))) (sym odd)
 
 -- ---- loops
 
-times-last : (n : ℕ) (bits : List Bool) → times n bits ++ bits ≡ times (suc n) bits
-unfolding times
+times-last : (n : ℕ) (bits : List Bool) → repeated n bits ++ bits ≡ repeated (suc n) bits
+unfolding repeated
 times-last zero bits = sym (append-nil bits)
-times-last (suc n) bits = append_assoc bits (times n bits) bits ∙ ap (λ (bs : List Bool). bits ++ bs) (times-last n bits)
+times-last (suc n) bits = append_assoc bits (repeated n bits) bits ∙ ap (λ (bs : List Bool). bits ++ bs) (times-last n bits)
 
-pub times-more : (n : ℕ) (bits : List Bool) → times n bits ++ bits ≡ times (n + 1) bits
-times-more n bits = times-last n bits ∙ ap (λ (k : ℕ). times k bits) (omega arith)
+pub times-more : (n : ℕ) (bits : List Bool) → repeated n bits ++ bits ≡ repeated (n + 1) bits
+times-more n bits = times-last n bits ∙ ap (λ (k : ℕ). repeated k bits) (omega arith)
 
-pub times-none : (bits : List Bool) → times 0 bits ≡ []
-unfolding times
+pub times-none : (bits : List Bool) → repeated 0 bits ≡ []
+unfolding repeated
 times-none bits = refl
 
-pub rest-is : (n i state : ℕ) → i < n → macroblocks (n - i) state ≡ macroblock (draw (next state)) ++ macroblocks (n - (i + 1)) (next state)
+pub rest-is : (n i state : ℕ) → i < n → macroblocks (n - i) state ≡ macroblock (draw (next_state state)) ++ macroblocks (n - (i + 1)) (next_state state)
 rest-is n i state less = ap (λ (k : ℕ). macroblocks k state) (let e : n - i ≡ suc (n - (i + 1)) = omega (arith, less) in e)
 
-pub behind-is : (n i state : ℕ) → i < n → behind (n - i) state ≡ behind (n - (i + 1)) (next state)
-behind-is n i state less = ap (λ (k : ℕ). behind k state) (let e : n - i ≡ suc (n - (i + 1)) = omega (arith, less) in e)
+pub behind-is : (n i state : ℕ) → i < n → state_after (n - i) state ≡ state_after (n - (i + 1)) (next_state state)
+behind-is n i state less = ap (λ (k : ℕ). state_after k state) (let e : n - i ≡ suc (n - (i + 1)) = omega (arith, less) in e)
 
 -- ---- groups and pictures
 
-pub grey-group-is : (number : ℕ) → group_header number 8 ++ times 33 grey_macroblock ≡ grey_group number
+pub grey-group-is : (number : ℕ) → group_header number 8 ++ repeated 33 grey_macroblock ≡ grey_group number
 unfolding grey_group
 grey-group-is number = refl
 
@@ -98,16 +98,16 @@ pub grey-picture-is : (tr : ℕ) → picture_header Qcif tr ++ (grey_group 1 ++ 
 unfolding grey_picture
 grey-picture-is tr = simp append_assoc
 
-pub group-is : (number state : ℕ) → group_header number 8 ++ macroblocks (count state) (next state) ≡ group number state
-unfolding group
+pub group-is : (number state : ℕ) → group_header number 8 ++ macroblocks (count state) (next_state state) ≡ drawn_group number state
+unfolding drawn_group
 group-is number state = refl
 
-pub behind-group-is : (state : ℕ) → behind (count state) (next state) ≡ behind_group state
+pub behind-group-is : (state : ℕ) → state_after (count state) (next_state state) ≡ behind_group state
 unfolding behind_group
 behind-group-is state = refl
 
 pub drawn-picture-is : (tr state : ℕ)
-    → picture_header Qcif tr ++ (group 1 state ++ (group 3 (behind_group state) ++ group 5 (behind_group (behind_group state)))) ≡ drawn_picture tr state
+    → picture_header Qcif tr ++ (drawn_group 1 state ++ (drawn_group 3 (behind_group state) ++ drawn_group 5 (behind_group (behind_group state)))) ≡ drawn_picture tr state
 unfolding drawn_picture
 drawn-picture-is tr state = simp append_assoc
 
@@ -117,19 +117,19 @@ behind-picture-is state = refl
 
 -- ---- grey macroblocks one after another
 
-pub none-pushed : (b : Buffer) → b ≡ with_bits b (times 0 grey_macroblock)
-unfolding times
+pub none-pushed : (b : Buffer) → b ≡ with_bits b (repeated 0 grey_macroblock)
+unfolding repeated
 none-pushed b = ap (λ (list : List Bool). record { list = list; capacity = b.capacity }) (sym (append-nil b.list))
 
-pub more-pushed : (b b1 b2 : Buffer) (n : ℕ) → b1 ≡ with_bits b (times n grey_macroblock) → b2 ≡ with_bits b1 grey_macroblock → b2 ≡ with_bits b (times (n + 1) grey_macroblock)
-more-pushed b b1 b2 n e1 e2 = two-pushes b b1 b2 (times n grey_macroblock) grey_macroblock e1 e2 ∙ ap (with_bits b) (times-more n grey_macroblock)
+pub more-pushed : (b b1 b2 : Buffer) (n : ℕ) → b1 ≡ with_bits b (repeated n grey_macroblock) → b2 ≡ with_bits b1 grey_macroblock → b2 ≡ with_bits b (repeated (n + 1) grey_macroblock)
+more-pushed b b1 b2 n e1 e2 = two-pushes b b1 b2 (repeated n grey_macroblock) grey_macroblock e1 e2 ∙ ap (with_bits b) (times-more n grey_macroblock)
 
 -- ---- drawn macroblocks one after another: what was pushed, and what is still to be drawn
 
 pub record Pushes (count state : ℕ) (old now : Buffer) (left state_now : ℕ) : Type 0 where
   pub bits : now.list ++ macroblocks left state_now ≡ old.list ++ macroblocks count state
   pub capacity : now.capacity ≡ old.capacity
-  pub behind_is : behind left state_now ≡ behind count state
+  pub behind_is : state_after left state_now ≡ state_after count state
 
 pub at-first : (count state : ℕ) (old : Buffer) → Pushes count state old old (count - 0) state
 at-first count state old =
@@ -137,14 +137,14 @@ at-first count state old =
     record {
       bits = ap (λ (k : ℕ). old.list ++ macroblocks k state) none;
       capacity = refl;
-      behind_is = ap (λ (k : ℕ). behind k state) none;
+      behind_is = ap (λ (k : ℕ). state_after k state) none;
     }
 
 pub one-more : (count state : ℕ) (old now next_buffer : Buffer) (i state_now : ℕ) → i < count → Pushes count state old now (count - i) state_now
-    → next_buffer ≡ with_bits now (macroblock (draw (next state_now))) → Pushes count state old next_buffer (count - (i + 1)) (next state_now)
+    → next_buffer ≡ with_bits now (macroblock (draw (next_state state_now))) → Pushes count state old next_buffer (count - (i + 1)) (next_state state_now)
 one-more count state old now next_buffer i state_now less h e =
-    let one = macroblock (draw (next state_now)) in
-    let rest = macroblocks (count - (i + 1)) (next state_now) in
+    let one = macroblock (draw (next_state state_now)) in
+    let rest = macroblocks (count - (i + 1)) (next_state state_now) in
     record {
       bits =
           ap (λ (b : Buffer). b.list ++ rest) e ∙ append_assoc now.list one rest
@@ -154,10 +154,10 @@ one-more count state old now next_buffer i state_now less h e =
     }
 
 pub all-pushed : (count state : ℕ) (old now : Buffer) (left state_now : ℕ) → left ≡ 0 → Pushes count state old now left state_now
-    → (now ≡ with_bits old (macroblocks count state)) × (state_now ≡ behind count state)
+    → (now ≡ with_bits old (macroblocks count state)) × (state_now ≡ state_after count state)
 all-pushed count state old now left state_now none h =
     let list : now.list ≡ old.list ++ macroblocks count state =
     sym (append-nil now.list) ∙ ap (λ (k : ℕ). now.list ++ macroblocks k state_now) (sym none) ∙ h.bits in (
       ap₂ (λ (bs : List Bool) (k : ℕ). record { list = bs; capacity = k }) list h.capacity,
-      ap (λ (k : ℕ). behind k state_now) (sym none) ∙ h.behind_is,
+      ap (λ (k : ℕ). state_after k state_now) (sym none) ∙ h.behind_is,
     )

@@ -9,10 +9,10 @@ use Rattle.pel_model.specs.Bits.{field, is_odd}
 use Rattle.pel_model.specs.Codes.{word}
 use Rattle.pel_model.specs.Headers.{group_header_text, picture_header_text}
 use Rattle.pel_model.specs.Text.{group_header, picture_header}
-use Rattle.conf_make.specs.Draws.{next, draw}
+use Rattle.conf_make.specs.Draws.{next_state, draw}
 use Rattle.conf_make.specs.Made.{picture, is_grey, tr_at}
-use Rattle.conf_make.specs.Packets.{packed, payload, packet}
-use Rattle.conf_make.specs.Pictures.{times, grey_macroblock, grey_group, grey_picture, macroblock, macroblocks, count, group, behind_group, drawn_picture}
+use Rattle.conf_make.specs.Packets.{packed_octets, made_payload, made_packet}
+use Rattle.conf_make.specs.Pictures.{repeated, grey_macroblock, grey_group, grey_picture, macroblock, macroblocks, count, drawn_group, behind_group, drawn_picture}
 
 length-header : (tr : ℕ) → length (picture_header Qcif tr) ≡ 32
 unfolding field picture_header_text
@@ -22,19 +22,19 @@ length-group_header : (number : ℕ) → length (group_header number 8) ≡ 26
 unfolding field group_header_text
 length-group_header number = refl
 
-length-times : (n : ℕ) (bits : List Bool) → length (times n bits) ≡ n * length bits
-unfolding times
+length-times : (n : ℕ) (bits : List Bool) → length (repeated n bits) ≡ n * length bits
+unfolding repeated
 length-times zero bits = omega arith
-length-times (suc n) bits = omega (arith, length-append bits (times n bits), length-times n bits, suc-mul n (length bits))
+length-times (suc n) bits = omega (arith, length-append bits (repeated n bits), length-times n bits, suc-mul n (length bits))
 
 length-grey : length grey_macroblock ≡ 65
-unfolding grey_macroblock times
+unfolding grey_macroblock repeated
 length-grey = refl
 
 length-grey_group : (number : ℕ) → length (grey_group number) ≡ 2171
 unfolding grey_group
 length-grey_group number =
-    length-append (group_header number 8) (times 33 grey_macroblock)
+    length-append (group_header number 8) (repeated 33 grey_macroblock)
     ∙ omega (arith, length-group_header number, length-times 33 grey_macroblock, length-grey)
 
 length-grey_picture : (tr : ℕ) → length (grey_picture tr) ≡ 6545
@@ -65,12 +65,12 @@ length-macroblock drawn = by_parity (drawn % 2 == 0) (is_odd (drawn / 2))
 length-macroblocks : (n state : ℕ) → length (macroblocks n state) ≤ 10 * n
 length-macroblocks zero state = omega arith
 length-macroblocks (suc n) state =
-    omega (arith, length-append (macroblock (draw (next state))) (macroblocks n (next state)), length-macroblock (draw (next state)), length-macroblocks n (next state))
+    omega (arith, length-append (macroblock (draw (next_state state))) (macroblocks n (next_state state)), length-macroblock (draw (next_state state)), length-macroblocks n (next_state state))
 
-length-group : (number state : ℕ) → length (group number state) ≤ 56
-unfolding group
+length-group : (number state : ℕ) → length (drawn_group number state) ≤ 56
+unfolding drawn_group
 length-group number state =
-    omega (arith, length-append (group_header number 8) (macroblocks (count state) (next state)), length-group_header number, length-macroblocks (count state) (next state))
+    omega (arith, length-append (group_header number 8) (macroblocks (count state) (next_state state)), length-group_header number, length-macroblocks (count state) (next_state state))
 
 length-drawn_picture : (tr state : ℕ) → length (drawn_picture tr state) ≤ 200
 unfolding drawn_picture
@@ -83,9 +83,9 @@ length-drawn_picture tr state =
       length-group 1 state,
       length-group 3 second,
       length-group 5 third,
-      length-append ((picture_header Qcif tr ++ group 1 state) ++ group 3 second) (group 5 third),
-      length-append (picture_header Qcif tr ++ group 1 state) (group 3 second),
-      length-append (picture_header Qcif tr) (group 1 state),
+      length-append ((picture_header Qcif tr ++ drawn_group 1 state) ++ drawn_group 3 second) (drawn_group 5 third),
+      length-append (picture_header Qcif tr ++ drawn_group 1 state) (drawn_group 3 second),
+      length-append (picture_header Qcif tr) (drawn_group 1 state),
     )
 
 by_grey : (grey : Bool) (tr state : ℕ) → length (if grey then grey_picture tr else drawn_picture tr state) ≤ 6545
@@ -95,8 +95,8 @@ by_grey false tr state = omega (arith, length-drawn_picture tr state)
 pub length-picture : (tick lane state : ℕ) → length (picture tick lane state) ≤ 6545
 length-picture tick lane state = by_grey (is_grey tick lane) (tr_at tick) state
 
-length-packed : (bits : List Bool) → 8 * length (packed bits) ≤ length bits
-unfolding packed
+length-packed : (bits : List Bool) → 8 * length (packed_octets bits) ≤ length bits
+unfolding packed_octets
 length-packed (a ∷ b ∷ c ∷ d ∷ e ∷ f ∷ g ∷ h ∷ bits) = omega (arith, length-packed bits)
 length-packed [] = omega arith
 length-packed (a ∷ []) = omega arith
@@ -107,13 +107,13 @@ length-packed (a ∷ b ∷ c ∷ d ∷ e ∷ []) = omega arith
 length-packed (a ∷ b ∷ c ∷ d ∷ e ∷ f ∷ []) = omega arith
 length-packed (a ∷ b ∷ c ∷ d ∷ e ∷ f ∷ g ∷ []) = omega arith
 
-pub length-packet : (tick lane : ℕ) (bits : List Bool) → length bits ≤ 6545 → length (packet tick lane bits) < 2 ^ 16
-unfolding packet
+pub length-packet : (tick lane : ℕ) (bits : List Bool) → length bits ≤ 6545 → length (made_packet tick lane bits) < 2 ^ 16
+unfolding made_packet
 length-packet tick lane bits short =
     omega (
       arith,
       length-packed (filled_up bits),
       length-append bits (zeros (whole (length bits) - length bits)),
       length-replicate {A = Bool} (whole (length bits) - length bits),
-      ap length (append-nil (payload bits)),
+      ap length (append-nil (made_payload bits)),
     )

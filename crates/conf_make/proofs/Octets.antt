@@ -10,11 +10,11 @@ use Rattle.pel_bits.proofs.OctetBits.{length-bits}
 use Rattle.rtp_wire.specs.Rtp.{Fields, octets_of, plain}
 use Rattle.conf_file.specs.Entries.{Packet, P}
 use Rattle.conf_make.specs.Made.{entry_of}
-use Rattle.conf_make.specs.Packets.{packed, payload, packet}
+use Rattle.conf_make.specs.Packets.{packed_octets, made_payload, made_packet}
 
 -- octets are what their bits are packed into
-packed-bits : (octets : List ℕ) → ((i : ℕ) → slice_index octets i < 256) → packed (bits octets) ≡ octets
-unfolding field packed
+packed-bits : (octets : List ℕ) → ((i : ℕ) → slice_index octets i < 256) → packed_octets (bits octets) ≡ octets
+unfolding field packed_octets
 packed-bits [] small = refl
 packed-bits (x ∷ xs) small = ap₂ (λ (n : ℕ) (ns : List ℕ). n ∷ ns) (number-fits x 8 (small 0)) (packed-bits xs (λ i. small (suc i)))
 
@@ -32,12 +32,12 @@ fields_of tick lane payload = record {
 packet-is : (tick lane : ℕ) (text : List Bool) (fixed head octets : List ℕ)
     → fixed ≡ octets_of (plain (fields_of tick lane []))
     → head ≡ (4 * (whole (length text) - length text) + 1) ∷ 0 ∷ 0 ∷ 0 ∷ []
-    → octets ≡ packed (filled_up text)
-    → fixed ++ (head ++ octets) ≡ packet tick lane text
-unfolding packet
+    → octets ≡ packed_octets (filled_up text)
+    → fixed ++ (head ++ octets) ≡ made_packet tick lane text
+unfolding made_packet
 packet-is tick lane text fixed head octets fixed_is head_is octets_are =
     ap₂ (λ (f : List ℕ) (p : List ℕ). f ++ p) fixed_is (ap₂ (λ (h : List ℕ) (o : List ℕ). h ++ o) head_is octets_are)
-    ∙ ap (λ (t : List ℕ). octets_of (plain (fields_of tick lane [])) ++ t) (sym (append-nil (payload text)))
+    ∙ ap (λ (t : List ℕ). octets_of (plain (fields_of tick lane [])) ++ t) (sym (append-nil (made_payload text)))
 
 -- how many octets bits need
 pub octets-long : (text : List Bool) (octets : List ℕ) → bits octets ≡ filled_up text → 8 * length octets ≡ whole (length text)
@@ -50,10 +50,10 @@ pub entry-is : (tick lane n : ℕ) (text : List Bool) (size fixed head octets : 
     → fixed ≡ octets_of (plain (fields_of tick lane []))
     → head ≡ (4 * (whole (length text) - length text) + 1) ∷ 0 ∷ 0 ∷ 0 ∷ []
     → n ≡ 16 + length octets → size ≡ big_bytes 2 n
-    → (P ∷ lane ∷ []) ++ (size ++ (fixed ++ (head ++ octets))) ≡ entry_of (Packet lane (packet tick lane text))
+    → (P ∷ lane ∷ []) ++ (size ++ (fixed ++ (head ++ octets))) ≡ entry_of (Packet lane (made_packet tick lane text))
 entry-is tick lane n text size fixed head octets small are fixed_is head_is count size_is =
-    let whole_packet = packet-is tick lane text fixed head octets fixed_is head_is (sym (packed-bits octets small) ∙ ap packed are) in
-    let long : n ≡ length (packet tick lane text) =
+    let whole_packet = packet-is tick lane text fixed head octets fixed_is head_is (sym (packed-bits octets small) ∙ ap packed_octets are) in
+    let long : n ≡ length (made_packet tick lane text) =
     omega (arith, count, ap length whole_packet, length-append fixed (head ++ octets), length-append head octets, ap length fixed_is, ap length head_is) in
     ap₂ (λ (s : List ℕ) (p : List ℕ). P ∷ lane ∷ (s ++ p)) (size_is ∙ ap (big_bytes 2) long) whole_packet
 

@@ -2,23 +2,23 @@
 use Rattle.std.proofs.Common.{◌≡◌, ℕ, zero, suc, ◌+◌, ◌/◌, ◌%◌, ◌^◌, ◌<◌, ◌≤◌, ◌==◌, nat_lt, Bool, true, false, if◌then◌else◌, List, [], ◌∷◌, ◌++◌, length, take, map, codes, refl, sym, subst, arith, append_assoc, append-nil}
 use Rattle.std.proofs.lemmas.Bool.Decides.{nat_tests}
 use Rattle.std.specs.List.{AllByRecursion, AllZip, concat}
-use Rattle.chair_words.specs.Line.{line_of}
+use Rattle.chair_words.specs.Line.{line_saying}
 use Rattle.chair_words.proofs.Written.{says_written}
-use Rattle.conf_file.specs.Entries.{Content, Packet, Chair, Tick, End, Spells}
-use Rattle.conf_file.specs.File.{GoesOn}
+use Rattle.conf_file.specs.Entries.{Content, Packet, Chair, Tick, End, SpellsEntry}
+use Rattle.conf_file.specs.File.{IsNotEnd}
 use Rattle.conf_file.specs.Header.{HasLanes}
 use Rattle.pel_model.specs.declared.Quad.TheVariants.{One, Two, Three, Four}
 use Rattle.pel_model.specs.declared.chair.Command.TheVariants.{Place, Speaker}
-use Rattle.conf_make.specs.Draws.{next, draw}
+use Rattle.conf_make.specs.Draws.{next_state, draw}
 use Rattle.conf_make.specs.Laws.{LawOfMadeFiles}
-use Rattle.conf_make.specs.Made.{is_lost, picture, sent, behind_lane, all_sent, behind_lanes, spoken, tick_entries, behind_tick, all_ticks, placed, contents, entry_of}
-use Rattle.conf_make.specs.Packets.{packet}
+use Rattle.conf_make.specs.Made.{is_lost, picture, sent, behind_lane, all_sent, behind_lanes, spoken, tick_entries, behind_tick, all_ticks, placed_lanes, contents, entry_of}
+use Rattle.conf_make.specs.Packets.{made_packet}
 use Rattle.conf_make.proofs.Lengths.{length-picture, length-packet}
 
 -- an entry that is spelled, and is not the end
 pub record IsGood (lanes : ℕ) (content : Content) : Type 0 where
-  pub spelled : Spells lanes content (entry_of content)
-  pub going_on : GoesOn content
+  pub spelled : SpellsEntry lanes content (entry_of content)
+  pub going_on : IsNotEnd content
 
 both : (lanes : ℕ) (xs ys : List Content) → AllByRecursion (IsGood lanes) xs → AllByRecursion (IsGood lanes) ys → AllByRecursion (IsGood lanes) (xs ++ ys)
 both lanes [] ys h k = k
@@ -27,11 +27,11 @@ both lanes (x ∷ xs) ys h k = (h.0, both lanes xs ys h.1 k)
 -- ---- a lane
 
 by_loss : (lost : Bool) (lanes tick lane state : ℕ) → lane < lanes
-    → AllByRecursion (IsGood lanes) (if lost then [] else Packet lane (packet tick lane (picture tick lane (next state))) ∷ [])
+    → AllByRecursion (IsGood lanes) (if lost then [] else Packet lane (made_packet tick lane (picture tick lane (next_state state))) ∷ [])
 by_loss true lanes tick lane state less = tt
 by_loss false lanes tick lane state less = (
   record {
-    spelled = (refl, less, length-packet tick lane (picture tick lane (next state)) (length-picture tick lane (next state)));
+    spelled = (refl, less, length-packet tick lane (picture tick lane (next_state state)) (length-picture tick lane (next_state state)));
     going_on = λ e. cc;
   },
   tt,
@@ -54,12 +54,12 @@ digits-short : (b : Bool) (k m n : ℕ) → length (if b then k ∷ [] else m �
 digits-short true k m n = omega arith
 digits-short false k m n = omega arith
 
-speaker-short : (lane : ℕ) → length (line_of (Speaker lane)) < 2 ^ 8
+speaker-short : (lane : ℕ) → length (line_saying (Speaker lane)) < 2 ^ 8
 speaker-short lane = omega (arith, digits-short (nat_lt lane 10) (48 + lane) (48 + lane / 10) (48 + lane % 10))
 
 speaker-good : (lanes lane : ℕ) → lane < 16 → IsGood lanes (Chair (Speaker lane))
 speaker-good lanes lane less = record {
-  spelled = (line_of (Speaker lane), refl, speaker-short lane, says_written (Speaker lane) (grind (arith, nat_tests, less)));
+  spelled = (line_saying (Speaker lane), refl, speaker-short lane, says_written (Speaker lane) (grind (arith, nat_tests, less)));
   going_on = λ e. cc;
 }
 
@@ -69,7 +69,7 @@ by_turn false lanes lane less = tt
 
 spoken-good : (lanes tick state : ℕ) → HasLanes lanes → AllByRecursion (IsGood lanes) (spoken lanes tick state)
 unfolding spoken
-spoken-good lanes tick state fits = by_turn (tick % 25 == 0) lanes (draw (next state) % lanes) (omega (arith, fits.0, fits.1))
+spoken-good lanes tick state fits = by_turn (tick % 25 == 0) lanes (draw (next_state state) % lanes) (omega (arith, fits.0, fits.1))
 
 tick-good : (lanes : ℕ) → IsGood lanes (Tick 3)
 tick-good lanes = record { spelled = (refl, (omega arith, omega arith)); going_on = λ e. cc }
@@ -94,8 +94,8 @@ front-good zero lanes list h = tt
 front-good (suc n) lanes [] h = tt
 front-good (suc n) lanes (x ∷ xs) h = (h.0, front-good n lanes xs h.1)
 
-placed-good : (lanes : ℕ) → AllByRecursion (IsGood lanes) (placed lanes)
-unfolding placed
+placed-good : (lanes : ℕ) → AllByRecursion (IsGood lanes) (placed_lanes lanes)
+unfolding placed_lanes
 placed-good lanes =
     front-good lanes lanes _ (
       record { spelled = (codes "place 1 0", refl, omega arith, says_written (Place One 0) refl); going_on = λ e. cc },
@@ -108,19 +108,19 @@ placed-good lanes =
       ),
     )
 
-going-on : (lanes : ℕ) (list : List Content) → AllByRecursion (IsGood lanes) list → AllByRecursion GoesOn list
+going-on : (lanes : ℕ) (list : List Content) → AllByRecursion (IsGood lanes) list → AllByRecursion IsNotEnd list
 going-on lanes [] h = tt
 going-on lanes (x ∷ xs) h = (h.0.going_on, going-on lanes xs h.1)
 
-spelled-all : (lanes : ℕ) (list : List Content) → AllByRecursion (IsGood lanes) list → AllZip (Spells lanes) (list ++ End ∷ []) (map entry_of (list ++ End ∷ []))
+spelled-all : (lanes : ℕ) (list : List Content) → AllByRecursion (IsGood lanes) list → AllZip (SpellsEntry lanes) (list ++ End ∷ []) (map entry_of (list ++ End ∷ []))
 spelled-all lanes [] h = (refl, tt)
 spelled-all lanes (x ∷ xs) h = (h.0.spelled, spelled-all lanes xs h.1)
 
 pub made-files : LawOfMadeFiles
 made-files seed ticks lanes fits =
-    let list = placed lanes ++ all_ticks ticks lanes 1 seed in
-    let good = both lanes (placed lanes) (all_ticks ticks lanes 1 seed) (placed-good lanes) (ticks-good ticks lanes 1 seed fits) in
-    let order : contents seed ticks lanes ≡ list ++ End ∷ [] = sym (append_assoc (placed lanes) (all_ticks ticks lanes 1 seed) (End ∷ [])) in (
+    let list = placed_lanes lanes ++ all_ticks ticks lanes 1 seed in
+    let good = both lanes (placed_lanes lanes) (all_ticks ticks lanes 1 seed) (placed-good lanes) (ticks-good ticks lanes 1 seed fits) in
+    let order : contents seed ticks lanes ≡ list ++ End ∷ [] = sym (append_assoc (placed_lanes lanes) (all_ticks ticks lanes 1 seed) (End ∷ [])) in (
       concat (map entry_of (contents seed ticks lanes)),
       refl,
       fits,
@@ -130,7 +130,7 @@ made-files seed ticks lanes fits =
         begins = record {
           entries = map entry_of (contents seed ticks lanes);
           cut = sym (append-nil (concat (map entry_of (contents seed ticks lanes))));
-          spelled = subst (λ (cs : List Content). AllZip (Spells lanes) cs (map entry_of cs)) (sym order) (spelled-all lanes list good);
+          spelled = subst (λ (cs : List Content). AllZip (SpellsEntry lanes) cs (map entry_of cs)) (sym order) (spelled-all lanes list good);
           counted = refl;
         };
         stops = (list, order, going-on lanes list good);

@@ -2,6 +2,7 @@ pub mod Draws
 pub mod Ends
 pub mod Laws
 pub mod Made
+pub mod Maker
 pub mod Packets
 pub mod Pictures
-pub mod Steps
+pub mod Writing

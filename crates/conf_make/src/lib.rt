@@ -2,6 +2,7 @@
 #![tactic(auto)]
 
 mod draws;
+mod entries;
 mod laws;
 mod maker;
 mod output;
@@ -9,6 +10,7 @@ mod pictures;
 
 pub use laws::made_files_are_conferences;
 pub use maker::{MakeEnd, MakeStop, make};
+pub use output::MakeTally;
 
 #[cfg(test)]
 mod tests;

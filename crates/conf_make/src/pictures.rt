@@ -2,9 +2,9 @@
 ghost use Rattle.std.specs.Prelude.{◌≡◌, ◌+◌, ◌*◌, ◌^◌, ◌<◌, ◌≤◌, ◌++◌, length};
 ghost use Rattle.pel_model.specs.declared.Format.TheVariants.{Qcif};
 ghost use Rattle.pel_model.specs.Text.{picture_header, group_header};
-ghost use Rattle.conf_make.specs.Draws.{next, behind};
-ghost use Rattle.conf_make.specs.Pictures.{times, grey_macroblock, grey_group, grey_picture, macroblock, macroblocks, count, group, behind_group, drawn_picture, behind_picture};
-ghost use Rattle.conf_make.specs.Steps.{most_bits, with_bits};
+ghost use Rattle.conf_make.specs.Draws.{next_state, state_after};
+ghost use Rattle.conf_make.specs.Pictures.{repeated, grey_macroblock, grey_group, grey_picture, macroblock, macroblocks, count, drawn_group, behind_group, drawn_picture, behind_picture};
+ghost use Rattle.conf_make.specs.Writing.{most_bits, with_bits};
 
 use crate::draws::draw;
 use pel_bits::BitBuf;
@@ -96,7 +96,7 @@ fn push_grey_macroblock(bits: &mut BitBuf)
 fn push_drawn_group(bits: &mut BitBuf, number: u8, state: &mut u64)
     requires number { number < 16 }
     requires room { length bits.old.list + 56 ≤ bits.old.capacity }
-    ensures bits { bits.new ≡ with_bits bits.old (group number state.old) }
+    ensures bits { bits.new ≡ with_bits bits.old (drawn_group number state.old) }
     ensures state { state.new ≡ behind_group state.old }
     ensures long { length bits.new.list ≤ length bits.old.list + 56 }
 {
@@ -107,7 +107,7 @@ fn push_drawn_group(bits: &mut BitBuf, number: u8, state: &mut u64)
 
 /// Draws how many macroblocks a group has.
 fn draw_count(state: &mut u64) -> u32
-    ensures state { state.new ≡ next state.old }
+    ensures state { state.new ≡ next_state state.old }
     ensures drawn { result ≡ count state.old }
     ensures few { result < 4 }
 {
@@ -119,7 +119,7 @@ fn push_macroblocks(bits: &mut BitBuf, count: u32, state: &mut u64)
     requires few { count < 4 }
     requires room { length bits.old.list + 10 * count ≤ bits.old.capacity }
     ensures bits { bits.new ≡ with_bits bits.old (macroblocks count state.old) }
-    ensures state { state.new ≡ behind count state.old }
+    ensures state { state.new ≡ state_after count state.old }
     ensures long { length bits.new.list ≤ length bits.old.list + 10 * count }
 {
     for _i in 0..count {

@@ -1,6 +1,6 @@
 //! Made files, whose octets another program made, and sinks that fail.
 
-use super::{MakeEnd, MakeStop, make};
+use super::{MakeEnd, MakeStop, MakeTally, make};
 use io_edge::MemSink;
 use std::alloc::Global;
 use std::test::Fail;
@@ -24,8 +24,7 @@ fn made(
 fn ended(stop: MakeStop, records: u64, octets: u64) -> MakeEnd {
     MakeEnd {
         stop,
-        records,
-        octets,
+        tally: MakeTally { records, octets },
     }
 }
 

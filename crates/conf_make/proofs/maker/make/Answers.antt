@@ -1,11 +1,11 @@
 -- The file, or nothing.
-use Rattle.std.proofs.Common.{ℕ, sym, subst, refl}
-use Rattle.std.proofs.KnownBytes.{Keeps-refl}
-use Rattle.conf_make.specs.Ends.{Ends}
+use Rattle.std.proofs.Common.{ℕ, subst}
+use Rattle.conf_make.specs.Ends.{IsMakeRun}
 use Rattle.conf_make.proofs.maker.make.Goals as goal
 
 pub returns-in-Ok : goal.returns-in-Ok
-returns-in-Ok g c = subst (λ (seed : ℕ). Ends seed c.args.ticks c.args.lanes (g.K.Sink.written c.args.sink.now) (g.K.Sink.written c.make_all.new.sink) (g.K.Sink.faults c.args.sink.now) (g.K.Sink.faults c.make_all.new.sink) c.make_all.result) c.in-Ok.ensures.seed c.make_all.ensures
-
-pub returns-in-Err : goal.returns-in-Err
-returns-in-Err g c = subst (Ends c.args.seed c.args.ticks c.args.lanes (g.K.Sink.written c.args.sink.now) (g.K.Sink.written c.args.sink.now) (g.K.Sink.faults c.args.sink.now) (g.K.Sink.faults c.args.sink.now)) (sym c.nothing_made.ensures) (Keeps-refl (g.K.Sink.written c.args.sink.now), refl, refl)
+returns-in-Ok g c =
+    let before = g.K.Sink.tells c.args.sink.now in
+    let after = g.K.Sink.tells c.make_all.new.sink in
+    subst (λ (lanes : ℕ). IsMakeRun c.args.seed c.args.ticks lanes before after c.make_all.result) c.in-Ok.ensures.lanes
+    (subst (λ (seed : ℕ). IsMakeRun seed c.args.ticks c.in-Ok.maker.lanes before after c.make_all.result) c.in-Ok.ensures.seed c.make_all.ensures)

@@ -1,12 +1,14 @@
 -- As the writing ended.
-use Rattle.std.proofs.Common.{◌∙◌, sym, ap, subst}
+use Rattle.std.proofs.Common.{sym, subst}
 use Rattle.conf_make.specs.declared.maker.MakeStop.{MakeStop}
-use Rattle.conf_make.specs.Ends.{Ends}
-use Rattle.conf_make.specs.Steps.{end_with}
+use Rattle.conf_make.specs.Ends.{MakeStopsBy}
 use Rattle.conf_make.proofs.Filing.{ended}
 use Rattle.conf_make.proofs.maker.make_all.Goals as goal
 
 pub returns : goal.returns
 returns g c =
-    subst (Ends c.args.maker.now.state c.args.ticks c.args.lanes _ _ _ _) (sym (c.end_with.ensures ∙ ap (λ (s : MakeStop). end_with s c.write_file.new.tally) c.stop_for-stop.ensures))
-    (ended c.write_file.result _ _ _ _ c.args.maker.now.state c.args.ticks c.args.lanes c.write_file.new.tally c.write_file.ensures.file c.write_file.ensures.cause)
+    let before = g.K.Sink.tells c.args.sink.now in
+    let after = g.K.Sink.tells c.write_file.new.sink in
+    let maker = c.args.maker.now in
+    subst (λ (s : MakeStop). MakeStopsBy s maker.state c.args.ticks maker.lanes before after c.write_file.new.self.tally) (sym c.written_stop-stop.ensures)
+    (ended c.write_file.result before after maker.state c.args.ticks maker.lanes c.write_file.new.self.tally c.write_file.ensures.file c.write_file.ensures.cause)

@@ -1,8 +1,8 @@
 -- A header, and as many macroblocks as were drawn.
 use Rattle.std.proofs.Common.{◌∙◌, ap, ap₂, ℕ}
-use Rattle.conf_make.specs.Draws.{behind}
+use Rattle.conf_make.specs.Draws.{state_after}
 use Rattle.conf_make.specs.Pictures.{macroblocks}
-use Rattle.conf_make.specs.Steps.{with_bits}
+use Rattle.conf_make.specs.Writing.{with_bits}
 use Rattle.conf_make.proofs.Drawn.{two-pushes, group-is, behind-group-is}
 use Rattle.conf_make.proofs.pictures.push_drawn_group.Goals as goal
 
@@ -16,5 +16,5 @@ returns-clause-bits c =
 pub returns-clause-state : goal.returns-clause-state
 returns-clause-state c =
     c.push_macroblocks.ensures.state
-    ∙ ap₂ (λ (n : ℕ) (s : ℕ). behind n s) c.draw_count-count.ensures.drawn c.draw_count-count.ensures.state
+    ∙ ap₂ (λ (n : ℕ) (s : ℕ). state_after n s) c.draw_count-count.ensures.drawn c.draw_count-count.ensures.state
     ∙ behind-group-is c.args.state.now

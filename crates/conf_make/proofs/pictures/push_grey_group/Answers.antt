@@ -1,8 +1,8 @@
 -- A header, and the macroblocks one by one.
 use Rattle.std.proofs.Common.{◌≡◌, ℕ, ◌∙◌, refl, ap, arith}
 use Rattle.pel_bits.specs.Buffer.{Buffer}
-use Rattle.conf_make.specs.Pictures.{times, grey_macroblock}
-use Rattle.conf_make.specs.Steps.{with_bits}
+use Rattle.conf_make.specs.Pictures.{repeated, grey_macroblock}
+use Rattle.conf_make.specs.Writing.{with_bits}
 use Rattle.conf_make.proofs.Drawn.{none-pushed, more-pushed, two-pushes, grey-group-is}
 use Rattle.conf_make.proofs.pictures.push_grey_group.Goals as goal
 
@@ -20,5 +20,5 @@ pub returns-clause-value : goal.returns-clause-value
 returns-clause-value c =
     let all : c.loop-i._i ≡ 33 = omega arith in
     two-pushes _ _ _ _ _ c.push_group_header.ensures.value
-    (c.loop-i.invariant.bits ∙ ap (λ (n : ℕ). with_bits c.push_group_header.new.bits (times n grey_macroblock)) all)
+    (c.loop-i.invariant.bits ∙ ap (λ (n : ℕ). with_bits c.push_group_header.new.bits (repeated n grey_macroblock)) all)
     ∙ ap (with_bits c.args.bits.now) (grey-group-is c.args.number)

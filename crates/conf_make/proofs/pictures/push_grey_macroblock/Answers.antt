@@ -1,6 +1,6 @@
 -- Three pushes.
 use Rattle.std.proofs.Common.{◌∙◌, ap}
-use Rattle.conf_make.specs.Steps.{with_bits}
+use Rattle.conf_make.specs.Writing.{with_bits}
 use Rattle.conf_make.proofs.Drawn.{three-pushes, grey-is}
 use Rattle.conf_make.proofs.pictures.push_grey_macroblock.Goals as goal
 

@@ -2,7 +2,7 @@
 use Rattle.std.proofs.Common.{◌∙◌, ap}
 use Rattle.pel_bits.specs.Buffer.{Buffer}
 use Rattle.conf_make.specs.Pictures.{grey_picture}
-use Rattle.conf_make.specs.Steps.{with_bits}
+use Rattle.conf_make.specs.Writing.{with_bits}
 use Rattle.conf_make.proofs.Drawn.{four-pushes, grey-picture-is}
 use Rattle.conf_make.proofs.pictures.push_grey_picture.Goals as goal
 

@@ -1,7 +1,7 @@
 -- Four fields.
 use Rattle.std.proofs.Common.{◌∙◌, ap, ℕ, ◌++◌}
 use Rattle.pel_bits.specs.Bits.{field}
-use Rattle.conf_make.specs.Steps.{with_bits}
+use Rattle.conf_make.specs.Writing.{with_bits}
 use Rattle.conf_make.proofs.Drawn.{four-pushes, group-header-is}
 use Rattle.conf_make.proofs.pictures.push_group_header.Goals as goal
 

@@ -1,6 +1,6 @@
 -- By the draw's last bit.
 use Rattle.std.proofs.Common.{◌≡◌, ◌%◌, ◌∙◌, ap, arith}
-use Rattle.conf_make.specs.Steps.{with_bits}
+use Rattle.conf_make.specs.Writing.{with_bits}
 use Rattle.conf_make.proofs.Drawn.{three-pushes, even-is, odd-is}
 use Rattle.conf_make.proofs.pictures.push_macroblock.Goals as goal
 

@@ -1,7 +1,7 @@
 -- One by one.
 use Rattle.std.proofs.Common.{ℕ, ◌+◌, ◌-◌, ◌∙◌, sym, ap, subst, arith}
 use Rattle.conf_make.specs.Pictures.{macroblock}
-use Rattle.conf_make.specs.Steps.{with_bits}
+use Rattle.conf_make.specs.Writing.{with_bits}
 use Rattle.conf_make.proofs.Drawn.{Pushes, at-first, one-more, all-pushed}
 use Rattle.conf_make.proofs.pictures.push_macroblocks.Goals as goal
 
