@@ -6,14 +6,13 @@ use Rattle.std.specs.Io.KnownBytes.{Consumes, IsAtEnd}
 use Rattle.bridge_replay.specs.declared.ends.ReplayEnd.{ReplayEnd}
 use Rattle.bridge_replay.specs.declared.ends.ReplayStop.{ReplayStop}
 use Rattle.bridge_replay.specs.declared.ends.ReplayStop.TheVariants.{Done, ReadFault, WriteFault, Cut, BadRecord, Limit, NoMemory}
-use Rattle.bridge_replay.specs.declared.ends.Settings.{Settings}
-use Rattle.bridge_replay.specs.Replays.{packing, Stopped, Wrote, Replays, StoppedEarly, NoneRead, Ends, IsComplete}
+use Rattle.bridge_replay.specs.Replays.{StoppedFor, WroteTicks, Replays, StoppedEarly, NoneRead, ReplayEnds, DoneOnWholeFile}
 use Rattle.io_edge.specs.Outside.{Outside}
-use Rattle.bridge_replay.specs.Steps.{oldest_first}
-use Rattle.cif_pack.specs.declared.packer.Settings.{Settings as Packing}
+use Rattle.bridge_replay.specs.FileHistory.{oldest_first}
+use Rattle.cif_pack.specs.declared.packer.Settings.{Settings}
 use Rattle.conf_file.specs.declared.answers.EntryWhy.{EntryWhy}
 use Rattle.conf_file.specs.Entries.{Content}
-use Rattle.conf_file.specs.File.{Said, Whole, WrongAt, CutAt, Conference, WrongHeader, CutHeader, IsFile, IsDecided, LawOfOneReading, LawOfFronts}
+use Rattle.conf_file.specs.File.{Said, Whole, WrongAt, CutAt, Conference, WrongHeader, CutHeader, IsFile, IsDecided, LawOfOneReading, LawOfFileFronts}
 use Rattle.io_edge.specs.Causes.{Rose}
 use Rattle.pel_model.specs.History.{History}
 
@@ -44,7 +43,7 @@ not-header lanes list e = cc
 not-front : (lanes : ℕ) (list : List Content) (n : ℕ) → Conference lanes list Whole ≡ CutHeader n → ⊥
 not-front lanes list n e = cc
 
-module _ (one_reading : LawOfOneReading) (fronts_decide : LawOfFronts) (file more : List ℕ) (lanes : ℕ) (list : List Content) (is : IsFile file (Conference lanes list Whole)) where
+module _ (one_reading : LawOfOneReading) (fronts_decide : LawOfFileFronts) (file more : List ℕ) (lanes : ℕ) (list : List Content) (is : IsFile file (Conference lanes list Whole)) where
   -- whatever follows the file
   whole-with : (xs : List ℕ) → IsFile (file ++ xs) (Conference lanes list Whole)
   whole-with xs = fronts_decide file xs (Conference lanes list Whole) tt is
@@ -71,38 +70,39 @@ module _ (one_reading : LawOfOneReading) (fronts_decide : LawOfFronts) (file mor
       one_reading octets (Conference lanes list Whole) said
       (subst (λ (xs : List ℕ). IsFile xs (Conference lanes list Whole)) (sym (longer file more octets rest.0 rest.2 long)) (whole-with (drop (length file) octets))) says
 
-  module _ (set : Settings) (before after : Outside) (told : before.left ≡ Some (file ++ more)) (short : length file ≤ set.budget)
-      (no_read : Rose before.faults after.faults → ⊥) (no_write : Rose before.write_faults after.write_faults → ⊥) where
-    consumed : (octets : List ℕ) → Consumes before.left after.left octets → Consumes (Some (file ++ more)) after.left octets
-    consumed octets taken = subst (λ (l : Option (List ℕ)). Consumes l after.left octets) told taken
+  module _ (budget : ℕ) (before after : Outside) (told : before.source.left ≡ Some (file ++ more)) (short : length file ≤ budget)
+      (no_read : Rose before.source.faults after.source.faults → ⊥) (no_write : Rose before.sink.faults after.sink.faults → ⊥) where
+    consumed : (octets : List ℕ) → Consumes before.source.left after.source.left octets → Consumes (Some (file ++ more)) after.source.left octets
+    consumed octets taken = subst (λ (l : Option (List ℕ)). Consumes l after.source.left octets) told taken
 
-    by-stop : (s : ReplayStop) (octets : List ℕ) (l : ℕ) (entries : List Content) (packer : Packing) (history whole : History) → Consumes before.left after.left octets
-        → Stopped s set.budget before after octets l entries → Wrote s packer before after l history whole → (s ≡ Done) ⊎ (s ≡ NoMemory)
-    by-stop Done octets l entries packer history whole taken stopped wrote = inl refl
-    by-stop ReadFault octets l entries packer history whole taken stopped wrote = absurd (no_read stopped.1)
-    by-stop WriteFault octets l entries packer history whole taken stopped wrote = absurd (no_write wrote.6)
-    by-stop (Cut place) octets l entries packer history whole taken stopped wrote =
-        absurd (not-cut lanes l list (oldest_first entries) place (all-say octets after.left (Conference l (oldest_first entries) (CutAt place)) (consumed octets taken) stopped.1 stopped.0))
-    by-stop (BadRecord place why) octets l entries packer history whole taken stopped wrote =
-        absurd (not-wrong lanes l list (oldest_first entries) place why (front-says octets after.left (Conference l (oldest_first entries) (WrongAt place why)) tt (consumed octets taken) stopped))
-    by-stop Limit octets l entries packer history whole taken stopped wrote =
-        absurd (not-cut lanes l list (oldest_first entries) set.budget
-        (long-says octets after.left (Conference l (oldest_first entries) (CutAt set.budget)) (omega (arith, short, stopped.1)) (consumed octets taken) stopped.0))
-    by-stop NoMemory octets l entries packer history whole taken stopped wrote = inr refl
+    by-stop : (s : ReplayStop) (octets : List ℕ) (l : ℕ) (entries : List Content) (set : Settings) (history whole : History) → Consumes before.source.left after.source.left octets
+        → StoppedFor s budget before after octets l entries → WroteTicks s set before after l history whole → (s ≡ Done) ⊎ (s ≡ NoMemory)
+    by-stop Done octets l entries set history whole taken stopped wrote = inl refl
+    by-stop ReadFault octets l entries set history whole taken stopped wrote = absurd (no_read stopped.1)
+    by-stop WriteFault octets l entries set history whole taken stopped wrote = absurd (no_write wrote.2.failed)
+    by-stop (Cut place) octets l entries set history whole taken stopped wrote =
+        absurd (not-cut lanes l list (oldest_first entries) place (all-say octets after.source.left (Conference l (oldest_first entries) (CutAt place)) (consumed octets taken) stopped.1 stopped.0))
+    by-stop (BadRecord place why) octets l entries set history whole taken stopped wrote =
+        absurd (not-wrong lanes l list (oldest_first entries) place why (front-says octets after.source.left (Conference l (oldest_first entries) (WrongAt place why)) tt (consumed octets taken) stopped.0))
+    by-stop Limit octets l entries set history whole taken stopped wrote =
+        absurd (not-cut lanes l list (oldest_first entries) budget
+        (long-says octets after.source.left (Conference l (oldest_first entries) (CutAt budget)) (omega (arith, short, stopped.1)) (consumed octets taken) stopped.0))
+    by-stop NoMemory octets l entries set history whole taken stopped wrote = inr refl
 
-    by-early : (s : ReplayStop) (octets : List ℕ) → Consumes before.left after.left octets → StoppedEarly s set.budget before after octets → (s ≡ Done) ⊎ (s ≡ NoMemory)
+    by-early : (s : ReplayStop) (octets : List ℕ) → Consumes before.source.left after.source.left octets → StoppedEarly s budget before after octets → (s ≡ Done) ⊎ (s ≡ NoMemory)
     by-early Done octets taken stopped = inl refl
     by-early ReadFault octets taken stopped = absurd (no_read stopped.1)
     by-early WriteFault octets taken stopped = absurd stopped
     by-early (Cut place) octets taken stopped =
-        absurd (not-front lanes list place (all-say octets after.left (CutHeader place) (consumed octets taken) stopped.1 stopped.0))
-    by-early (BadRecord place why) octets taken stopped = absurd (not-header lanes list (front-says octets after.left WrongHeader tt (consumed octets taken) stopped.0))
+        absurd (not-front lanes list place (all-say octets after.source.left (CutHeader place) (consumed octets taken) stopped.1 stopped.0))
+    by-early (BadRecord place why) octets taken stopped = absurd (not-header lanes list (front-says octets after.source.left WrongHeader tt (consumed octets taken) stopped.0))
     by-early Limit octets taken stopped =
-        absurd (not-front lanes list set.budget (long-says octets after.left (CutHeader set.budget) (omega (arith, short, stopped.0.0)) (consumed octets taken) stopped.0))
+        absurd (not-front lanes list budget (long-says octets after.source.left (CutHeader budget) (omega (arith, short, stopped.0.0)) (consumed octets taken) stopped.0))
     by-early NoMemory octets taken stopped = inr refl
 
-pub complete : LawOfOneReading → LawOfFronts → (set : Settings) (before after : Outside) (end : ReplayEnd) → Ends set before after end → IsComplete set before after end
-complete one fronts set before after end ends file more lanes list told is short no_read no_write =
-    ⊎_elim (λ (n : NoneRead set before after end). by-early one fronts file more lanes list is set before after told short no_read no_write end.stop n.octets n.taken n.stopped)
-    (λ (r : Replays set before after end).
-    by-stop one fronts file more lanes list is set before after told short no_read no_write end.stop r.octets r.lanes r.entries (packing set) r.history r.whole r.taken r.stopped r.output) ends
+pub complete : LawOfOneReading → LawOfFileFronts → (set : Settings) (budget : ℕ) (before after : Outside) (end : ReplayEnd)
+    → ReplayEnds set budget before after end → DoneOnWholeFile budget before after end
+complete one fronts set budget before after end ends file more lanes list told is short no_read no_write =
+    ⊎_elim (λ (n : NoneRead budget before after end). by-early one fronts file more lanes list is budget before after told short no_read no_write end.stop n.octets n.taken n.stopped)
+    (λ (r : Replays set budget before after end).
+    by-stop one fronts file more lanes list is budget before after told short no_read no_write end.stop r.octets r.lanes r.entries set r.history r.whole r.taken r.stopped r.output) ends

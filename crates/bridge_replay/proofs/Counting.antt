@@ -1,9 +1,8 @@
 -- What a tally counts is no more than the steps.
 use Rattle.std.proofs.Common.{ℕ, suc, ◌*◌, ◌≤◌, Bool, true, false, is_some, not, [], ◌∷◌, length, ap, arith}
-use Rattle.tick_picture.specs.declared.tally.Tally.{Tally}
-use Rattle.tick_picture.specs.Tallies.{with_step, steps_counted}
-use Rattle.tick_picture.specs.Ticks.{one_if, takes_in}
-use Rattle.bridge_replay.specs.UnderWay.{Counts}
+use Rattle.cif_pack.specs.declared.tally.Tally.{Tally}
+use Rattle.cif_pack.specs.Tallies.{with_step, steps_counted, one_if, takes_in}
+use Rattle.bridge_replay.specs.UnderWay.{CountsSteps}
 use Rattle.pel_model.specs.declared.note.TickNote.{TickNote}
 use Rattle.pel_model.specs.History.{Step, Post, Gap, Order, Tick, End, History}
 use Rattle.pel_model.specs.Plan.{is_done}
@@ -41,7 +40,7 @@ few-counted : (history : History) → AreFewSteps (length history) (steps_counte
 few-counted [] = record { ticks = omega arith; pictures = omega arith; gaps = omega arith; commands = omega arith; refused = omega arith; taken = omega arith }
 few-counted (s ∷ history) = one-more (length history) (steps_counted history) s (few-counted history)
 
-pub few-steps : (history : History) (t : Tally) → Counts history t → AreFewSteps (length history) t
+pub few-steps : (history : History) (t : Tally) → CountsSteps history t → AreFewSteps (length history) t
 few-steps history t counts =
     let few = few-counted history in
     record {

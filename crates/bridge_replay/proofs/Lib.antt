@@ -1,11 +1,16 @@
 pub mod Calls
 pub mod Complete
 pub mod Counting
-mod ReadsBack
 pub mod OneHistory
+pub mod PacketCuts
+pub mod PacketPieces
+pub mod PacketRuns
+pub mod PicturesRead
+pub mod ReadingBack
 pub mod Reserving
 pub mod Starting
 pub mod Stopping
 pub mod Ticks
 pub mod Units
 pub mod WorkedReplay
+mod WrittenReadsBack

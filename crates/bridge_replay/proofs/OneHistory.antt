@@ -1,7 +1,6 @@
 -- Entries have one history.
 use Rattle.std.proofs.Common.{◌≡◌, ⊎_elim, ℕ, ◌+◌, Bool, List, [], ◌∷◌, Option, None, Some, refl, sym, ap, ap₂, subst, ◌∙◌}
-use Rattle.bridge_replay.specs.Laws.{LawOfOneHistory}
-use Rattle.bridge_replay.specs.Steps.{AfterUnit, AfterEntry, packets_in, after_loss}
+use Rattle.bridge_replay.specs.FileHistory.{AfterUnit, AfterEntry, packets_in, after_loss, LawOfOneHistory}
 use Rattle.conf_file.specs.Entries.{Content, Packet, Chair, Tick as TickEntry, End as EndEntry}
 use Rattle.pel_model.specs.declared.Format.TheVariants.{Qcif}
 use Rattle.pel_model.specs.declared.Quad.TheVariants.{One, Two, Three, Four}

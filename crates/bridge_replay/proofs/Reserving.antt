@@ -2,23 +2,25 @@
 use Rattle.std.proofs.Common.{◌≡◌, ℕ, ◌<◌, ◌^◌, false, List, [], None, Option, length, All, refl, sym, ap, subst, ◌∙◌, arith}
 use Rattle.std.proofs.lemmas.Option.{slice_get-get_or}
 use Rattle.bridge_replay.specs.declared.conference.Conference.{Conference}
-use Rattle.tick_picture.specs.declared.tally.Tally.{Tally}
-use Rattle.tick_picture.specs.Tallies.{nothing_counted}
 use Rattle.bridge_replay.specs.UnderWay.{most_steps, IsFedQcif, AreFed, beginning, UnderWay}
-use Rattle.cif_pack.specs.declared.packer.Settings.{Settings as Packing}
+use Rattle.cif_pack.specs.declared.packer.Settings.{Settings}
+use Rattle.cif_pack.specs.declared.tally.Tally.{Tally}
+use Rattle.cif_pack.specs.State.{PackerState}
+use Rattle.cif_pack.specs.Tallies.{nothing_counted}
 use Rattle.cif_pack.proofs.ListLaws.{nothing-sent}
 use Rattle.h261_pic.specs.Coded.{Coding, nothing}
 use Rattle.hall_core.specs.Hall.{lanes_of}
 use Rattle.hall_core.specs.Stands.{StandsFor, IsQcifHand}
-use Rattle.pel_model.specs.declared.Format.TheVariants.{Qcif}
+use Rattle.io_edge.specs.Outside.{Output}
+use Rattle.pel_model.specs.declared.Format.TheVariants.{Qcif, Cif}
 use Rattle.pel_model.specs.declared.Quad.TheVariants.{One, Two, Three, Four}
-use Rattle.rtp_h261.specs.Depack.{Held, StandsFor as IsFed}
-use Rattle.rtp_h261.specs.Steps.{Seek}
+use Rattle.rtp_h261.specs.Depack.{Held, WasFed}
+use Rattle.rtp_h261.specs.OneByOne.{Seek}
 
 -- a depacketiser of QCIF that was fed nothing
 pub record IsFresh (d : Held) : Type 0 where
   pub format : d.format ≡ Qcif
-  pub empty : IsFed [] d
+  pub empty : WasFed [] d
 
 fresh-held : Held
 fresh-held = record { format = Qcif; state = record { next = None; mode = Seek } }
@@ -39,10 +41,10 @@ qcif-hand c one two three four Two = ap (λ (b : Coding). b.format) two
 qcif-hand c one two three four Three = ap (λ (b : Coding). b.format) three
 qcif-hand c one two three four Four = ap (λ (b : Coding). b.format) four
 
-pub begun : (set : Packing) (lanes : ℕ) (c : Conference) (first : Option (List ℕ)) → set.seq < 2 ^ 16 → lanes_of c.hall ≡ lanes → c.hall.limit ≡ most_steps → StandsFor c.hall []
+pub begun : (set : Settings) (lanes : ℕ) (c : Conference) (first : Output) → set.seq < 2 ^ 16 → lanes_of c.hall ≡ lanes → c.hall.limit ≡ most_steps → StandsFor c.hall []
     → AreFed lanes [] c.depacks.items → c.hand.one.value ≡ nothing Qcif → c.hand.two.value ≡ nothing Qcif → c.hand.three.value ≡ nothing Qcif → c.hand.four.value ≡ nothing Qcif
-    → c.writer ≡ record { settings = set; spent = false } → c.tally ≡ nothing_counted → UnderWay (beginning set lanes) c first first
-begun set lanes c first small lanes_are limit stands depacks one two three four writer tally =
+    → c.composed ≡ nothing Cif → c.packer ≡ record { settings = set; spent = false } → c.tally ≡ nothing_counted → UnderWay (beginning set lanes) c first first
+begun set lanes c first small lanes_are limit stands depacks one two three four composed packer tally =
     let sent = nothing-sent set first small in
     record {
       steps = refl;
@@ -55,11 +57,13 @@ begun set lanes c first small lanes_are limit stands depacks one two three four 
       };
       depacks = depacks;
       hand = qcif-hand c one two three four;
+      composed = ap (λ (b : Coding). b.format) composed;
       sent = record {
-        state = writer ∙ sent.state;
+        state = packer ∙ sent.state;
         packets_told = ap (λ (t : Tally). t.packets) tally;
         octets_told = ap (λ (t : Tally). t.octets) tally;
         written = sent.written;
+        faults = refl;
       };
       few_packets = omega (arith, ap (λ (t : Tally). t.packets) tally);
       few_octets = omega (arith, ap (λ (t : Tally). t.octets) tally);

@@ -1,12 +1,12 @@
 -- The worked conference, computed.
 use Rattle.std.proofs.Common.{◌≡◌, [], ◌∷◌, refl, arith}
-use Rattle.tick_picture.specs.Output.{pictures_written}
-use Rattle.tick_picture.specs.Tallies.{tally_of}
-use Rattle.bridge_replay.specs.Worked.{settings, note, history, octets, OneEmptyTick}
+use Rattle.bridge_replay.specs.Worked.{worked_settings, note, history, octets, OneEmptyTick}
 use Rattle.pel_model.specs.declared.Quad.{Quad}
 use Rattle.pel_model.specs.declared.Quad.TheVariants.{One, Two, Three, Four}
 use Rattle.cif_pack.specs.Packets.{out}
-use Rattle.cif_pack.specs.Payload.{packed}
+use Rattle.cif_pack.specs.Payload.{bits_packed}
+use Rattle.cif_pack.specs.PicturesWritten.{pictures_written}
+use Rattle.cif_pack.specs.Tallies.{tally_of}
 use Rattle.pel_bits.specs.Bits.{field as bits_field, number}
 use Rattle.pel_model.specs.Bits.{field}
 use Rattle.pel_model.specs.Headers.{picture_header_text, group_header_text}
@@ -28,12 +28,12 @@ is-note = record { low = omega arith; high = omega arith; total = refl; takes = 
 goes-on : TickEntry 1 ≡ EndEntry → ⊥
 goes-on e = cc
 
-writes-so : out settings 0 (pictures_written 1 history) ≡ octets
-unfolding picture_header_text group_header_text macroblocks_text field bits_field number packed
+writes-so : out worked_settings 0 (pictures_written 1 history) ≡ octets
+unfolding picture_header_text group_header_text macroblocks_text field bits_field number bits_packed
 writes-so = refl
 
-counts-so : tally_of settings 1 history history ≡ record { ticks = 1; pictures = 0; gaps = 0; commands = 0; refused = 0; taken = 0; packets = 1; octets = 61 }
-unfolding picture_header_text group_header_text macroblocks_text field bits_field number packed
+counts-so : tally_of worked_settings 1 history history ≡ record { ticks = 1; pictures = 0; gaps = 0; commands = 0; refused = 0; taken = 0; packets = 1; octets = 61 }
+unfolding picture_header_text group_header_text macroblocks_text field bits_field number bits_packed
 counts-so = refl
 
 pub one-empty-tick : OneEmptyTick

@@ -1,6 +1,6 @@
-pub mod Laws
-pub mod Reading
+pub mod FileHistory
+pub mod ReadingBack
+pub mod ReadsFile
 pub mod Replays
-pub mod Steps
 pub mod UnderWay
 pub mod Worked

@@ -1,17 +1,17 @@
 -- A worked conference: one lane, a tick of one step, and the end.
 use Rattle.std.specs.Prelude.{◌≡◌, ℕ, ◌++◌, List, [], ◌∷◌, None, codes}
-use Rattle.tick_picture.specs.Output.{pictures_written}
-use Rattle.bridge_replay.specs.Steps.{oldest_first, IsHistory}
-use Rattle.tick_picture.specs.Tallies.{tally_of}
-use Rattle.cif_pack.specs.declared.packer.Settings.{Settings as Packing}
+use Rattle.bridge_replay.specs.FileHistory.{oldest_first, IsHistory}
+use Rattle.cif_pack.specs.declared.packer.Settings.{Settings}
 use Rattle.cif_pack.specs.Packets.{out}
+use Rattle.cif_pack.specs.PicturesWritten.{pictures_written}
+use Rattle.cif_pack.specs.Tallies.{tally_of}
 use Rattle.conf_file.specs.Entries.{Content, Tick as TickEntry, End as EndEntry}
 use Rattle.conf_file.specs.File.{Whole, Conference, IsFile}
 use Rattle.pel_model.specs.declared.note.TickNote.{TickNote}
 use Rattle.pel_model.specs.History.{History, Tick, End}
 
-abbrev pub settings : Packing
-settings = record { mtu = 1400; seq = 0; stamp = 0; ssrc = 1211250225 }
+abbrev pub worked_settings : Settings
+worked_settings = record { mtu = 1400; seq = 0; stamp = 0; ssrc = 1211250225 }
 
 abbrev pub note : TickNote
 note = record { step = 1; total = 1; taken_one = None; taken_two = None; taken_three = None; taken_four = None; waiting = 0 }
@@ -36,7 +36,7 @@ octets =
 pub record OneEmptyTick : Type 0 where
   pub says : IsFile file (Conference 1 (oldest_first entries) Whole)
   pub steps : IsHistory 1 entries history
-  pub writes : out settings 0 (pictures_written 1 history) ≡ octets
+  pub writes : out worked_settings 0 (pictures_written 1 history) ≡ octets
   pub counts :
-      tally_of settings 1 history history
+      tally_of worked_settings 1 history history
       ≡ record { ticks = 1; pictures = 0; gaps = 0; commands = 0; refused = 0; taken = 0; packets = 1; octets = 61 }

@@ -6,11 +6,12 @@ mod conference;
 mod ends;
 mod job;
 mod laws;
+mod spare;
 
-pub use ends::{ReplayEnd, ReplayStop, Settings};
+pub use cif_pack::{Settings, Tally};
+pub use ends::{ReplayEnd, ReplayStop};
 pub use job::replay;
-pub use laws::{one_history, worked_replay};
-pub use tick_picture::Tally;
+pub use laws::{one_history, packets_are_read_back, worked_replay};
 
 #[cfg(test)]
 mod tests;

@@ -169,32 +169,49 @@ const SET: Settings = Settings {
     seq: 0,
     stamp: 0,
     ssrc: 1_211_250_225,
-    budget: 0x100_0000,
 };
 
-// Replays a file whose source and sink fail at the calls with these numbers; how it ended, and the digest of what was
-// written.
-fn replayed(
+/// The budget where no other is said.
+const BUDGET: u64 = 0x100_0000;
+
+// The digest of octets.
+fn digest(octets: &[u8]) -> u64 {
+    let mut digest = 0xcbf2_9ce4_8422_2325;
+    for octet in octets {
+        digest = (digest ^ u64::from(*octet)).wrapping_mul(0x100_0000_01b3);
+    }
+    digest
+}
+
+// Replays a file whose source and sink fail at the calls with these numbers, and give and take so many octets in a call; how
+// it ended, how many octets were written, and their digest.
+fn run(
     file: &File,
     set: Settings,
-    source_fails: u64,
-    sink_fails: u64,
-) -> Result<(ReplayEnd, u64), Fail>
-    requires mtu { (1000 ≤ set.mtu) }
-    requires most { set.mtu ≤ 9000 }
-    requires budget { set.budget < 1000000000 }
+    budget: u64,
+    fails: (u64, u64),
+    piece: u64,
+) -> Result<(ReplayEnd, u64, u64), Fail>
+    requires mtu { (1000 ≤ set.mtu) × (set.mtu ≤ 9000) }
+    requires budget { budget ≤ 16777216 }
+    requires piece { 0 < piece }
 {
     let alloc = file.alloc;
     let mut octets = Vec::new(alloc);
     octets.extend_from_slice(&file.octets)?;
-    let mut source = MemSource::new(octets, vec![in alloc; source_fails]?, 997);
-    let mut sink = MemSink::reserve(alloc, 40_000, vec![in alloc; sink_fails]?, 997)?;
-    let end = replay(alloc, &mut source, &mut sink, set);
-    let mut digest = 0xcbf2_9ce4_8422_2325;
-    for octet in sink.bytes() {
-        digest = (digest ^ u64::from(*octet)).wrapping_mul(0x100_0000_01b3);
-    }
-    Ok((end, digest))
+    let mut source = MemSource::new(octets, vec![in alloc; fails.0]?, piece);
+    let mut sink = MemSink::reserve(alloc, 40_000, vec![in alloc; fails.1]?, piece)?;
+    let end = replay(alloc, &mut source, &mut sink, set, budget);
+    Ok((end, sink.bytes().len() as u64, digest(sink.bytes())))
+}
+
+// Replays a file whose source and sink do not fail.
+fn replayed(file: &File, set: Settings, budget: u64) -> Result<(ReplayEnd, u64), Fail>
+    requires mtu { (1000 ≤ set.mtu) × (set.mtu ≤ 9000) }
+    requires budget { budget ≤ 16777216 }
+{
+    let (end, _len, sum) = run(file, set, budget, (0, 0), 997)?;
+    Ok((end, sum))
 }
 
 // A tally: ticks, pictures, gaps, commands, refused, taken, packets, octets.
@@ -240,7 +257,7 @@ fn one_empty_tick(rt: HostRuntime) -> Result<(), Fail> {
     let mut file = File::new(rt.alloc(), 1)?;
     file.tick(1)?;
     file.end()?;
-    let got = replayed(&file, SET, 0, 0)?;
+    let got = replayed(&file, SET, BUDGET)?;
     assert_eq!(rt; got, (done([1, 0, 0, 0, 0, 0, 1, 61]), ONE_TICK));
     Ok(())
 }
@@ -256,9 +273,8 @@ fn numbers_past_the_last(rt: HostRuntime) -> Result<(), Fail> {
         seq: 65535,
         stamp: 4_294_967_295,
         ssrc: 7,
-        ..SET
     };
-    let got = replayed(&file, set, 0, 0)?;
+    let got = replayed(&file, set, BUDGET)?;
     assert_eq!(rt;
         got,
         (done([2, 0, 0, 0, 0, 0, 2, 122]), 0xed5a_9349_b931_c9e4)
@@ -286,7 +302,7 @@ fn placed(alloc: Global, lanes: u8, sample: Sample) -> Result<File, Fail> {
 #[test]
 fn grey_top_left(rt: HostRuntime) -> Result<(), Fail> {
     let file = placed(rt.alloc(), 1, Grey)?;
-    let got = replayed(&file, SET, 0, 0)?;
+    let got = replayed(&file, SET, BUDGET)?;
     assert_eq!(rt;
         got,
         (done([1, 1, 0, 1, 0, 1, 1, 866]), 0x4b3d_1536_7ba0_1787)
@@ -301,7 +317,7 @@ fn grey_bottom_right(rt: HostRuntime) -> Result<(), Fail> {
     file.picture(0, 1, Grey)?;
     file.tick(1)?;
     file.end()?;
-    let got = replayed(&file, SET, 0, 0)?;
+    let got = replayed(&file, SET, BUDGET)?;
     assert_eq!(rt;
         got,
         (done([1, 1, 0, 1, 0, 1, 1, 866]), 0x2324_b418_33e8_f88a)
@@ -312,7 +328,7 @@ fn grey_bottom_right(rt: HostRuntime) -> Result<(), Fail> {
 #[test]
 fn four_greys(rt: HostRuntime) -> Result<(), Fail> {
     let file = placed(rt.alloc(), 4, Grey)?;
-    let got = replayed(&file, SET, 0, 0)?;
+    let got = replayed(&file, SET, BUDGET)?;
     assert_eq!(rt;
         got,
         (done([1, 4, 0, 4, 0, 4, 3, 3317]), 0x98d6_1de2_2851_1d7a)
@@ -323,7 +339,7 @@ fn four_greys(rt: HostRuntime) -> Result<(), Fail> {
 #[test]
 fn four_full_pictures(rt: HostRuntime) -> Result<(), Fail> {
     let file = placed(rt.alloc(), 4, Full)?;
-    let got = replayed(&file, SET, 0, 0)?;
+    let got = replayed(&file, SET, BUDGET)?;
     assert_eq!(rt;
         got,
         (done([1, 4, 0, 4, 0, 4, 25, 33_224]), 0x9dac_d07b_b365_50c9)
@@ -334,7 +350,7 @@ fn four_full_pictures(rt: HostRuntime) -> Result<(), Fail> {
 #[test]
 fn one_bit_over_the_limit(rt: HostRuntime) -> Result<(), Fail> {
     let file = placed(rt.alloc(), 1, Over)?;
-    let got = replayed(&file, SET, 0, 0)?;
+    let got = replayed(&file, SET, BUDGET)?;
     assert_eq!(rt; got, (done([1, 0, 1, 1, 0, 0, 1, 61]), ONE_TICK));
     Ok(())
 }
@@ -359,7 +375,7 @@ fn lost_middle_packet(rt: HostRuntime) -> Result<(), Fail> {
     file.picture(0, 5, Grey)?;
     file.tick(1)?;
     file.end()?;
-    let got = replayed(&file, SET, 0, 0)?;
+    let got = replayed(&file, SET, BUDGET)?;
     assert_eq!(rt;
         got,
         (done([3, 3, 1, 1, 0, 2, 3, 1793]), 0x129e_04ed_858e_af50)
@@ -380,7 +396,7 @@ fn bad_kind_and_cut_after_two_ticks(rt: HostRuntime) -> Result<(), Fail> {
         file.tick(1)?;
         file.octets.push(last)?;
         let tally = tally([2, 0, 0, 0, 0, 0, 2, 122]);
-        let got = replayed(&file, SET, 0, 0)?;
+        let got = replayed(&file, SET, BUDGET)?;
         assert_eq!(rt; got, (ReplayEnd { stop, tally }, TWO_TICKS));
     }
     Ok(())
@@ -407,7 +423,7 @@ fn an_ordinary_call(rt: HostRuntime) -> Result<(), Fail> {
         }
     }
     file.end()?;
-    let got = replayed(&file, SET, 0, 0)?;
+    let got = replayed(&file, SET, BUDGET)?;
     assert_eq!(rt;
         got,
         (
@@ -425,7 +441,7 @@ fn refused_commands_are_counted(rt: HostRuntime) -> Result<(), Fail> {
     file.order(b"clear 2")?;
     file.order(b"speaker 0")?;
     file.end()?;
-    let got = replayed(&file, SET, 0, 0)?;
+    let got = replayed(&file, SET, BUDGET)?;
     assert_eq!(rt; got, (done([0, 0, 0, 3, 2, 0, 0, 0]), NOTHING));
     Ok(())
 }
@@ -436,28 +452,68 @@ fn budget_of_twelve_and_thirteen(rt: HostRuntime) -> Result<(), Fail> {
     file.tick(1)?;
     file.end()?;
     for (budget, stop) in [(12, ReplayStop::Limit), (13, ReplayStop::Done)] {
-        let got = replayed(&file, Settings { budget, ..SET }, 0, 0)?;
+        let got = replayed(&file, SET, budget)?;
         let tally = tally([1, 0, 0, 0, 0, 0, 1, 61]);
         assert_eq!(rt; got, (ReplayEnd { stop, tally }, ONE_TICK));
     }
     Ok(())
 }
 
+// Reads of at most 100 octets: the header is one, the line of the chair 2 to 4, the packet of 835 octets 5 to 15, the tick 16
+// and 17, and the end 18.
 #[test]
-fn failing_source_and_sink(rt: HostRuntime) -> Result<(), Fail> {
-    let mut file = File::new(rt.alloc(), 1)?;
-    let got = replayed(&file, SET, 1, 0)?;
-    let tally = tally([0; 8]);
+fn each_read_fails_in_turn(rt: HostRuntime) -> Result<(), Fail> {
+    let file = placed(rt.alloc(), 1, Grey)?;
     let stop = ReplayStop::ReadFault;
-    assert_eq!(rt; got, (ReplayEnd { stop, tally }, NOTHING));
-    file.tick(1)?;
-    file.end()?;
-    let got = replayed(&file, SET, 0, 1)?;
+    for read in 1..20 {
+        let counts = match read {
+            1..=4 => [0; 8],
+            5..=15 => [0, 0, 0, 1, 0, 0, 0, 0],
+            16 | 17 => [0, 1, 0, 1, 0, 0, 0, 0],
+            _ => [1, 1, 0, 1, 0, 1, 1, 866],
+        };
+        let (end, _len, sum) = run(&file, SET, BUDGET, (read, 0), 100)?;
+        let tally = tally(counts);
+        let want = match read {
+            1..=17 => (ReplayEnd { stop, tally }, NOTHING),
+            18 => (ReplayEnd { stop, tally }, 0x4b3d_1536_7ba0_1787),
+            _ => (done(counts), 0x4b3d_1536_7ba0_1787),
+        };
+        assert_eq!(rt; (end, sum), want);
+    }
+    Ok(())
+}
+
+// Writes of at most 500 octets: frames of 1,399, 1,400 and 518 octets take eight. What was written ends where the write that
+// fails would have begun.
+#[test]
+fn each_write_fails_in_turn(rt: HostRuntime) -> Result<(), Fail> {
+    let file = placed(rt.alloc(), 4, Grey)?;
     let stop = ReplayStop::WriteFault;
-    let tally = Tally { ticks: 1, ..tally };
-    assert_eq!(rt; got, (ReplayEnd { stop, tally }, NOTHING));
+    let tally = tally([1, 4, 0, 4, 0, 4, 0, 0]);
+    for (write, begins) in [
+        (1, 0),
+        (2, 500),
+        (3, 1000),
+        (4, 1399),
+        (5, 1899),
+        (6, 2399),
+        (7, 2799),
+        (8, 3299),
+    ] {
+        let (end, len, _sum) = run(&file, SET, BUDGET, (0, write), 500)?;
+        assert_eq!(rt; (end, len), (ReplayEnd { stop, tally }, begins));
+    }
+    let (end, len, _sum) = run(&file, SET, BUDGET, (0, 9), 500)?;
+    assert_eq!(rt; (end, len), (done([1, 4, 0, 4, 0, 4, 3, 3317]), 3317));
+    Ok(())
+}
+
+#[test]
+fn an_empty_file(rt: HostRuntime) -> Result<(), Fail> {
+    let mut file = File::new(rt.alloc(), 1)?;
     file.octets.clear();
-    let got = replayed(&file, SET, 0, 0)?;
+    let got = replayed(&file, SET, BUDGET)?;
     let stop = ReplayStop::Cut { place: 0 };
     let tally = Tally::default();
     assert_eq!(rt; got, (ReplayEnd { stop, tally }, NOTHING));

@@ -1,22 +1,16 @@
-use Rattle.std.proofs.Common.{◌≡◌, ◌-◌}
-use Rattle.pel_model.specs.declared.Format.TheVariants.{Qcif}
-use Rattle.bridge_replay.specs.declared.ends.Settings.{Settings}
-use Rattle.bridge_replay.specs.Reading.{ReplaysOn, IsReplaying}
-use Rattle.io_edge.specs.Outside.{Outside}
+use Rattle.std.proofs.Common.{ℕ, ◌-◌}
+use Rattle.bridge_replay.specs.ReadsFile.{ReplaysOn, IsReplaying}
+use Rattle.cif_pack.specs.declared.packer.Settings.{Settings}
+use Rattle.io_edge.specs.Outside.{Outside, outside}
 use Rattle.bridge_replay.proofs.job.read_on.Given as goal
 
 abbrev pub invariant-loop-conference : goal.invariant-loop-conference
 invariant-loop-conference g l = record {
-  format : l.item.value.format ≡ Qcif;
-  stands : IsReplaying
-      (record { left = g.S.Source.left l.source; faults = g.S.Source.faults l.source; written = g.K.Sink.written l.sink; write_faults = g.K.Sink.faults l.sink })
-      l.reader l.conference;
-  goes : (set : Settings) (before : Outside) → ReplaysOn set before
-      (record { left = g.S.Source.left l.fn.source; faults = g.S.Source.faults l.fn.source; written = g.K.Sink.written l.fn.sink; write_faults = g.K.Sink.faults l.fn.sink })
-      l.fn.reader l.fn.conference → ReplaysOn set before
-      (record { left = g.S.Source.left l.source; faults = g.S.Source.faults l.source; written = g.K.Sink.written l.sink; write_faults = g.K.Sink.faults l.sink })
-      l.reader l.conference;
+  stands : IsReplaying (outside (g.S.Source.tells l.source) (g.K.Sink.tells l.sink)) l.reader l.conference;
+  goes : (set : Settings) (budget : ℕ) (before : Outside) → ReplaysOn set budget before
+      (outside (g.S.Source.tells l.fn.source) (g.K.Sink.tells l.fn.sink)) l.fn.reader l.fn.conference → ReplaysOn set budget before
+      (outside (g.S.Source.tells l.source) (g.K.Sink.tells l.sink)) l.reader l.conference;
 }
 
 abbrev pub decreases-loop-conference : goal.decreases-loop-conference
-decreases-loop-conference g l = l.reader.budget - l.reader.taken
+decreases-loop-conference g l = l.reader.allowance.budget - l.reader.allowance.taken

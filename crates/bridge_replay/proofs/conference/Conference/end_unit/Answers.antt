@@ -7,13 +7,13 @@ use Rattle.rtp_h261.specs.Depack.{HasUnit}
 use Rattle.bridge_replay.proofs.Units.{picture-goes, gap-goes}
 use Rattle.bridge_replay.proofs.conference.Conference.end_unit.Goals as goal
 
-pub returns-in-Picture-clause-goes : goal.returns-in-Picture-clause-goes
-returns-in-Picture-clause-goes c = λ bits former has lanes history follows free.
-    picture-goes c.args.lane bits former c.args.item.value lanes history c.args.self.now c.receive.new.self
-    (subst (λ (u : Ended). HasUnit Qcif bits (Some u) former c.args.item.value) c.in-Picture.is has)
-    (subst (λ (b : Coding). length b.bits ≤ limit b.format) c.deref.ensures c.tell_length.ensures) c.receive.ensures.made follows free
+pub returns-in-Picture : goal.returns-in-Picture
+returns-in-Picture c = λ bits former has lanes history follows free.
+    picture-goes c.args.lane bits former c.args.spare.item.value lanes history c.args.self.now c.receive.new.self
+    (subst (λ (u : Ended). HasUnit Qcif bits (Some u) former c.args.spare.item.value) c.in-Picture.is has)
+    (subst (λ (b : Coding). length b.bits ≤ limit b.format) c.deref.ensures c.tells_length.ensures.within) c.receive.ensures follows free
 
-pub returns-in-Gap-clause-goes : goal.returns-in-Gap-clause-goes
-returns-in-Gap-clause-goes c = λ bits former has lanes history follows free.
-    gap-goes c.args.lane bits c.in-Gap._fault former c.args.item.value lanes history c.args.self.now c.lose.new.self
-    (subst (λ (u : Ended). HasUnit Qcif bits (Some u) former c.args.item.value) c.in-Gap.is has) c.lose.ensures.made follows free
+pub returns-in-Gap : goal.returns-in-Gap
+returns-in-Gap c = λ bits former has lanes history follows free.
+    gap-goes c.args.lane bits c.in-Gap._fault former c.args.spare.item.value lanes history c.args.self.now c.lose.new.self
+    (subst (λ (u : Ended). HasUnit Qcif bits (Some u) former c.args.spare.item.value) c.in-Gap.is has) c.lose.ensures follows free

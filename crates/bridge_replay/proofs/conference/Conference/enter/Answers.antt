@@ -8,9 +8,11 @@ use Rattle.pel_model.specs.History.{Order}
 use Rattle.bridge_replay.proofs.Units.{step-enters}
 use Rattle.bridge_replay.proofs.conference.Conference.enter.Goals as goal
 
-pub returns-in-Order-clause-entered : goal.returns-in-Order-clause-entered
-returns-in-Order-clause-entered g c = λ p first u free.
-    let made = c.order.ensures.made p.lanes p.history u.follows in
-    subst (λ (e : Entry). Entered p (content_of e) c.order.new.self first (g.K.Sink.written c.args.sink.now)) (sym c.in-Order.is)
-    (step-enters p (Chair c.in-Order.command) (Order c.in-Order.command made.0) c.args.self.now c.order.new.self first (g.K.Sink.written c.args.sink.now) u made.1
-    c.order.ensures.beside c.order.ensures.hand (ap (λ (r : Reply). Order c.in-Order.command r ∷ p.history) made.1.legal.2) (λ n. refl) refl free.going)
+pub returns-in-Order : goal.returns-in-Order
+returns-in-Order g c = λ p first u free.
+    let made = c.order.ensures in
+    let follows = made.1.follows p.lanes p.history u.follows in
+    let now = g.K.Sink.tells c.args.sink.now in
+    subst (λ (e : Entry). Entered p (content_of e) c.order.new.self first now) (sym c.in-Order.is)
+    (step-enters p (Chair c.in-Order.command) (Order c.in-Order.command made.0) c.args.self.now c.order.new.self first now u follows
+    made.1.beside made.1.hand (ap (λ (r : Reply). Order c.in-Order.command r ∷ p.history) follows.legal.2) (λ n. refl) refl free.going)

@@ -4,5 +4,5 @@ use Rattle.bridge_replay.proofs.conference.Conference.receive.Goals as goal
 
 pub overflow_add-self : goal.overflow_add-self
 overflow_add-self c =
-    let room = c.requires.room in
+    let room = c.requires.may.1 in
     omega (arith, (few-steps room.1 c.args.self.now.tally room.2.counts).pictures, room.3.room)

@@ -4,10 +4,10 @@ use Rattle.bridge_replay.proofs.conference.Conference.take.Goals as goal
 
 pub overflow_add-self : goal.overflow_add-self
 overflow_add-self c =
-    let room = c.requires.room in
-    omega (arith, (few-steps room.1 c.args.self.now.tally room.2.counts).ticks, room.3.room)
+    let may = c.requires in
+    omega (arith, (few-steps may.at.history c.args.self.now.tally may.under_way.follows.counts).ticks, may.room.room)
 
 pub overflow_add-self-2 : goal.overflow_add-self-2
 overflow_add-self-2 c =
-    let room = c.requires.room in
-    omega (arith, (few-steps room.1 c.args.self.now.tally room.2.counts).taken, room.3.room, four-at-most c.in-Ok.note, c.takes_in.ensures)
+    let may = c.requires in
+    omega (arith, (few-steps may.at.history c.args.self.now.tally may.under_way.follows.counts).taken, may.room.room, four-at-most c.in-Ok.note, c.takes_in.ensures)

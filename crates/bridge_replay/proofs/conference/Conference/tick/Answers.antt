@@ -1,42 +1,60 @@
-use Rattle.bridge_replay.proofs.Ticks.{took-so, usable-so, total-so, room-so, Ticking, sent-before, ticked}
-use Rattle.tick_picture.specs.Output.{pictures_written}
+use Rattle.std.proofs.Common.{◌≡◌, ℕ, refl, ap, arith}
+use Rattle.bridge_replay.specs.declared.conference.Conference.{Conference}
+use Rattle.bridge_replay.specs.UnderWay.{MayEnter, PlacesTake}
+use Rattle.bridge_replay.proofs.Ticks.{Ticking, took-so, total-so, usable-so, composed-so, packets-so, octets-so, ticked, broken, broke-of}
+use Rattle.conf_file.specs.Entries.{Tick as TickEntry}
+use Rattle.pel_model.specs.declared.note.TickNote.{TickNote}
 use Rattle.bridge_replay.proofs.conference.Conference.tick.Goals as goal
 
-pub write-requires-clause-usable : goal.write-requires-clause-usable
-write-requires-clause-usable g c =
-    let room = c.requires.room in
-    usable-so room.0 c.args.self.now c.take-note.new.self room.1 room.2 room.3 c.take-note.ensures.beside
+ticking : (step : ℕ) (old mid : Conference) (note : TickNote) (may : MayEnter (TickEntry step) old) → PlacesTake step note old mid
+    → Ticking may.at step old mid note may.first may.now
+ticking step old mid note may takes = record { was = may.under_way; free = may.room; takes = takes }
 
-pub write-requires-clause-took : goal.write-requires-clause-took
-write-requires-clause-took g c =
-    let room = c.requires.room in
-    let p = room.0 in (
-      p.lanes,
-      p.history,
-      took-so p c.args.self.now c.take-note.new.self c.take-note.result room.3.follows (c.take-note.ensures.made p.lanes p.history room.3.follows)
-          c.take-note.ensures.taken,
-    )
+pub show-requires-clause-took : goal.show-requires-clause-took
+show-requires-clause-took g c =
+    let may = c.requires in
+    let t = ticking c.args.step c.args.self.now c.take-note.new.self c.take-note.result may c.take-note.ensures in
+    (may.at.lanes, may.at.history, took-so c.taken_into_hand.ensures may.at c.args.step c.args.self.now c.take-note.new.self c.take-note.result may.first may.now t)
 
-pub write-requires-clause-total : goal.write-requires-clause-total
-write-requires-clause-total g c =
-    let room = c.requires.room in
-    let p = room.0 in
-    total-so p c.take-note.new.self c.take-note.result (c.take-note.ensures.made p.lanes p.history room.3.follows) room.4
+pub show-requires-clause-cif : goal.show-requires-clause-cif
+show-requires-clause-cif g c =
+    let may = c.requires in
+    let t = ticking c.args.step c.args.self.now c.take-note.new.self c.take-note.result may c.take-note.ensures in
+    composed-so c.taken_into_hand.ensures may.at c.args.step c.args.self.now c.take-note.new.self c.take-note.result may.first may.now t
 
-pub write-requires-clause-room : goal.write-requires-clause-room
-write-requires-clause-room g c =
-    let room = c.requires.room in
-    room-so room.0 c.args.self.now c.take-note.new.self room.1 room.2 room.3 room.4 c.take-note.ensures.beside
+pub pack-requires-clause-usable : goal.pack-requires-clause-usable
+pack-requires-clause-usable g c =
+    let may = c.requires in
+    let t = ticking c.args.step c.args.self.now c.take-note.new.self c.take-note.result may c.take-note.ensures in
+    usable-so c.taken_into_hand.ensures may.at c.args.step c.args.self.now c.take-note.new.self c.take-note.result may.first may.now t
 
-pub returns-clause-entered : goal.returns-clause-entered
-returns-clause-entered g c = λ p first u free.
+pub pack-requires-clause-total : goal.pack-requires-clause-total
+pack-requires-clause-total g c =
+    let may = c.requires in
+    let t = ticking c.args.step c.args.self.now c.take-note.new.self c.take-note.result may c.take-note.ensures in
+    total-so c.taken_into_hand.ensures may.at c.args.step c.args.self.now c.take-note.new.self c.take-note.result may.first may.now t
+
+pub returns-in_err-sent : goal.returns-in_err-sent
+returns-in_err-sent g c = λ p first u free.
+    let law = c.taken_into_hand.ensures in
     let old = c.args.self.now in
     let mid = c.take-note.new.self in
     let note = c.take-note.result in
-    let follows = c.take-note.ensures.made p.lanes p.history u.follows in
-    let now = g.K.Sink.written c.args.sink.now in
-    let t : Ticking p c.args.step old mid note first now = record { was = u; follows = follows; step_is = c.take-note.ensures.step; beside = c.take-note.ensures.beside; hand = c.take-note.ensures.hand } in
-    ticked p c.args.step old mid c.write.new.self note first now (g.K.Sink.written c.write.new.sink) c.write.result t free.going
-    (c.write.ensures.wrote p.lanes p.history (took-so p old mid note u.follows follows c.take-note.ensures.taken) p.set (pictures_written p.lanes p.history) first
-    (sent-before p c.args.step old mid note first now t))
-    c.write.ensures.counts
+    let now = g.K.Sink.tells c.args.sink.now in
+    let then = g.K.Sink.tells c.pack.new.sink in
+    let t : Ticking p c.args.step old mid note first now = record { was = u; free = free; takes = c.take-note.ensures } in
+    broke-of p (TickEntry c.args.step) _ first then c.from_residual.result c.from_residual.ensures.0
+    (broken law p c.args.step old mid note first now t c.show.new.into c.pack.new.self then _ _
+    (c.show.ensures.picture p.lanes p.history (took-so law p c.args.step old mid note first now t)) c.in_err-sent.ensures refl)
+
+pub returns : goal.returns
+returns g c = λ p first u free.
+    let law = c.taken_into_hand.ensures in
+    let old = c.args.self.now in
+    let mid = c.take-note.new.self in
+    let note = c.take-note.result in
+    let now = g.K.Sink.tells c.args.sink.now in
+    let then = g.K.Sink.tells c.pack.new.sink in
+    let t : Ticking p c.args.step old mid note first now = record { was = u; free = free; takes = c.take-note.ensures } in
+    ticked law p c.args.step old mid note first now t c.show.new.into c.pack.new.self then c.in_ok-sent.sent _
+    (c.show.ensures.picture p.lanes p.history (took-so law p c.args.step old mid note first now t)) c.show.ensures.composed c.in_ok-sent.ensures refl

@@ -11,7 +11,7 @@ use Rattle.rtp_h261.specs.declared.depack.Unit.{Unit as Ended}
 use Rattle.rtp_h261.specs.declared.depack.Unit.TheVariants.{Picture}
 use Rattle.rtp_h261.specs.Depack.{given_behind, IsUnit}
 use Rattle.rtp_h261.specs.Packets.{piece_of}
-use Rattle.rtp_h261.specs.Units.{Given, nothing, all_given}
+use Rattle.rtp_h261.specs.Units.{Given, gives_nothing, all_given}
 use Rattle.rtp_wire.specs.Frames.{IsStream}
 
 -- packets have 1,000 to 9,000 octets at most, and the source's name 32 bits
@@ -23,21 +23,21 @@ pub record AreSettings (s : Settings) : Type 0 where
 -- ---- what is sent
 
 -- a picture, with the sum of the steps when it is sent: it is valid, and no longer than the format allows
-pub record CanBeSent (next : ℕ × Record) : Type 0 where
+pub record CanBePacked (next : ℕ × Record) : Type 0 where
   pub valid : IsValid Cif next.1
   pub short : length (text Cif next.1) ≤ limit Cif
 
 -- the octets of the pictures are these packets, each in its frame, and nothing behind them
 abbrev pub PacketsAreSent : Type 0
 PacketsAreSent =
-    (s : Settings) (before : ℕ) (pictures : List (ℕ × Record)) → AreSettings s → All CanBeSent pictures
+    (s : Settings) (before : ℕ) (pictures : List (ℕ × Record)) → AreSettings s → All CanBePacked pictures
     → IsStream (out s before pictures) (sent_packets s before pictures) []
 
 -- ---- what each packet gives
 
 -- by so many packets that bring these bits: a whole unit at the last one, nothing at the others, and no loss
 abbrev pub unit_at_the_last : (count : ℕ) → List Bool → List Given
-unit_at_the_last count bits = replicate (count - 1) nothing ++ record { lost = false; unit = Some bits } ∷ []
+unit_at_the_last count bits = replicate (count - 1) gives_nothing ++ record { lost = false; unit = Some bits } ∷ []
 
 -- by the packets of pictures: for each picture, its text at the last of its packets
 abbrev pub texts_given : Settings → (before : ℕ) → List (ℕ × Record) → List Given
@@ -50,15 +50,15 @@ texts_given s before (next ∷ pictures) =
 -- sequence numbers the packets begin.
 abbrev pub PacketsGiveTexts : Type 0
 PacketsGiveTexts =
-    (s : Settings) (before : ℕ) (pictures : List (ℕ × Record)) → AreSettings s → All CanBeSent pictures
+    (s : Settings) (before : ℕ) (pictures : List (ℕ × Record)) → AreSettings s → All CanBePacked pictures
     → all_given (map piece_of (sent_packets s before pictures)) ≡ texts_given s before pictures
 
 -- each packet gives it as soon as it is fed, whatever follows
 abbrev pub EachPacketGives : Type 0
 EachPacketGives =
     (s : Settings) (before : ℕ) (pictures : List (ℕ × Record)) (front behind : List (List ℕ)) (packet : List ℕ)
-    → AreSettings s → All CanBeSent pictures → sent_packets s before pictures ≡ front ++ packet ∷ behind
-    → given_behind front packet ≡ slice_index_or (texts_given s before pictures) (length front) nothing
+    → AreSettings s → All CanBePacked pictures → sent_packets s before pictures ≡ front ++ packet ∷ behind
+    → given_behind front packet ≡ slice_index_or (texts_given s before pictures) (length front) gives_nothing
 
 -- ---- what octets give
 
@@ -81,11 +81,11 @@ pub record GiveThePictures (pictures : List (ℕ × Record)) (packets : List (Li
 abbrev pub OctetsGivePictures : Type 0
 OctetsGivePictures =
     (s : Settings) (before : ℕ) (pictures : List (ℕ × Record)) (packets : List (List ℕ)) (rest : List ℕ)
-    → AreSettings s → All CanBeSent pictures → IsStream (out s before pictures) packets rest
+    → AreSettings s → All CanBePacked pictures → IsStream (out s before pictures) packets rest
     → GiveThePictures pictures packets rest
 
 -- a unit whose bits are a picture's text is that picture
 abbrev pub TextIsItsPicture : Type 0
 TextIsItsPicture =
-    (next : ℕ × Record) (unit : Ended) (coded : Coding) → CanBeSent next → IsUnit Cif (text Cif next.1) unit coded
+    (next : ℕ × Record) (unit : Ended) (coded : Coding) → CanBePacked next → IsUnit Cif (text Cif next.1) unit coded
     → (unit ≡ Picture) × (coded ≡ coding Cif next.1)

@@ -15,14 +15,14 @@ use Rattle.picture_laws.proofs.FormProofs.{strict-own}
 use Rattle.picture_laws.proofs.Strict.{text-accepted}
 use Rattle.rtp_h261.specs.declared.depack.Unit.TheVariants.{Picture, Gap}
 use Rattle.rtp_h261.specs.Packets.{piece_of}
-use Rattle.rtp_h261.specs.Units.{Piece, Part, Run, Given, nothing, cut, gives, all_given, fed}
+use Rattle.rtp_h261.specs.Units.{Piece, Part, Run, Given, gives_nothing, cut_parts, parts_give, all_given, fed}
 use Rattle.rtp_h261.proofs.GivenLemmas.{all_given_length}
 use Rattle.rtp_h261.proofs.StepLemmas.{front_law}
 use Rattle.rtp_wire.specs.Frames.{frame, HasFrame, LawOfOneStream}
 use Rattle.rtp_wire.specs.Rtp.{LawOfPlainPackets}
-use Rattle.reading_back.specs.Laws.{AreSettings, CanBeSent, PacketsAreSent, unit_at_the_last, texts_given, PacketsGiveTexts, EachPacketGives, units, OctetsGivePictures, TextIsItsPicture}
-use Rattle.reading_back.proofs.Pictures.{IsRead, picture-is-read}
-use Rattle.reading_back.proofs.Runs.{Numbered, numbered-append, Before, behind-run, run-is-given, given-is}
+use Rattle.bridge_replay.specs.ReadingBack.{AreSettings, CanBePacked, PacketsAreSent, unit_at_the_last, texts_given, PacketsGiveTexts, EachPacketGives, units, OctetsGivePictures, TextIsItsPicture}
+use Rattle.bridge_replay.proofs.PicturesRead.{IsRead, picture-is-read}
+use Rattle.bridge_replay.proofs.PacketRuns.{Numbered, numbered-append, Before, behind-run, run-is-given, given-is}
 
 -- ---- what pictures give
 
@@ -30,7 +30,7 @@ record AreRead (s : Settings) (before : ℕ) (pictures : List (ℕ × Record)) :
   pub pieces : List Piece
   pub reads : map piece_of (sent_packets s before pictures) ≡ map Some pieces
   pub numbers : Numbered (s.seq + before) pieces
-  pub given : (z : Option Part) → Before (s.seq + before) z → gives z (cut 0 pieces) ≡ texts_given s before pictures
+  pub given : (z : Option Part) → Before (s.seq + before) z → parts_give z (cut_parts 0 pieces) ≡ texts_given s before pictures
   pub count : length (texts_given s before pictures) ≡ length pieces
   pub frames : AllByRecursion HasFrame (sent_packets s before pictures)
 
@@ -39,7 +39,7 @@ all-append P [] ys h k = k
 all-append P (x ∷ xs) ys h k = (h.0, all-append P xs ys h.1 k)
 
 length-unit : (n : ℕ) (bits : List Bool) → length (unit_at_the_last (suc n) bits) ≡ suc n
-length-unit n bits = omega (arith, length-append (replicate (suc n - 1) nothing) (record { lost = false; unit = Some bits } ∷ []), length-replicate (suc n - 1) nothing)
+length-unit n bits = omega (arith, length-append (replicate (suc n - 1) gives_nothing) (record { lost = false; unit = Some bits } ∷ []), length-replicate (suc n - 1) gives_nothing)
 
 one-more : (s : Settings) (before : ℕ) (next : ℕ × Record) (pictures : List (ℕ × Record)) → IsRead s next.0 before next.1
     → AreRead s (before + length (packets s next.0 before next.1)) pictures → AreRead s before (next ∷ pictures)
@@ -65,12 +65,12 @@ one-more s before next pictures r rest =
       frames = all-append HasFrame these (sent_packets s (before + length these) pictures) r.frames rest.frames;
     }
 
-are-read : LawOfPlainPackets → (s : Settings) (before : ℕ) (pictures : List (ℕ × Record)) → AreSettings s → All CanBeSent pictures → AreRead s before pictures
+are-read : LawOfPlainPackets → (s : Settings) (before : ℕ) (pictures : List (ℕ × Record)) → AreSettings s → All CanBePacked pictures → AreRead s before pictures
 are-read law s before [] set fine = record { pieces = []; reads = refl; numbers = tt; given = λ z b. refl; count = refl; frames = tt }
 are-read law s before (next ∷ pictures) set fine =
     one-more s before next pictures
-    (picture-is-read law s next.0 before next.1 set (All-head CanBeSent next pictures fine).valid)
-    (are-read law s (before + length (packets s next.0 before next.1)) pictures set (All-tail CanBeSent next pictures fine))
+    (picture-is-read law s next.0 before next.1 set (All-head CanBePacked next pictures fine).valid)
+    (are-read law s (before + length (packets s next.0 before next.1)) pictures set (All-tail CanBePacked next pictures fine))
 
 pub packets-give-texts : LawOfPlainPackets → PacketsGiveTexts
 packets-give-texts law s before pictures set fine =
@@ -79,7 +79,7 @@ packets-give-texts law s before pictures set fine =
 
 -- ---- one by one
 
-index-front : (gs hs : List Given) (i : ℕ) → i < length gs → slice_index_or (gs ++ hs) i nothing ≡ slice_index_or gs i nothing
+index-front : (gs hs : List Given) (i : ℕ) → i < length gs → slice_index_or (gs ++ hs) i gives_nothing ≡ slice_index_or gs i gives_nothing
 index-front [] hs i h = absurd (omega (arith, h))
 index-front (g ∷ gs) hs zero h = refl
 index-front (g ∷ gs) hs (suc i) h = index-front gs hs i (omega (arith, h))
@@ -93,11 +93,11 @@ fronts xs (y ∷ ys) =
       ap all_given (sym (append_assoc xs (y ∷ []) ys)) ∙ more.1 ∙ ap (λ (gs : List Given). gs ++ more.0) (front_law xs y) ∙ append_assoc (all_given xs) (g ∷ []) more.0,
     )
 
-fed-in : (xs : List (Option Piece)) (p : Option Piece) (ys : List (Option Piece)) → fed (xs ++ p ∷ []) (length xs) ≡ slice_index_or (all_given (xs ++ p ∷ ys)) (length xs) nothing
+fed-in : (xs : List (Option Piece)) (p : Option Piece) (ys : List (Option Piece)) → fed (xs ++ p ∷ []) (length xs) ≡ slice_index_or (all_given (xs ++ p ∷ ys)) (length xs) gives_nothing
 fed-in xs p ys =
     let more = fronts (xs ++ p ∷ []) ys in
     let inside : length xs < length (all_given (xs ++ p ∷ [])) = omega (arith, all_given_length (xs ++ p ∷ []), length-append xs (p ∷ [])) in
-    sym (ap (λ (gs : List Given). slice_index_or gs (length xs) nothing) (ap all_given (sym (append_assoc xs (p ∷ []) ys)) ∙ more.1)
+    sym (ap (λ (gs : List Given). slice_index_or gs (length xs) gives_nothing) (ap all_given (sym (append_assoc xs (p ∷ []) ys)) ∙ more.1)
     ∙ index-front (all_given (xs ++ p ∷ [])) more.0 (length xs) inside)
 
 pub each-packet-gives : LawOfPlainPackets → EachPacketGives
@@ -109,7 +109,7 @@ each-packet-gives law s before pictures front behind packet set fine is =
     ∙ packets-give-texts law s before pictures set fine in
     ap₂ (λ (ps : List (Option Piece)) (i : ℕ). fed ps i) (map-append piece_of front (packet ∷ [])) size
     ∙ fed-in xs (piece_of packet) (map piece_of behind)
-    ∙ ap₂ (λ (gs : List Given) (i : ℕ). slice_index_or gs i nothing) all (sym size)
+    ∙ ap₂ (λ (gs : List Given) (i : ℕ). slice_index_or gs i gives_nothing) all (sym size)
 
 -- ---- the octets
 
@@ -120,7 +120,7 @@ packets-are-sent law s before pictures set fine = record {
   part = tt;
 }
 
-units-last : (n : ℕ) (bits : List Bool) (gs : List Given) → units ((replicate n nothing ++ record { lost = false; unit = Some bits } ∷ []) ++ gs) ≡ bits ∷ units gs
+units-last : (n : ℕ) (bits : List Bool) (gs : List Given) → units ((replicate n gives_nothing ++ record { lost = false; unit = Some bits } ∷ []) ++ gs) ≡ bits ∷ units gs
 units-last zero bits gs = refl
 units-last (suc n) bits gs = units-last n bits gs
 
@@ -134,9 +134,9 @@ units-are-texts s before (next ∷ pictures) =
 abbrev IsKept : Given → Type 0
 IsKept g = g.lost ≡ false
 
-kept-last : (n : ℕ) (bits : List Bool) (gs : List Given) → All IsKept gs → All IsKept ((replicate n nothing ++ record { lost = false; unit = Some bits } ∷ []) ++ gs)
+kept-last : (n : ℕ) (bits : List Bool) (gs : List Given) → All IsKept gs → All IsKept ((replicate n gives_nothing ++ record { lost = false; unit = Some bits } ∷ []) ++ gs)
 kept-last zero bits gs h = All-cons IsKept (record { lost = false; unit = Some bits }) gs refl h
-kept-last (suc n) bits gs h = All-cons IsKept nothing _ refl (kept-last n bits gs h)
+kept-last (suc n) bits gs h = All-cons IsKept gives_nothing _ refl (kept-last n bits gs h)
 
 none-lost : (s : Settings) (before : ℕ) (pictures : List (ℕ × Record)) → All IsKept (texts_given s before pictures)
 none-lost s before [] = All-nil IsKept

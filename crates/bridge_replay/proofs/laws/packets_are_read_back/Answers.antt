@@ -1,5 +1,5 @@
-use Rattle.reading_back.proofs.Laws.{packets-are-sent, packets-give-texts, each-packet-gives, octets-give-pictures, text-is-its-picture}
-use Rattle.reading_back.proofs.packets_are_read_back.Goals as goal
+use Rattle.bridge_replay.proofs.ReadingBack.{packets-are-sent, packets-give-texts, each-packet-gives, octets-give-pictures, text-is-its-picture}
+use Rattle.bridge_replay.proofs.laws.packets_are_read_back.Goals as goal
 
 pub returns-clause-sent : goal.returns-clause-sent
 returns-clause-sent c = packets-are-sent c.written_headers_are_read.ensures

@@ -23,10 +23,10 @@ use Rattle.rtp_h261.specs.Packets.{piece_of}
 use Rattle.rtp_h261.specs.Units.{Piece, bits_of}
 use Rattle.rtp_wire.specs.Frames.{HasFrame}
 use Rattle.rtp_wire.specs.Rtp.{LawOfPlainPackets}
-use Rattle.reading_back.specs.Laws.{AreSettings}
-use Rattle.reading_back.proofs.Cuts.{Walks, AreCutsOf, cuts-of-picture}
-use Rattle.reading_back.proofs.Pieces.{piece, packet-is-read, length-packet}
-use Rattle.reading_back.proofs.Runs.{Numbered, ToMarker, IsRun}
+use Rattle.bridge_replay.specs.ReadingBack.{AreSettings}
+use Rattle.bridge_replay.proofs.PacketCuts.{Walks, AreCutsOf, cuts-of-picture}
+use Rattle.bridge_replay.proofs.PacketPieces.{piece, packet-is-read, length-packet}
+use Rattle.bridge_replay.proofs.PacketRuns.{Numbered, ToMarker, IsRun}
 
 -- what the packets bring that end at these ends
 abbrev pub pieces_to : Settings → (stamp before : ℕ) → (text : List Bool) → (from : ℕ) → List AtomEnd → List Piece

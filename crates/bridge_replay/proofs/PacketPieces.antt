@@ -5,8 +5,8 @@ use Rattle.std.proofs.lemmas.Bool.Decides.{nat_tests}
 use Rattle.cif_pack.specs.declared.atoms.Context.{Context}
 use Rattle.cif_pack.specs.declared.packer.Settings.{Settings}
 use Rattle.cif_pack.specs.Cuts.{octets_between}
-use Rattle.cif_pack.specs.Packets.{packet, number_of}
-use Rattle.cif_pack.specs.Payload.{packed, header_bits, payload}
+use Rattle.cif_pack.specs.Packets.{packet_between, sequence_after}
+use Rattle.cif_pack.specs.Payload.{bits_packed, payload_header, payload_between}
 use Rattle.cif_pack.proofs.Frames.{length-packed, length-part-octets}
 use Rattle.pel_bits.specs.Bits.{bits, field, number}
 use Rattle.pel_bits.specs.Reading.{zeros}
@@ -17,8 +17,8 @@ use Rattle.rtp_h261.specs.Units.{Piece}
 use Rattle.rtp_wire.specs.Rtp.{Fields, octets_of, plain, packet_of, LawOfPlainPackets}
 
 -- bits in octets are read as these bits
-bits-packed : (n : ℕ) (bs : List Bool) → length bs ≡ 8 * n → bits (packed bs) ≡ bs
-unfolding packed
+bits-packed : (n : ℕ) (bs : List Bool) → length bs ≡ 8 * n → bits (bits_packed bs) ≡ bs
+unfolding bits_packed
 bits-packed zero [] is = refl
 bits-packed (suc n) (a ∷ b ∷ c ∷ d ∷ e ∷ f ∷ g ∷ h ∷ bs) is =
     ap₂ (λ (xs ys : List Bool). xs ++ ys) (field-number (a ∷ b ∷ c ∷ d ∷ e ∷ f ∷ g ∷ h ∷ [])) (bits-packed n bs (omega (arith, is)))
@@ -32,19 +32,19 @@ bits-packed (suc n) (a ∷ b ∷ c ∷ d ∷ e ∷ []) is = absurd (omega (arith
 bits-packed (suc n) (a ∷ b ∷ c ∷ d ∷ e ∷ f ∷ []) is = absurd (omega (arith, is))
 bits-packed (suc n) (a ∷ b ∷ c ∷ d ∷ e ∷ f ∷ g ∷ []) is = absurd (omega (arith, is))
 
-length-header : (s e : ℕ) (c : Context) → length (header_bits s e false true c) ≡ 32
+length-header : (s e : ℕ) (c : Context) → length (payload_header s e false true c) ≡ 32
 unfolding field
 length-header s e c = refl
 
 -- ---- a payload of so many octets behind its header
 
 abbrev made : (s e : ℕ) → Context → List Bool → List ℕ
-made s e c bs = packed (header_bits s e false true c) ++ packed bs
+made s e c bs = bits_packed (payload_header s e false true c) ++ bits_packed bs
 
-bits-made : (n s e : ℕ) (c : Context) (bs : List Bool) → length bs ≡ 8 * n → bits (made s e c bs) ≡ header_bits s e false true c ++ bs
+bits-made : (n s e : ℕ) (c : Context) (bs : List Bool) → length bs ≡ 8 * n → bits (made s e c bs) ≡ payload_header s e false true c ++ bs
 bits-made n s e c bs long =
-    bits-append (packed (header_bits s e false true c)) (packed bs)
-    ∙ ap₂ (λ (xs ys : List Bool). xs ++ ys) (bits-packed 4 (header_bits s e false true c) (length-header s e c)) (bits-packed n bs long)
+    bits-append (bits_packed (payload_header s e false true c)) (bits_packed bs)
+    ∙ ap₂ (λ (xs ys : List Bool). xs ++ ys) (bits-packed 4 (payload_header s e false true c) (length-header s e c)) (bits-packed n bs long)
 
 sbit-made : (n s e : ℕ) (c : Context) (bs : List Bool) → length bs ≡ 8 * n → s < 8 → sbit (made s e c bs) ≡ s
 unfolding field
@@ -56,11 +56,11 @@ ebit-made n s e c bs long small = ap (λ (t : List Bool). number (take 3 (drop 3
 
 length-made : (n s e : ℕ) (c : Context) (bs : List Bool) → length bs ≡ 8 * n → length (made s e c bs) ≡ 4 + n
 length-made n s e c bs long =
-    omega (arith, length-append (packed (header_bits s e false true c)) (packed bs), length-packed 4 (header_bits s e false true c) (length-header s e c), length-packed n bs long)
+    omega (arith, length-append (bits_packed (payload_header s e false true c)) (bits_packed bs), length-packed 4 (payload_header s e false true c) (length-header s e c), length-packed n bs long)
 
 behind-made : (n s e : ℕ) (c : Context) (bs : List Bool) → length bs ≡ 8 * n → bits (drop 4 (made s e c bs)) ≡ bs
 behind-made n s e c bs long =
-    ap bits (drop_at (packed (header_bits s e false true c)) (packed bs) 4 (length-packed 4 (header_bits s e false true c) (length-header s e c)))
+    ap bits (drop_at (bits_packed (payload_header s e false true c)) (bits_packed bs) 4 (length-packed 4 (payload_header s e false true c) (length-header s e c)))
     ∙ bits-packed n bs long
 
 abbrev between : (s e : ℕ) → List Bool → List Bool
@@ -100,7 +100,7 @@ usable-made n s e c part long small small' =
 -- what the packet brings that ends at `to`
 abbrev pub piece : Settings → (stamp before : ℕ) → (text : List Bool) → (from to : ℕ) → Piece
 piece s stamp before text from to = record {
-  number = number_of s before;
+  number = sequence_after s before;
   stamp = stamp;
   marker = to == length text;
   bits = take (to - from) (drop from text);
@@ -115,7 +115,7 @@ piece-read octets f part read usable brings =
     ∙ ap (λ (t : List Bool). Some (record { number = f.seq; stamp = f.stamp; marker = f.marker; bits = t })) brings
 
 abbrev fields_of : Settings → (stamp before : ℕ) → (marker : Bool) → List ℕ → Fields
-fields_of s stamp before marker octets = record { marker = marker; kind = 31; seq = number_of s before; stamp = stamp; ssrc = s.ssrc; payload = octets }
+fields_of s stamp before marker octets = record { marker = marker; kind = 31; seq = sequence_after s before; stamp = stamp; ssrc = s.ssrc; payload = octets }
 
 -- the octets of the headers, and the payload behind them
 header-and-payload : (s : Settings) (stamp before : ℕ) (marker : Bool) (octets : List ℕ)
@@ -128,24 +128,24 @@ length-octets s stamp before marker octets =
 
 -- a packet has the octets of its headers and of its bits
 pub length-packet : (s : Settings) (stamp before : ℕ) (text : List Bool) (from to : ℕ) (c : Context) → from < to → to ≤ length text
-    → length (packet s stamp before text from to c) ≡ 16 + octets_between from to
+    → length (packet_between s stamp before text from to c) ≡ 16 + octets_between from to
 length-packet s stamp before text from to c some within =
     omega (
       arith,
-      length-octets s stamp before (to == length text) (payload text from to c),
-      length-append (packed (header_bits (from % 8) ((8 - to % 8) % 8) false true c)) (packed (zeros (from % 8) ++ (take (to - from) (drop from text) ++ zeros ((8 - to % 8) % 8)))),
-      length-packed 4 (header_bits (from % 8) ((8 - to % 8) % 8) false true c) (length-header (from % 8) ((8 - to % 8) % 8) c),
+      length-octets s stamp before (to == length text) (payload_between text from to c),
+      length-append (bits_packed (payload_header (from % 8) ((8 - to % 8) % 8) false true c)) (bits_packed (zeros (from % 8) ++ (take (to - from) (drop from text) ++ zeros ((8 - to % 8) % 8)))),
+      length-packed 4 (payload_header (from % 8) ((8 - to % 8) % 8) false true c) (length-header (from % 8) ((8 - to % 8) % 8) c),
       length-part-octets text from to some within,
     )
 
 pub packet-is-read : LawOfPlainPackets → (s : Settings) (stamp before : ℕ) (text : List Bool) (from to : ℕ) (c : Context) → s.ssrc < 2 ^ 32 → stamp < 2 ^ 32
-    → from < to → to ≤ length text → piece_of (packet s stamp before text from to c) ≡ Some (piece s stamp before text from to)
+    → from < to → to ≤ length text → piece_of (packet_between s stamp before text from to c) ≡ Some (piece s stamp before text from to)
 packet-is-read law s stamp before text from to c name small some within =
     let part = take (to - from) (drop from text) in
     let long : length part ≡ to - from = length-take-le (to - from) (drop from text) (omega (arith, within, length-drop from text)) in
     let sum : from % 8 + (length part + (8 - to % 8) % 8) ≡ 8 * octets_between from to = omega (arith, some, long) in
     let marker = to == length text in
-    let octets = payload text from to c in
+    let octets = payload_between text from to c in
     let f : Fields = fields_of s stamp before marker octets in
     piece-read (octets_of (plain f)) f part
     (ap packet_of (header-and-payload s stamp before marker octets) ∙ law f (record { kind = omega arith; seq = omega arith; stamp = small; ssrc = name }))

@@ -45,9 +45,9 @@ abbrev pub AfterPacket : ℕ → Given → (before after : History) → Type 0
 AfterPacket lane given before after =
     AfterUnit lane given.unit (after_loss lane given.lost before) after
 
--- the history behind an entry, where those entries and this history stand before it, in a conference of so many lanes
+-- the history after an entry, where those entries and this history stand before it, in a conference of so many lanes
 abbrev pub AfterEntry : ℕ → List Content → Content → (before after : History) → Type 0
--- a packet gives what it gives behind the earlier packets of its lane
+-- a packet gives what it gives after the earlier packets of its lane
 AfterEntry lanes entries (Packet lane packet) before after =
     AfterPacket lane (given_behind (packets_in entries lane) packet) before after
 -- a command has the reply that the commands before it leave it
@@ -63,3 +63,9 @@ abbrev pub IsHistory : ℕ → List Content → History → Type 0
 IsHistory lanes [] history = history ≡ []
 IsHistory lanes (e ∷ entries) history =
     (before : History) × IsHistory lanes entries before × AfterEntry lanes entries e before history
+
+-- entries have one history at most
+abbrev pub LawOfOneHistory : Type 0
+LawOfOneHistory =
+    (lanes : ℕ) (entries : List Content) (x y : History)
+    → IsHistory lanes entries x → IsHistory lanes entries y → x ≡ y
