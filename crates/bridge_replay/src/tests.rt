@@ -190,7 +190,7 @@ fn run(
     set: Settings,
     budget: u64,
     fails: (u64, u64),
-    piece: u64,
+    piece: usize,
 ) -> Result<(ReplayEnd, u64, u64), Fail>
     requires mtu { (1000 ≤ set.mtu) × (set.mtu ≤ 9000) }
     requires budget { budget ≤ 16777216 }
