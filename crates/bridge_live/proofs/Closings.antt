@@ -3,6 +3,7 @@ use Rattle.std.proofs.Common.{◌≡◌, ◌∙◌, refl, arith, ℕ, ◌+◌, �
 use Rattle.std.proofs.lemmas.List.{append_assoc, append-nil}
 use Rattle.std.proofs.lemmas.List.Folds.{fold-map}
 use Rattle.cif_pack.specs.declared.packer.Settings.{Settings}
+use Rattle.cif_pack.specs.declared.tally.Tally.{Tally}
 use Rattle.hall_core.specs.declared.machine.HallCall.{HallCall}
 use Rattle.hall_core.specs.declared.machine.HallReply.{HallReply}
 use Rattle.hall_core.specs.Hall.{HallView, lanes_of}
@@ -10,10 +11,10 @@ use Rattle.hall_core.specs.Machine.{Fits, HallSteps}
 use Rattle.hall_lock.specs.Places.{EachOnce}
 use Rattle.hall_lock.specs.Seats.{Lock, IsOf}
 use Rattle.hall_lock.specs.Turns.{Leads}
-use Rattle.seat_turns.specs.Joining.{Joins}
-use Rattle.seat_turns.specs.Laws.{ShareLaw}
-use Rattle.seat_turns.proofs.Every.{every_weaker}
-use Rattle.tick_picture.specs.declared.tally.Tally.{Tally}
+use Rattle.hall_lock.specs.Joining.{Joins}
+use Rattle.hall_lock.specs.TurnLaws.{ShareLaw}
+use Rattle.hall_lock.proofs.Every.{every_weaker}
+use Rattle.io_edge.specs.Outside.{Input, Output}
 use Rattle.bridge_live.specs.declared.ends.ChairEnd.{ChairEnd}
 use Rattle.bridge_live.specs.declared.ends.LaneEnd.{LaneEnd}
 use Rattle.bridge_live.specs.declared.mixer.MixCounts.{MixCounts}
@@ -21,13 +22,11 @@ use Rattle.bridge_live.specs.declared.worker.ChairWorker.{ChairWorker}
 use Rattle.bridge_live.specs.declared.worker.MixWorker.{MixWorker}
 use Rattle.bridge_live.specs.declared.worker.Worker.{Worker}
 use Rattle.bridge_live.specs.declared.worker.Worker.TheVariants.{Lane, Chair, Mixer}
-use Rattle.bridge_live.specs.Ending.{TakesIn, CrewDid, LanesJoined}
-use Rattle.bridge_live.specs.Endings.{Given, LaneEnding, ChairEnding, MixEnding, Ending, seats_of}
+use Rattle.bridge_live.specs.Ending.{JoinsWorker, CrewDid, LanesJoined}
+use Rattle.bridge_live.specs.Endings.{HandedIn, LaneEnding, ChairEnding, MixEnding, Ending, seats_of}
 use Rattle.bridge_live.specs.Gathered.{LanesRan, ChairRan, MixerRan, Gathered, counted_together}
 use Rattle.bridge_live.specs.Handed.{lane_ending, chair_ending}
-use Rattle.bridge_live.specs.Lane.{Input}
 use Rattle.bridge_live.specs.Lining.{new_seat, seat_behind, Opens}
-use Rattle.bridge_live.specs.Mixer.{Output}
 use Rattle.bridge_live.specs.Worker.{HallSeat, owner}
 use Rattle.bridge_live.proofs.Joining.{new-is-new}
 use Rattle.bridge_live.proofs.Sharing.{work-from, few-counted}
@@ -41,7 +40,7 @@ pub record LockEnds (lock : Lock HallView) (last : HallSeat) (hall : HallView) (
   pub full : last.full ≡ true → number ≡ lock.turns
 
 module _ {S C K : Type 0} (reads : S → Input) (ticks : C → Input) (writes : K → Output) (lock : Lock HallView) (set : Settings)
-    (given : Given) where
+    (given : HandedIn) where
   -- all ends together
   abbrev pub end_with : List (LaneEnd S) → ChairEnd S → MixWorker C K → (past last : HallSeat) → HallView → ℕ → Ending
   end_with ends chair mixer past last hall number = record {
@@ -58,8 +57,8 @@ module _ {S C K : Type 0} (reads : S → Input) (ticks : C → Input) (writes : 
       (chair : ChairEnd S) (hall : HallView) (number : ℕ)
       → Opens (length given.lanes) lock → first.mine ≡ [] → first.past ≡ []
       → LanesJoined reads ticks writes lock set given first mid [] ends (Chair worker ∷ Mixer mixer ∷ [])
-      → TakesIn lock worker.chair.seat chair.past.seat.value mid next → chair.source ≡ worker.source → chair.stop ≡ worker.stop
-      → chair.counts ≡ worker.chair.counts → TakesIn lock mixer.mixer.seat past next last → LockEnds lock last hall number
+      → JoinsWorker lock worker.chair.seat chair.past.seat.value mid next → chair.source ≡ worker.source → chair.stop ≡ worker.stop
+      → chair.counts ≡ worker.chair.counts → JoinsWorker lock mixer.mixer.seat past next last → LockEnds lock last hall number
       → ShareLaw HallView HallCall HallReply
       → Gathered set lock.turns lock.opening given (end_with ends chair mixer past last hall number) mixer.mixer.counts
   gathered first mid next last past ends worker mixer chair hall number opens mine joined j chair_in source stop counts mixer_in ended law =
@@ -106,7 +105,7 @@ module _ {S C K : Type 0} (reads : S → Input) (ticks : C → Input) (writes : 
       (first mid next last past chair_past : HallSeat) (ends : List (LaneEnd S)) (worker : ChairWorker S) (mixer : MixWorker C K) (n : ℕ)
       → first ≡ seat_behind lock n → n ≡ length given.lanes + 2 → n ≤ 18
       → LanesJoined reads ticks writes lock set given first mid [] ends (Chair worker ∷ Mixer mixer ∷ [])
-      → TakesIn lock worker.chair.seat chair_past mid next → TakesIn lock mixer.mixer.seat past next last → last.share ≡ 2 ^ 32
+      → JoinsWorker lock worker.chair.seat chair_past mid next → JoinsWorker lock mixer.mixer.seat past next last → last.share ≡ 2 ^ 32
   shares-whole first mid next last past chair_past ends worker mixer n first_is n_is few j chair_in mixer_in =
       let done : length given.lanes ≡ length j.done = ap length (j.whole ∙ append-nil j.done) in
       omega (
@@ -162,9 +161,9 @@ module _ {S C K : Type 0} (reads : S → Input) (ticks : C → Input) (writes : 
   module _ (first mid next last past : HallSeat) (ends seen : List (LaneEnd S)) (worker : ChairWorker S) (mixer : MixWorker C K)
       (chair : ChairEnd S) (hall : HallView) (number : ℕ) (opens : Opens (length given.lanes) lock) (mine : first.mine ≡ [])
       (joined : first.past ≡ []) (j : LanesJoined reads ticks writes lock set given first mid [] ends (Chair worker ∷ Mixer mixer ∷ []))
-      (chair_in : TakesIn lock worker.chair.seat chair.past.seat.value mid next) (source : chair.source ≡ worker.source)
+      (chair_in : JoinsWorker lock worker.chair.seat chair.past.seat.value mid next) (source : chair.source ≡ worker.source)
       (stop : chair.stop ≡ worker.stop) (counts : chair.counts ≡ worker.chair.counts)
-      (mixer_in : TakesIn lock mixer.mixer.seat past next last) (ended : LockEnds lock last hall number)
+      (mixer_in : JoinsWorker lock mixer.mixer.seat past next last) (ended : LockEnds lock last hall number)
       (law : ShareLaw HallView HallCall HallReply) (same : seen ≡ ends) where
     few-together :
         sum_by (λ (lane : LaneEnding). lane.counts.posts) (map (lane_ending reads) ends)

@@ -5,15 +5,15 @@ use Rattle.std.specs.Io.KnownBytes.{Consumes}
 use Rattle.cif_pack.specs.declared.packer.Settings.{Settings}
 use Rattle.hall_core.specs.Machine.{turn_tells}
 use Rattle.io_edge.specs.Causes.{Rose}
+use Rattle.io_edge.specs.Outside.{Input, Output}
 use Rattle.pel_model.specs.History.{Step, Tick}
-use Rattle.seat_turns.specs.Own.{made}
-use Rattle.seat_turns.specs.Telling.{Tells}
+use Rattle.hall_lock.specs.Own.{made}
+use Rattle.hall_lock.specs.Telling.{Tells}
 use Rattle.bridge_live.specs.declared.calls.Halt.TheVariants as halt
 use Rattle.bridge_live.specs.declared.ends.MixStop.{MixStop}
 use Rattle.bridge_live.specs.declared.ends.MixStop.TheVariants as mix_stop
 use Rattle.bridge_live.specs.Gathered.{CompleteLaw}
-use Rattle.bridge_live.specs.Lane.{Input}
-use Rattle.bridge_live.specs.Mixer.{MadeTick, steps_gone, LastCall, Closed, NoEnd, NoTick, MakesTicks, StopsBy, TickerStops, WritesTicks, Output}
+use Rattle.bridge_live.specs.Mixer.{MadeTick, steps_gone, LastCall, Closed, NoEnd, NoTick, MakesTicks, StopsBy, TickerStops, WritesTicks}
 use Rattle.bridge_live.specs.Worker.{HallSeat}
 use Rattle.bridge_live.proofs.Counting.{none-longer, chair-few, all-few}
 use Rattle.bridge_live.proofs.Telling.{last-two}
@@ -60,7 +60,7 @@ stopped : (stop : MixStop) (last : LastCall) (set : Settings) (lanes : ℕ) (tak
     → TickerStops stop last taken before after → WritesTicks stop set lanes ts whole sink written → (Rose before.faults after.faults → ⊥)
     → (Rose sink.faults written.faults → ⊥) → (stop ≡ mix_stop.Over → ⊥) → stop ≡ mix_stop.Whole
 stopped mix_stop.Whole last set lanes taken ts whole before after sink written ticker wrote no-ticker no-sink not-over = refl
-stopped mix_stop.Sink last set lanes taken ts whole before after sink written ticker wrote no-ticker no-sink not-over = absurd (no-sink wrote.3)
+stopped mix_stop.Sink last set lanes taken ts whole before after sink written ticker wrote no-ticker no-sink not-over = absurd (no-sink wrote.2.failed)
 stopped mix_stop.Ticker last set lanes taken ts whole before after sink written ticker wrote no-ticker no-sink not-over = absurd (no-ticker ticker)
 stopped mix_stop.Over last set lanes taken ts whole before after sink written ticker wrote no-ticker no-sink not-over = absurd (not-over refl)
 

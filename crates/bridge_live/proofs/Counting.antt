@@ -8,8 +8,10 @@ use Rattle.std.proofs.lemmas.List.Sums.{sum_by-cons}
 use Rattle.std.specs.List.{AllByRecursion, flat_map}
 use Rattle.std.specs.Io.KnownBytes.{Consumes}
 use mathlib.Core.List.{IsPrefix}
+use Rattle.cif_pack.specs.Tallies.{one_if}
 use Rattle.hall_core.specs.Machine.{turn_tells, is_ended}
 use Rattle.hall_lock.proofs.Histories.{prefix_length}
+use Rattle.io_edge.specs.Outside.{Input}
 use Rattle.pel_model.specs.declared.Format.{Format}
 use Rattle.pel_model.specs.declared.chair.Command.{Command}
 use Rattle.pel_model.specs.History.{Step, Order}
@@ -17,11 +19,10 @@ use Rattle.rtp_h261.specs.Packets.{piece_of}
 use Rattle.rtp_h261.specs.Units.{Given as GivenBy, all_given}
 use Rattle.rtp_h261.proofs.GivenLemmas.{all_given_length}
 use Rattle.rtp_wire.specs.Frames.{frame, HasFrame, IsPartial, has_frame, first_packet, stream_of, IsStream}
-use Rattle.seat_turns.specs.Asking.{NoneEnded, EndsLast}
-use Rattle.seat_turns.specs.Own.{made}
-use Rattle.seat_turns.specs.Telling.{Tells}
-use Rattle.tick_picture.specs.Ticks.{one_if}
-use Rattle.unit_stream.specs.Events.{Event, IsUnitOf, lost_events, HappenAt}
+use Rattle.hall_lock.specs.Asking.{NoneEnded, EndsLast}
+use Rattle.hall_lock.specs.Own.{made}
+use Rattle.hall_lock.specs.Telling.{Tells}
+use Rattle.rtp_h261.specs.Events.{Event, AreUnitEvents, lost_events, HappenAt}
 use Rattle.pel_model.specs.declared.Format.TheVariants.{Qcif}
 use Rattle.bridge_live.specs.declared.chair.ChairCounts.{ChairCounts}
 use Rattle.bridge_live.specs.declared.ends.ChairStop.{ChairStop}
@@ -32,9 +33,9 @@ use Rattle.bridge_live.specs.Chair.{AreOrders, heard_lines, OrdersOf, RunsChair}
 use Rattle.bridge_live.specs.Endings.{LaneEnding}
 use Rattle.bridge_live.specs.Flow.{IsFlow, step_of}
 use Rattle.bridge_live.specs.Gathered.{LaneRan, LanesRan}
-use Rattle.bridge_live.specs.Lane.{Input, MakesOf}
+use Rattle.bridge_live.specs.Lane.{MakesOf}
 use Rattle.bridge_live.specs.Lines.{line_feed, IsLine, Heard, Blank, Faulty, Said, IsHeard, AreHeard, said}
-use Rattle.bridge_live.specs.Serve.{lines_from, line_count, TellFrames}
+use Rattle.bridge_live.specs.Serve.{line_count_from, line_count, TellFrames}
 use Rattle.bridge_live.specs.Worker.{HallSeat}
 use Rattle.bridge_live.proofs.Finishing.{some-told, tells-front}
 use Rattle.bridge_live.proofs.Telling.{HallTurn}
@@ -112,7 +113,7 @@ few-packets packets others part rest octets (Some xs) (Some ys) fit is took stre
 
 -- ---- a packet makes two steps at most
 
-few-units : (format : Format) (bits : Option (List Bool)) (events : List Event) → IsUnitOf format bits events → length events ≤ 1
+few-units : (format : Format) (bits : Option (List Bool)) (events : List Event) → AreUnitEvents format bits events → length events ≤ 1
 few-units format None events is = omega (arith, ap (λ (w : List Event). length w) is)
 few-units format (Some bits) events is = omega (arith, ap (λ (w : List Event). length w) is.1)
 
@@ -177,18 +178,18 @@ abbrev one-line : Bool → List ℕ → ℕ
 one-line begun [] = one_if begun
 one-line begun (b ∷ bs) = 1
 
-ended-line : (begun : Bool) (line more : List ℕ) → IsLine line → lines_from begun (line ++ line_feed ∷ more) ≡ 1 + lines_from false more
+ended-line : (begun : Bool) (line more : List ℕ) → IsLine line → line_count_from begun (line ++ line_feed ∷ more) ≡ 1 + line_count_from false more
 ended-line begun [] more is = refl
 ended-line begun (b ∷ bs) more is =
     let other : (b == line_feed) ≡ false = grind (arith, nat_tests, is.0) in
-    ap (λ (v : Bool). cond v (1 + lines_from false (bs ++ line_feed ∷ more)) (lines_from true (bs ++ line_feed ∷ more))) other
+    ap (λ (v : Bool). cond v (1 + line_count_from false (bs ++ line_feed ∷ more)) (line_count_from true (bs ++ line_feed ∷ more))) other
     ∙ ended-line true bs more is.1
 
-last-line : (begun : Bool) (line : List ℕ) → IsLine line → lines_from begun line ≡ one-line begun line
+last-line : (begun : Bool) (line : List ℕ) → IsLine line → line_count_from begun line ≡ one-line begun line
 last-line begun [] is = refl
 last-line begun (b ∷ bs) is =
     let other : (b == line_feed) ≡ false = grind (arith, nat_tests, is.0) in
-    ap (λ (v : Bool). cond v (1 + lines_from false bs) (lines_from true bs)) other ∙ (last-line true bs is.1 ∙ always bs)
+    ap (λ (v : Bool). cond v (1 + line_count_from false bs) (line_count_from true bs)) other ∙ (last-line true bs is.1 ∙ always bs)
   where
     always : (xs : List ℕ) → one-line true xs ≡ 1
     always [] = refl
@@ -203,16 +204,16 @@ counted-lines (l ∷ ls) rest are is =
     append_assoc (l ++ line_feed ∷ []) others rest ∙ append_assoc l (line_feed ∷ []) (others ++ rest) in
     omega (arith, ap line_count cut, ended-line false l (others ++ rest) are.0, counted-lines ls rest are.1 is)
 
-begun-one : (octets : List ℕ) → 1 ≤ lines_from true octets
+begun-one : (octets : List ℕ) → 1 ≤ line_count_from true octets
 begun-one [] = omega arith
 begun-one (b ∷ bs) =
-    elim (b == line_feed) as (λ v. 1 ≤ cond v (1 + lines_from false bs) (lines_from true bs)) [ true ↦ omega arith | false ↦ begun-one bs ]
+    elim (b == line_feed) as (λ v. 1 ≤ cond v (1 + line_count_from false bs) (line_count_from true bs)) [ true ↦ omega arith | false ↦ begun-one bs ]
 
-more-lines : (begun : Bool) (octets more : List ℕ) → lines_from begun octets ≤ lines_from begun (octets ++ more)
+more-lines : (begun : Bool) (octets more : List ℕ) → line_count_from begun octets ≤ line_count_from begun (octets ++ more)
 more-lines true [] more = begun-one more
 more-lines false [] more = omega arith
 more-lines begun (b ∷ bs) more =
-    elim (b == line_feed) as (λ v. cond v (1 + lines_from false bs) (lines_from true bs) ≤ cond v (1 + lines_from false (bs ++ more)) (lines_from true (bs ++ more))) [
+    elim (b == line_feed) as (λ v. cond v (1 + line_count_from false bs) (line_count_from true bs) ≤ cond v (1 + line_count_from false (bs ++ more)) (line_count_from true (bs ++ more))) [
       | true ↦ omega (arith, more-lines false bs more)
       | false ↦ more-lines true bs more
     ]

@@ -1,6 +1,6 @@
 -- Workers that are lined up, one by one.
-use Rattle.std.proofs.Common.{◌≡◌, ◌∙◌, refl, arith, ℕ, ◌+◌, ◌^◌, ◌≤◌, List, [], ◌∷◌, ◌++◌, length, subst, sym, ap}
-use Rattle.std.proofs.lemmas.List.{append_assoc, length_push}
+use Rattle.std.proofs.Common.{◌≡◌, ◌∙◌, refl, arith, ℕ, ◌+◌, ◌^◌, ◌<◌, ◌≤◌, List, [], ◌∷◌, ◌++◌, length, subst, sym, ap}
+use Rattle.std.proofs.lemmas.List.{append_assoc, length_push, length-append}
 use Rattle.h261_pic.specs.Coded.{Coding, nothing}
 use Rattle.h261_pic.specs.declared.hand.Hand.{Hand}
 use Rattle.hall_core.specs.Hall.{HallView, lanes_of}
@@ -41,6 +41,13 @@ module _ {S C K : Type 0} (lock : Lock HallView) where
     number = ap length after_is ∙ length_push workers (Lane worker) ∙ ap (λ n. n + 1) i.number ∙ sym (length_push i.done source);
     seat_is = seat_is ∙ ap (seat_behind lock) (sym (ap length after_is ∙ length_push workers (Lane worker)));
   }
+
+  pub lines-few : (lanes left : List S) (workers : List (Worker S C K)) (seat : HallSeat) → LinesUp lock lanes left workers seat → length workers ≤ length lanes
+  lines-few lanes left workers seat i = omega (arith, i.number, ap length i.whole, length-append i.done left)
+
+  pub lines-below : (lanes left : List S) (source : S) (workers : List (Worker S C K)) (seat : HallSeat) → LinesUp lock lanes (source ∷ left) workers seat
+      → length workers < length lanes
+  lines-below lanes left source workers seat i = omega (arith, i.number, ap length i.whole, length-append i.done (source ∷ left))
 
 -- ---- what is reserved
 

@@ -12,11 +12,11 @@ use Rattle.hall_core.specs.Stands.{StandsFor}
 use Rattle.hall_core.proofs.Turning.{finish_law}
 use Rattle.hall_lock.specs.Turns.{Leads}
 use Rattle.pel_model.specs.History.{Step}
-use Rattle.seat_turns.specs.Asking.{NoneEnded, EndsLast, HasEnded}
-use Rattle.seat_turns.specs.Finishing.{FinishLast}
-use Rattle.seat_turns.specs.Own.{made}
-use Rattle.seat_turns.specs.Sorting.{owned_by}
-use Rattle.seat_turns.specs.Telling.{Tells}
+use Rattle.hall_lock.specs.Asking.{NoneEnded, EndsLast, HasEnded}
+use Rattle.hall_lock.specs.Finishing.{FinishLast}
+use Rattle.hall_lock.specs.Own.{made}
+use Rattle.hall_lock.specs.Sorting.{owned_by}
+use Rattle.hall_lock.specs.Telling.{Tells}
 use Rattle.bridge_live.specs.Mixer.{MadeTick, ticks_made}
 use Rattle.bridge_live.specs.Worker.{HallSeat, worker_of, owner}
 use Rattle.bridge_live.proofs.Placing.{is_tick}

@@ -5,9 +5,9 @@ use Rattle.pel_model.specs.declared.Format.{Format}
 use Rattle.pel_model.specs.declared.Format.TheVariants.{Qcif}
 use Rattle.pel_model.specs.History.{Step}
 use Rattle.rtp_h261.specs.Packets.{piece_of}
-use Rattle.rtp_h261.specs.Steps.{LawOfFronts}
+use Rattle.rtp_h261.specs.OneByOne.{LawOfFronts}
 use Rattle.rtp_h261.specs.Units.{Given, Piece, all_given, fed}
-use Rattle.unit_stream.specs.Events.{Event, HappenAt, LawOfOneTelling}
+use Rattle.rtp_h261.specs.Events.{Event, HappenAt, LawOfOneTelling}
 use Rattle.bridge_live.specs.Flow.{step_of, LawOfOneFlow, LawOfFlowFronts}
 
 pub one-flow : LawOfOneTelling → LawOfOneFlow

@@ -10,10 +10,10 @@ use Rattle.hall_core.proofs.Turning.{turn_law}
 use Rattle.hall_lock.specs.Turns.{Leads, Goes}
 use Rattle.pel_model.specs.History.{End, History, has_ended, is_end}
 use Rattle.pel_model.specs.Legal.{Legal}
-use Rattle.seat_turns.specs.Asking.{EndsLast, HasEnded}
-use Rattle.seat_turns.specs.Own.{made}
-use Rattle.seat_turns.specs.Sorting.{owned_by, MadeFrom}
-use Rattle.seat_turns.specs.Telling.{StepsFrom}
+use Rattle.hall_lock.specs.Asking.{EndsLast, HasEnded}
+use Rattle.hall_lock.specs.Own.{made}
+use Rattle.hall_lock.specs.Sorting.{owned_by, MadeFrom}
+use Rattle.hall_lock.specs.Telling.{StepsFrom}
 use Rattle.bridge_live.specs.Serve.{EndsWith}
 use Rattle.bridge_live.specs.Worker.{HallSeat, owner}
 use Rattle.bridge_live.proofs.Placing.{end-is-last}

@@ -4,8 +4,8 @@ use Rattle.std.proofs.lemmas.List.{append_assoc, append-nil, length_push, map-ap
 use Rattle.cif_pack.specs.declared.packer.Settings.{Settings}
 use Rattle.hall_core.specs.Hall.{HallView, lanes_of}
 use Rattle.hall_lock.specs.Seats.{Lock, IsOf}
-use Rattle.seat_turns.specs.Joining.{Joins}
-use Rattle.seat_turns.proofs.Joined.{joins_none}
+use Rattle.hall_lock.specs.Joining.{Joins}
+use Rattle.hall_lock.proofs.Joined.{joins_none}
 use Rattle.bridge_live.specs.declared.ends.LaneEnd.{LaneEnd}
 use Rattle.bridge_live.specs.declared.worker.ChairWorker.{ChairWorker}
 use Rattle.bridge_live.specs.declared.worker.LaneWorker.{LaneWorker}
@@ -13,17 +13,16 @@ use Rattle.bridge_live.specs.declared.worker.MixWorker.{MixWorker}
 use Rattle.bridge_live.specs.declared.worker.Worker.{Worker}
 use Rattle.bridge_live.specs.declared.worker.Worker.TheVariants.{Lane, Chair, Mixer}
 use Rattle.bridge_live.specs.Crew.{LaneDid, ChairDid, MixDid}
-use Rattle.bridge_live.specs.Ending.{TakesIn, CrewDid, LanesJoined}
-use Rattle.bridge_live.specs.Endings.{Given, LaneEnding}
+use Rattle.bridge_live.specs.Ending.{JoinsWorker, CrewDid, LanesJoined}
+use Rattle.bridge_live.specs.Endings.{HandedIn, LaneEnding}
 use Rattle.bridge_live.specs.Gathered.{LaneRan, LanesRan}
 use Rattle.bridge_live.specs.Handed.{lane_ending}
-use Rattle.bridge_live.specs.Lane.{Input}
 use Rattle.bridge_live.specs.Lining.{new_seat}
-use Rattle.bridge_live.specs.Mixer.{Output}
 use Rattle.bridge_live.specs.Worker.{HallSeat, IsNew}
+use Rattle.io_edge.specs.Outside.{Input, Output}
 
 pub new-is-new : (lock : Lock HallView) → IsNew (new_seat lock)
-new-is-new lock = record { mine = refl; past = refl; live = refl; order = omega arith }
+new-is-new lock = record { mine = refl; past = refl; live = refl }
 
 -- a lane more ran
 ran-push :
@@ -37,7 +36,7 @@ ran-push lanes lane [] (e ∷ es) before end ran one = absurd ran
 ran-push lanes lane (b ∷ bs) [] before end ran one = absurd ran
 
 module _ {S C K : Type 0} (reads : S → Input) (ticks : C → Input) (writes : K → Output) (lock : Lock HallView) (set : Settings)
-    (given : Given) where
+    (given : HandedIn) where
   -- behind the lanes stand two workers
   pub crew-length : (number : ℕ) (left : List Input) (workers : List (Worker S C K)) → CrewDid reads ticks writes lock set given number left workers
       → length workers ≡ length left + 2
@@ -92,7 +91,7 @@ module _ {S C K : Type 0} (reads : S → Input) (ticks : C → Input) (writes : 
   pub joined-more :
       (old seat next : HallSeat) (left : List Input) (ends : List (LaneEnd S)) (worker : LaneWorker S) (rest : List (Worker S C K))
       (end : LaneEnd S) → LanesJoined reads ticks writes lock set given old seat left ends (Lane worker ∷ rest)
-      → TakesIn lock worker.lane.seat end.past.seat.value seat next → end.source ≡ worker.source → end.stop ≡ worker.stop
+      → JoinsWorker lock worker.lane.seat end.past.seat.value seat next → end.source ≡ worker.source → end.stop ≡ worker.stop
       → end.counts ≡ worker.lane.counts
       → (later : List Input) × LanesJoined reads ticks writes lock set given old next later (ends ++ end ∷ []) rest
   joined-more old seat next left ends worker rest end j takes source stop counts =

@@ -5,26 +5,27 @@ use Rattle.std.specs.Io.KnownBytes.{Appends}
 use mathlib.Core.List.{IsPrefix}
 use Rattle.cif_pack.specs.declared.packer.Settings.{Settings}
 use Rattle.cif_pack.specs.Packets.{sent_packets, out}
+use Rattle.cif_pack.specs.PicturesWritten.{pictures_written, picture_at}
+use Rattle.cif_pack.specs.Tallies.{takes_in}
+use Rattle.cif_pack.specs.State.{HasFront}
 use Rattle.hall_core.specs.Hall.{HallView, lanes_of}
 use Rattle.hall_core.specs.Machine.{Fits, HallSteps, turn_tells}
 use Rattle.hall_core.specs.Stands.{StandsFor}
 use Rattle.hall_lock.specs.Turns.{Leads}
+use Rattle.io_edge.specs.Outside.{Input, Output}
 use Rattle.pel_model.specs.History.{Step, End, History}
 use Rattle.pel_model.specs.Legal.{Legal}
 use Rattle.pel_model.specs.Records.{Picture}
-use Rattle.seat_turns.specs.Own.{made}
-use Rattle.seat_turns.specs.Sorting.{owned_by}
-use Rattle.seat_turns.specs.Telling.{Tells, StepsFrom}
-use Rattle.tick_picture.specs.Output.{pictures_written}
-use Rattle.tick_picture.specs.Ticks.{picture_at, takes_in, HasFront}
+use Rattle.hall_lock.specs.Own.{made}
+use Rattle.hall_lock.specs.Sorting.{owned_by}
+use Rattle.hall_lock.specs.Telling.{Tells, StepsFrom}
 use Rattle.bridge_live.specs.declared.calls.Halt.TheVariants as halt
 use Rattle.bridge_live.specs.declared.ends.MixStop.{MixStop}
 use Rattle.bridge_live.specs.declared.ends.MixStop.TheVariants as mix_stop
 use Rattle.bridge_live.specs.declared.mixer.MixCounts.{MixCounts}
 use Rattle.bridge_live.specs.Endings.{MixEnding}
-use Rattle.bridge_live.specs.Lane.{Input}
-use Rattle.bridge_live.specs.Mixer.{MadeTick, StandsIn, steps_gone, ticks_made, pictures_of, LastCall as Called, Closed as CalledClosed, NoEnd as CalledNoEnd, NoTick as CalledNoTick, MakesTicks, StopsBy, TickerStops, WritesTicks, Output, RunsMixer}
-use Rattle.bridge_live.specs.Serve.{tick_steps, LastCall, Closed, NoEnd, NoTick, Ticks, StopsFor, TickerEnds, MixerServes, Wrote}
+use Rattle.bridge_live.specs.Mixer.{MadeTick, StandsIn, steps_gone, ticks_made, pictures_of, LastCall as Called, Closed as CalledClosed, NoEnd as CalledNoEnd, NoTick as CalledNoTick, MakesTicks, StopsBy, TickerStops, WritesTicks, RunsMixer}
+use Rattle.bridge_live.specs.Serve.{tick_steps, LastCall, Closed, NoEnd, NoTick, Ticks, IsStopOf, TickerEnds, MixerServes, WroteHistory}
 use Rattle.bridge_live.specs.Worker.{HallSeat, owner}
 use Rattle.bridge_live.proofs.Finishing.{never-late}
 use Rattle.bridge_live.proofs.Mixings.{all-later}
@@ -44,7 +45,7 @@ last_of CalledClosed = Closed
 last_of (CalledNoEnd back) = NoEnd
 last_of (CalledNoTick step back) = NoTick step
 
-stops-for : (stop : MixStop) (last : Called) → IsTimely last → StopsBy stop last → StopsFor stop (last_of last)
+stops-for : (stop : MixStop) (last : Called) → IsTimely last → StopsBy stop last → IsStopOf stop (last_of last)
 stops-for mix_stop.Sink CalledClosed timely s = tt
 stops-for mix_stop.Sink (CalledNoEnd back) timely s = tt
 stops-for mix_stop.Sink (CalledNoTick step back) timely s = s
@@ -108,7 +109,7 @@ module _ (lanes : ℕ) (turns : List HallTurn) (H : History) (told : StepsFrom t
 
   pub record WroteSo (stop : MixStop) (set : Settings) (whole : List MadeTick) (before after : Output) : Type 0 where
     pub history : History
-    pub wrote : Wrote stop set lanes H history before after
+    pub wrote : WroteHistory stop set lanes H history before after
     pub pictures : pictures_of lanes whole ≡ pictures_written lanes history
 
   wrote-all : (set : Settings) (ts whole : List MadeTick) (before after : Output) → ts ≡ ticks_in H → ts ≡ whole
@@ -137,8 +138,7 @@ module _ (lanes : ℕ) (turns : List HallTurn) (H : History) (told : StepsFrom t
           split.0,
           split.1,
           split.2,
-          subst (λ (p : List (ℕ × Picture)). HasFront set p (picture_at lanes last.before last.note) before.written after.written) pictures w.2,
-          w.3,
+          subst (λ (p : List (ℕ × Picture)). HasFront set p (picture_at lanes last.before last.note) before after) pictures w.2,
         );
         pictures = pictures;
       }
@@ -167,7 +167,7 @@ pub record MixerPart (lanes : ℕ) (set : Settings) (H : History) (ticker : Inpu
   where
     pub serves : MixerServes H ticker end
     pub whole : History
-    pub wrote : Wrote end.stop set lanes H whole sink end.sink
+    pub wrote : WroteHistory end.stop set lanes H whole sink end.sink
     pub ticks : counts.ticks ≡ length (ticks_in H)
     pub taken : counts.taken ≡ sum_by (λ (t : MadeTick). takes_in t.note) (ticks_in H)
     pub packets : counts.packets ≡ length (sent_packets set 0 (pictures_written lanes whole))

@@ -7,8 +7,11 @@ use Rattle.std.specs.List.{AllByRecursion}
 use Rattle.std.specs.Io.KnownBytes.{Consumes, Keeps}
 use mathlib.Core.List.{IsPrefix}
 use Rattle.cif_pack.specs.declared.packer.Settings.{Settings}
-use Rattle.cif_pack.specs.State.{PackerState, HasSent}
+use Rattle.cif_pack.specs.declared.packer.Sent.{Sent}
+use Rattle.cif_pack.specs.State.{PackerState, AreFew, HasSent}
 use Rattle.cif_pack.proofs.ListLaws.{nothing-sent}
+use Rattle.cif_pack.specs.PicturesWritten.{picture_at}
+use Rattle.cif_pack.specs.Tallies.{takes_in}
 use Rattle.h261_pic.specs.declared.hand.Hand.{Hand}
 use Rattle.hall_core.specs.declared.machine.HallCall.{HallCall}
 use Rattle.hall_core.specs.declared.machine.HallReply.{HallReply}
@@ -17,10 +20,9 @@ use Rattle.hall_lock.specs.declared.view.Turn.{Turn}
 use Rattle.hall_lock.specs.Seats.{Lock, IsOf}
 use Rattle.io_edge.specs.declared.edges.Failed.{Failed}
 use Rattle.io_edge.specs.Causes.{Rose}
+use Rattle.io_edge.specs.Outside.{Input, Output}
 use Rattle.pel_model.specs.History.{Step, History, Tick, End}
 use Rattle.pel_model.specs.Records.{Picture}
-use Rattle.seat_turns.specs.Own.{InOrder}
-use Rattle.tick_picture.specs.Ticks.{picture_at, takes_in}
 use Rattle.bridge_live.specs.declared.calls.Halt.{Halt}
 use Rattle.bridge_live.specs.declared.calls.Halt.TheVariants as halt
 use Rattle.bridge_live.specs.declared.ends.MixStop.{MixStop}
@@ -30,11 +32,10 @@ use Rattle.bridge_live.specs.declared.mixer.Mixer.{Mixer}
 use Rattle.bridge_live.specs.declared.mixer.Quiet.{Quiet}
 use Rattle.bridge_live.specs.declared.mixer.Quiet.TheVariants as quiet
 use Rattle.bridge_live.specs.declared.mixer.Taken.{Taken}
-use Rattle.bridge_live.specs.Lane.{Input}
-use Rattle.bridge_live.specs.Mixer.{MadeTick, StandsIn, steps_gone, ticks_made, pictures_of, LastCall, Closed, NoEnd, NoTick, MakesTicks, CalledEnd, StopsBy, Output, WritesTicks, Mixes, TickerStops}
-use Rattle.bridge_live.specs.Mixing.{most_turns, MayMix, TookStep, MakesOne, HasMixRoom, HasCountRoom, GrowsByOne, WritesOne, HasMixed, StopsBehind, MixRounds, stop_for, last_of, last_stop, stop_at, Closes, TakesStep, StepsOn}
+use Rattle.bridge_live.specs.Mixer.{MadeTick, StandsIn, steps_gone, ticks_made, pictures_of, LastCall, Closed, NoEnd, NoTick, MakesTicks, CalledEnd, StopsBy, WritesTicks, Mixes, TickerStops}
+use Rattle.bridge_live.specs.Mixing.{most_turns, MayMix, TookStep, MakesOne, HasMixRoom, HasCountRoom, GrowsByOne, sent_by, WritesOne, HasMixed, StopsBehind, MixRounds, mix_stop_for, last_call_of, last_stop, stop_at, Closes, TakesTickStep, StepsOn}
 use Rattle.bridge_live.specs.Worker.{HallSeat, IsNew, HasMade, IsUnderWay}
-use Rattle.bridge_live.proofs.Flowing.{none-made, none-back}
+use Rattle.bridge_live.proofs.Calling.{none-made, none-back}
 
 abbrev HallTurn : Type 0
 HallTurn = Turn HallCall HallReply
@@ -69,10 +70,9 @@ pub record Due (lanes : ℕ) (set : Settings) (taken : List ℕ) (first : HallSe
   pub gone : taken ≡ steps_gone (whole ++ tick ∷ [])
   pub stand : AllByRecursion (StandsIn lanes mid.seat.seen) (whole ++ tick ∷ [])
   pub has_made : HasMade lanes (lanes + 1) first mid.seat (ticks_made (whole ++ tick ∷ []))
-  pub sent : HasSent set (pictures_of lanes whole) mid.writer mid.counts.packets mid.counts.octets before.written now.written
+  pub sent : HasSent set (pictures_of lanes whole) mid.writer (sent_by mid.counts) before now
   pub ticks_are : mid.counts.ticks ≡ length (whole ++ tick ∷ [])
   pub takes_are : mid.counts.taken ≡ sum_by (λ (t : MadeTick). takes_in t.note) (whole ++ tick ∷ [])
-  pub writes : now.faults ≡ before.faults
 
 pub due-so : (lanes step : ℕ) (set : Settings) (taken : List ℕ) (first : HallSeat) (before now : Output) (old mid : Mixer) (t : Taken) (history : History)
     → HasMixed lanes set taken first before now old → TookStep lanes step mid.seat.seen t history → IsPrefix old.seat.seen mid.seat.seen
@@ -83,20 +83,17 @@ due-so lanes step set taken first before now old mid t history h took grows make
     let tick : MadeTick = record { before = history; note = t.note } in
     let ticks = h.ticks in
     let made = makes (ticks_made ticks) h.has_made in
-    let packets_are = ap (λ (k : MixCounts). k.packets) counts in
-    let octets_are = ap (λ (k : MixCounts). k.octets) counts in
-    let sent = subst (λ (p : PackerState). HasSent set (pictures_of lanes ticks) p old.counts.packets old.counts.octets before.written now.written) (sym writer) h.sent in
+    let counts_are : sent_by old.counts ≡ sent_by mid.counts = ap sent_by (sym counts) in
+    let sent = subst (λ (p : PackerState). HasSent set (pictures_of lanes ticks) p (sent_by old.counts) before now) (sym writer) h.sent in
     record {
       whole = ticks;
       gone = ap (λ (xs : List ℕ). xs ++ step ∷ []) h.gone
           ∙ (ap (λ (n : ℕ). steps_gone ticks ++ n ∷ []) (sym took.step_is) ∙ sym (map-append (λ (x : MadeTick). x.note.step) ticks (tick ∷ [])));
       stand = all-push lanes mid.seat.seen ticks tick (all-later lanes old.seat.seen mid.seat.seen ticks grows h.stand) took.stands;
       has_made = subst (HasMade lanes (lanes + 1) first mid.seat) (sym (map-append (λ (x : MadeTick). Tick x.note) ticks (tick ∷ []))) made.0;
-      sent = subst (λ (n : ℕ). HasSent set (pictures_of lanes ticks) mid.writer n mid.counts.octets before.written now.written) (sym packets_are)
-          (subst (λ (n : ℕ). HasSent set (pictures_of lanes ticks) mid.writer old.counts.packets n before.written now.written) (sym octets_are) sent);
+      sent = subst (λ (k : Sent). HasSent set (pictures_of lanes ticks) mid.writer k before now) counts_are sent;
       ticks_are = omega (arith, ap (λ (k : MixCounts). k.ticks) counts, h.ticks_are, length-append ticks (tick ∷ []));
       takes_are = omega (arith, ap (λ (k : MixCounts). k.taken) counts, h.takes_are, sum_by-append (λ (x : MadeTick). takes_in x.note) ticks (tick ∷ []));
-      writes = h.writes;
     }
 
 -- ---- the end
@@ -104,8 +101,8 @@ due-so lanes step set taken first before now old mid t history h took grows make
 record Ends (lanes : ℕ) (taken : List ℕ) (ticks : List MadeTick) (first last : HallSeat) (r : Result Unit Halt) : Type 0 where
   steps : List Step
   has_made : HasMade lanes (lanes + 1) first last steps
-  makes : MakesTicks (last_of r) taken ticks steps last
-  called : CalledEnd (last_of r)
+  makes : MakesTicks (last_call_of r) taken ticks steps last
+  called : CalledEnd (last_call_of r)
 
 ends-so : (r : Result Unit Halt) (lanes : ℕ) (taken : List ℕ) (ticks : List MadeTick) (first last : HallSeat) → taken ≡ steps_gone ticks
     → MakesOne {T = Unit} lanes (λ _. End) first (ticks_made ticks) last r → Ends lanes taken ticks first last r
@@ -116,33 +113,32 @@ ends-so (Err back) lanes taken ticks first last gone m = record { steps = ticks_
 
 -- its picture was written
 pub written-so : (lanes : ℕ) (set : Settings) (taken : List ℕ) (first : HallSeat) (before now then : Output) (mid new : Mixer) (tick : MadeTick)
-    → Due lanes set taken first before now mid tick → new.seat ≡ mid.seat → GrowsByOne mid new → then.faults ≡ now.faults
-    → ((pictures : List (ℕ × Picture)) → HasSent set pictures mid.writer mid.counts.packets mid.counts.octets before.written now.written
-    → WritesOne set pictures (picture_at lanes tick.before tick.note) before.written then.written new (Ok (tt {0})))
+    → Due lanes set taken first before now mid tick → new.seat ≡ mid.seat → GrowsByOne mid new
+    → ((pictures : List (ℕ × Picture)) → HasSent set pictures mid.writer (sent_by mid.counts) before now
+    → WritesOne set pictures (picture_at lanes tick.before tick.note) before then new (Ok (tt {0})))
     → HasMixed lanes set taken first before then new
-written-so lanes set taken first before now then mid new tick d seat counts faults writes =
+written-so lanes set taken first before now then mid new tick d seat counts writes =
     let ticks = d.whole ++ tick ∷ [] in
     record {
       ticks = ticks;
       gone = d.gone;
       stand = subst (λ (s : HallSeat). AllByRecursion (StandsIn lanes s.seen) ticks) (sym seat) d.stand;
       has_made = subst (λ (s : HallSeat). HasMade lanes (lanes + 1) first s (ticks_made ticks)) (sym seat) d.has_made;
-      sent = subst (λ (ps : List (ℕ × Picture)). HasSent set ps new.writer new.counts.packets new.counts.octets before.written then.written)
+      sent = subst (λ (ps : List (ℕ × Picture)). HasSent set ps new.writer (sent_by new.counts) before then)
           (sym (map-append (λ (t : MadeTick). picture_at lanes t.before t.note) d.whole (tick ∷ []))) (writes (pictures_of lanes d.whole) d.sent);
       ticks_are = counts.ticks ∙ d.ticks_are;
       takes_are = counts.taken ∙ d.takes_are;
-      writes = faults ∙ d.writes;
     }
 
 -- the sink failed at it
 pub failed-so : (r : Result Unit Halt) (lanes : ℕ) (set : Settings) (taken : List ℕ) (first : HallSeat) (before now then : Output) (mid new last : Mixer) (tick : MadeTick) (failed : Failed)
-    → Due lanes set taken first before now mid tick → new.seat ≡ mid.seat → new.counts ≡ mid.counts → Rose now.faults then.faults
-    → ((pictures : List (ℕ × Picture)) → HasSent set pictures mid.writer mid.counts.packets mid.counts.octets before.written now.written
-    → WritesOne set pictures (picture_at lanes tick.before tick.note) before.written then.written new (Err failed))
+    → Due lanes set taken first before now mid tick → new.seat ≡ mid.seat → new.counts ≡ mid.counts
+    → ((pictures : List (ℕ × Picture)) → HasSent set pictures mid.writer (sent_by mid.counts) before now
+    → WritesOne set pictures (picture_at lanes tick.before tick.note) before then new (Err failed))
     → IsPrefix new.seat.seen last.seat.seen → last.counts ≡ new.counts
     → ((steps : List Step) → HasMade lanes (lanes + 1) first new.seat steps → MakesOne {T = Unit} lanes (λ _. End) first steps last.seat r)
     → (m : Mixes lanes set taken first last.seat before then mix_stop.Sink last.counts) × StopsBehind mix_stop.Sink m.last_call
-failed-so r lanes set taken first before now then mid new last tick failed d seat counts rose writes grows same makes =
+failed-so r lanes set taken first before now then mid new last tick failed d seat counts writes grows same makes =
     let ticks = d.whole ++ tick ∷ [] in
     let here = subst (λ (s : HallSeat). AllByRecursion (StandsIn lanes s.seen) ticks) (sym seat) d.stand in
     let had = subst (λ (s : HallSeat). HasMade lanes (lanes + 1) first s (ticks_made ticks)) (sym seat) d.has_made in
@@ -151,13 +147,13 @@ failed-so r lanes set taken first before now then mid new last tick failed d sea
       record {
         ticks = ticks;
         stand = all-later lanes new.seat.seen last.seat.seen ticks grows here;
-        last_call = last_of r;
+        last_call = last_call_of r;
         stops = ends.called;
         steps = ends.steps;
         has_made = ends.has_made;
         makes = ends.makes;
         whole = d.whole;
-        wrote = (tick, refl, writes (pictures_of lanes d.whole) d.sent, subst (λ (n : ℕ). Rose n then.faults) d.writes rose);
+        wrote = (tick, refl, writes (pictures_of lanes d.whole) d.sent);
         counted = record {
           ticks_are = ap (λ (k : MixCounts). k.ticks) all ∙ d.ticks_are;
           taken = ap (λ (k : MixCounts). k.taken) all ∙ d.takes_are;
@@ -200,38 +196,38 @@ mixes-so stop last_call lanes set taken all first before now old last steps h gr
 pub back-so : (back : Halt) (lanes step : ℕ) (set : Settings) (taken : List ℕ) (first : HallSeat) (before now : Output) (old new : Mixer)
     → HasMixed lanes set taken first before now old → IsPrefix old.seat.seen new.seat.seen → new.counts ≡ old.counts
     → ((steps : List Step) → HasMade lanes (lanes + 1) first old.seat steps → MakesOne {T = Taken} lanes (λ x. Tick x.note) first steps new.seat (Err back))
-    → (m : Mixes lanes set (taken ++ step ∷ []) first new.seat before now (stop_for back) new.counts) × StopsBehind (stop_for back) m.last_call
+    → (m : Mixes lanes set (taken ++ step ∷ []) first new.seat before now (mix_stop_for back) new.counts) × StopsBehind (mix_stop_for back) m.last_call
 back-so halt.Ended lanes step set taken first before now old new h grows counts makes =
     let one = makes (ticks_made h.ticks) h.has_made in
     let m = mixes-so mix_stop.Whole (NoTick step halt.Ended) lanes set taken (taken ++ step ∷ []) first before now old new (ticks_made h.ticks) h grows counts one.0
-    (ap (λ (xs : List ℕ). xs ++ step ∷ []) h.gone, refl, one.1) refl (refl, h.sent.written, h.writes) in
+    (ap (λ (xs : List ℕ). xs ++ step ∷ []) h.gone, refl, one.1) refl (refl, h.sent.written, h.sent.faults) in
     (m.0, subst (StopsBehind mix_stop.Whole) (sym m.1) tt)
 back-so halt.Over lanes step set taken first before now old new h grows counts makes =
     let one = makes (ticks_made h.ticks) h.has_made in
     let m = mixes-so mix_stop.Over (NoTick step halt.Over) lanes set taken (taken ++ step ∷ []) first before now old new (ticks_made h.ticks) h grows counts one.0
-    (ap (λ (xs : List ℕ). xs ++ step ∷ []) h.gone, refl, one.1) refl (refl, h.sent.written, h.writes) in
+    (ap (λ (xs : List ℕ). xs ++ step ∷ []) h.gone, refl, one.1) refl (refl, h.sent.written, h.sent.faults) in
     (m.0, subst (StopsBehind mix_stop.Over) (sym m.1) tt)
 
 -- the ticker gave no step
 end-mixes : (stop : MixStop) (r : Result Unit Halt) (lanes : ℕ) (set : Settings) (taken : List ℕ) (first : HallSeat) (before now : Output) (old last : Mixer)
     → (h : HasMixed lanes set taken first before now old) → IsPrefix old.seat.seen last.seat.seen → last.counts ≡ old.counts
-    → Ends lanes taken h.ticks first last.seat r → StopsBy stop (last_of r) → WritesTicks stop set lanes h.ticks h.ticks before now
-    → (m : Mixes lanes set taken first last.seat before now stop last.counts) × (m.last_call ≡ last_of r)
+    → Ends lanes taken h.ticks first last.seat r → StopsBy stop (last_call_of r) → WritesTicks stop set lanes h.ticks h.ticks before now
+    → (m : Mixes lanes set taken first last.seat before now stop last.counts) × (m.last_call ≡ last_call_of r)
 end-mixes stop r lanes set taken first before now old last h grows counts ends stops wrote =
-    mixes-so stop (last_of r) lanes set taken taken first before now old last ends.steps h grows counts ends.has_made ends.makes stops wrote
+    mixes-so stop (last_call_of r) lanes set taken taken first before now old last ends.steps h grows counts ends.has_made ends.makes stops wrote
 
 close-mixes : (quiet : Quiet) (r : Result Unit Halt) (lanes : ℕ) (set : Settings) (taken : List ℕ) (first : HallSeat) (before now : Output) (old last : Mixer)
     → (h : HasMixed lanes set taken first before now old) → IsPrefix old.seat.seen last.seat.seen → last.counts ≡ old.counts
     → Ends lanes taken h.ticks first last.seat r
-    → (m : Mixes lanes set taken first last.seat before now (stop_at quiet r) last.counts) × (m.last_call ≡ last_of r)
+    → (m : Mixes lanes set taken first last.seat before now (stop_at quiet r) last.counts) × (m.last_call ≡ last_call_of r)
 close-mixes quiet.AtEnd (Ok x) lanes set taken first before now old last h grows counts ends =
-    end-mixes mix_stop.Whole (Ok x) lanes set taken first before now old last h grows counts ends refl (refl, h.sent.written, h.writes)
+    end-mixes mix_stop.Whole (Ok x) lanes set taken first before now old last h grows counts ends refl (refl, h.sent.written, h.sent.faults)
 close-mixes quiet.AtEnd (Err halt.Ended) lanes set taken first before now old last h grows counts ends =
-    end-mixes mix_stop.Whole (Err halt.Ended) lanes set taken first before now old last h grows counts ends refl (refl, h.sent.written, h.writes)
+    end-mixes mix_stop.Whole (Err halt.Ended) lanes set taken first before now old last h grows counts ends refl (refl, h.sent.written, h.sent.faults)
 close-mixes quiet.AtEnd (Err halt.Over) lanes set taken first before now old last h grows counts ends =
-    end-mixes mix_stop.Over (Err halt.Over) lanes set taken first before now old last h grows counts ends refl (refl, h.sent.written, h.writes)
+    end-mixes mix_stop.Over (Err halt.Over) lanes set taken first before now old last h grows counts ends refl (refl, h.sent.written, h.sent.faults)
 close-mixes quiet.Failing r lanes set taken first before now old last h grows counts ends =
-    end-mixes mix_stop.Ticker r lanes set taken first before now old last h grows counts ends ends.called (refl, h.sent.written, h.writes)
+    end-mixes mix_stop.Ticker r lanes set taken first before now old last h grows counts ends ends.called (refl, h.sent.written, h.sent.faults)
 
 pub closes-so : (quiet : Quiet) (r : Result Unit Halt) (stop : MixStop) (lanes : ℕ) (set : Settings) (taken : List ℕ) (first : HallSeat) (before now : Output) (old last : Mixer)
     → HasMixed lanes set taken first before now old → IsPrefix old.seat.seen last.seat.seen → last.counts ≡ old.counts
@@ -240,7 +236,7 @@ pub closes-so : (quiet : Quiet) (r : Result Unit Halt) (stop : MixStop) (lanes :
 closes-so quiet r stop lanes set taken first before now old last h grows counts makes is = (
   r,
   is,
-  subst (λ (s : MixStop). (m : Mixes lanes set taken first last.seat before now s last.counts) × (m.last_call ≡ last_of r)) (sym is)
+  subst (λ (s : MixStop). (m : Mixes lanes set taken first last.seat before now s last.counts) × (m.last_call ≡ last_call_of r)) (sym is)
       (close-mixes quiet r lanes set taken first before now old last h grows counts
       (ends-so r lanes taken h.ticks first last.seat h.gone (makes (ticks_made h.ticks) h.has_made))),
 )
@@ -258,49 +254,48 @@ behind mix_stop.Over (NoTick step back) taken before after s e = e
 behind mix_stop.Over Closed taken before after s e = absurd s
 behind mix_stop.Over (NoEnd back) taken before after s e = absurd s
 
-pub step-on : (r : Result Hand MixStop) (lock : Lock HallView) (set : Settings) (begun : Input) (left new : Option (List ℕ)) (faults then : ℕ) (taken : List ℕ) (step : ℕ) (first : HallSeat)
-    (before now : Output) (ticks : ℕ) (mixer : Mixer) → Consumes begun.left left taken → faults ≡ begun.faults
-    → TakesStep left new faults then (Ok step) → MixRounds lock set (taken ++ step ∷ []) first before now ticks mixer r
-    → StepsOn lock set begun (record { left = new; faults = then }) first before now ticks mixer r
-step-on (Ok hand) lock set begun left new faults then taken step first before now ticks mixer gave same takes round =
-    (taken ++ step ∷ [], Consumes-trans begun.left left new taken (step ∷ []) gave takes.0, takes.2 ∙ same, round.0, round.1)
-step-on (Err stop) lock set begun left new faults then taken step first before now ticks mixer gave same takes round = record {
+pub step-on : (r : Result Hand MixStop) (lock : Lock HallView) (set : Settings) (begun ticker rest : Input) (taken : List ℕ) (step : ℕ) (first : HallSeat)
+    (before now : Output) (ticks : ℕ) (mixer : Mixer) → Consumes begun.left ticker.left taken → ticker.faults ≡ begun.faults
+    → TakesTickStep ticker rest (Ok step) → MixRounds lock set (taken ++ step ∷ []) first before now ticks mixer r
+    → StepsOn lock set begun rest first before now ticks mixer r
+step-on (Ok hand) lock set begun ticker rest taken step first before now ticks mixer gave same takes round =
+    (taken ++ step ∷ [], Consumes-trans begun.left ticker.left rest.left taken (step ∷ []) gave takes.0, takes.2 ∙ same, round.0, round.1)
+step-on (Err stop) lock set begun ticker rest taken step first before now ticks mixer gave same takes round = record {
   taken = taken ++ step ∷ [];
-  given = Consumes-trans begun.left left new taken (step ∷ []) gave takes.0;
+  given = Consumes-trans begun.left ticker.left rest.left taken (step ∷ []) gave takes.0;
   mixes = round.0;
-  ticker = behind stop round.0.last_call (taken ++ step ∷ []) begun (record { left = new; faults = then }) round.1 (takes.2 ∙ same);
+  ticker = behind stop round.0.last_call (taken ++ step ∷ []) begun rest round.1 (takes.2 ∙ same);
 }
 
 at-end : (last : Result Unit Halt) (taken : List ℕ) (before after : Input) → IfSome before.left (λ steps. steps ≡ taken) → after.faults ≡ before.faults
-    → TickerStops (last_stop last) (last_of last) taken before after
+    → TickerStops (last_stop last) (last_call_of last) taken before after
 at-end (Ok x) taken before after all e = (all, e)
 at-end (Err halt.Ended) taken before after all e = (all, e)
 at-end (Err halt.Over) taken before after all e = (all, e)
 
-kept : (quiet : Quiet) (left new : Option (List ℕ)) (before now : ℕ) → TakesStep left new before now (Err quiet) → Keeps left new
-kept quiet.AtEnd left new before now t = t.0
-kept quiet.Failing left new before now t = t.0
+kept : (quiet : Quiet) (old new : Input) → TakesTickStep old new (Err quiet) → Keeps old.left new.left
+kept quiet.AtEnd old new t = t.0
+kept quiet.Failing old new t = t.0
 
-quiet-stops : (quiet : Quiet) (last : Result Unit Halt) (begun : Input) (left new : Option (List ℕ)) (faults then : ℕ) (taken : List ℕ) → Consumes begun.left left taken → faults ≡ begun.faults
-    → TakesStep left new faults then (Err quiet) → TickerStops (stop_at quiet last) (last_of last) taken begun (record { left = new; faults = then })
-quiet-stops quiet.AtEnd last begun left new faults then taken gave same t =
-    at-end last taken begun (record { left = new; faults = then }) (Consumes-whole begun.left left taken (λ (steps : List ℕ). steps ≡ taken) gave t.1 refl) (t.2 ∙ same)
-quiet-stops quiet.Failing last begun left new faults then taken gave same t = subst (λ (n : ℕ). Rose n then) same t.1
+quiet-stops : (quiet : Quiet) (last : Result Unit Halt) (begun ticker rest : Input) (taken : List ℕ) → Consumes begun.left ticker.left taken → ticker.faults ≡ begun.faults
+    → TakesTickStep ticker rest (Err quiet) → TickerStops (stop_at quiet last) (last_call_of last) taken begun rest
+quiet-stops quiet.AtEnd last begun ticker rest taken gave same t =
+    at-end last taken begun rest (Consumes-whole begun.left ticker.left taken (λ (steps : List ℕ). steps ≡ taken) gave t.1 refl) (t.2 ∙ same)
+quiet-stops quiet.Failing last begun ticker rest taken gave same t = subst (λ (n : ℕ). Rose n rest.faults) same t.1
 
-pub quiet-on : (quiet : Quiet) (stop : MixStop) (lock : Lock HallView) (set : Settings) (begun : Input) (left new : Option (List ℕ)) (faults then : ℕ) (taken : List ℕ) (first : HallSeat)
-    (before now : Output) (ticks : ℕ) (mixer : Mixer) → Consumes begun.left left taken → faults ≡ begun.faults
-    → TakesStep left new faults then (Err quiet) → Closes (lanes_of lock.opening) set taken first before now mixer quiet stop
-    → StepsOn {T = Hand} lock set begun (record { left = new; faults = then }) first before now ticks mixer (Err stop)
-quiet-on quiet stop lock set begun left new faults then taken first before now ticks mixer gave same t closes =
-    let after : Input = record { left = new; faults = then } in
+pub quiet-on : (quiet : Quiet) (stop : MixStop) (lock : Lock HallView) (set : Settings) (begun ticker rest : Input) (taken : List ℕ) (first : HallSeat)
+    (before now : Output) (ticks : ℕ) (mixer : Mixer) → Consumes begun.left ticker.left taken → ticker.faults ≡ begun.faults
+    → TakesTickStep ticker rest (Err quiet) → Closes (lanes_of lock.opening) set taken first before now mixer quiet stop
+    → StepsOn {T = Hand} lock set begun rest first before now ticks mixer (Err stop)
+quiet-on quiet stop lock set begun ticker rest taken first before now ticks mixer gave same t closes =
     let m = closes.2.0 in
     record {
       taken = taken;
-      given = Consumes-kept begun.left left new taken gave (kept quiet left new faults then t);
+      given = Consumes-kept begun.left ticker.left rest.left taken gave (kept quiet ticker rest t);
       mixes = m;
-      ticker = subst (λ (s : MixStop). TickerStops s m.last_call taken begun after) (sym closes.1)
-          (subst (λ (k : LastCall). TickerStops (stop_at quiet closes.0) k taken begun after) (sym closes.2.1)
-          (quiet-stops quiet closes.0 begun left new faults then taken gave same t));
+      ticker = subst (λ (s : MixStop). TickerStops s m.last_call taken begun rest) (sym closes.1)
+          (subst (λ (k : LastCall). TickerStops (stop_at quiet closes.0) k taken begun rest) (sym closes.2.1)
+          (quiet-stops quiet closes.0 begun ticker rest taken gave same t));
     }
 
 -- ---- the beginning
@@ -314,16 +309,15 @@ mixer-begins lock set now mixer new writer seq none =
     let taken_none : mixer.counts.taken ≡ 0 = ap (λ (k : MixCounts). k.taken) none in
     let packets_none : mixer.counts.packets ≡ 0 = ap (λ (k : MixCounts). k.packets) none in
     let octets_none : mixer.counts.octets ≡ 0 = ap (λ (k : MixCounts). k.octets) none in
-    let fresh = nothing-sent set now.written seq in (
+    let fresh = nothing-sent set now seq in (
       record {
         ticks = [];
         gone = refl;
         stand = tt;
         has_made = none-made lanes (lanes + 1) mixer.seat new;
-        sent = record { state = writer ∙ fresh.state; packets_told = packets_none; octets_told = octets_none; written = fresh.written };
+        sent = record { state = writer ∙ fresh.state; packets_told = packets_none; octets_told = octets_none; written = fresh.written; faults = refl };
         ticks_are = ticks_none;
         takes_are = taken_none;
-        writes = refl;
       },
       record {
         few = omega (arith, ticks_none);
@@ -364,11 +358,25 @@ count-room lock mixer turns r = record {
   octets = omega (arith, r.few, r.few_octets, turns);
 }
 
+pub picture-counted : (old new : Mixer) (sent : Sent) → new.counts.ticks ≡ old.counts.ticks → new.counts.taken ≡ old.counts.taken
+    → new.counts.packets ≡ old.counts.packets + sent.packets → new.counts.octets ≡ old.counts.octets + sent.octets → AreFew sent → new.writer.spent ≡ false
+    → GrowsByOne old new
+picture-counted old new sent ticks taken packets octets few usable = record {
+  ticks = ticks;
+  taken = taken;
+  packets = omega (arith, packets, few.0);
+  octets = omega (arith, octets, few.1);
+  usable = usable;
+}
+
+-- a call changes the seat alone
+pub may-with : (lock : Lock HallView) (old new : Mixer) → MayMix lock old → IsOf lock new.seat → MayMix lock new
+may-with lock old new may is_of = record { at_lock = is_of; opens = may.opens; limit = may.limit; turns = may.turns }
+
 -- writing a picture leaves the seat
 pub may-mix : (lock : Lock HallView) (old new : Mixer) → MayMix lock old → new.seat ≡ old.seat → MayMix lock new
 may-mix lock old new may seat = record {
-  seat = subst (IsOf lock) (sym seat) may.seat;
-  order = subst InOrder (sym seat) may.order;
+  at_lock = subst (IsOf lock) (sym seat) may.at_lock;
   opens = may.opens;
   limit = may.limit;
   turns = may.turns;

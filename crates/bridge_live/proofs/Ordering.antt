@@ -13,8 +13,14 @@ use Rattle.chair_words.specs.Words.{Word, words_in as words}
 use Rattle.hall_core.specs.declared.machine.HallCall.TheVariants.{Order as AskOrder}
 use Rattle.hall_core.specs.declared.machine.HallReply.{HallReply}
 use Rattle.hall_core.specs.declared.machine.HallReply.TheVariants.{Spare, Counted, Ordered, Ticked, Finished, Ended}
+use Rattle.hall_core.specs.Hall.{HallView, lanes_of}
 use Rattle.hall_core.specs.Machine.{TellsStep}
+use Rattle.hall_lock.specs.Seats.{Lock}
+use Rattle.io_edge.specs.declared.allowance.Pause.{Pause}
+use Rattle.io_edge.specs.declared.allowance.Pause.TheVariants as pause
+use Rattle.io_edge.specs.Allowance.{AllowanceState, unused}
 use Rattle.io_edge.specs.Causes.{Rose}
+use Rattle.io_edge.specs.Outside.{Input}
 use Rattle.pel_model.specs.declared.chair.Command.{Command}
 use Rattle.pel_model.specs.declared.chair.Reply.{Reply}
 use Rattle.pel_model.specs.History.{Step, Post, Gap, Order, Tick, End}
@@ -24,16 +30,12 @@ use Rattle.bridge_live.specs.declared.calls.Halt.TheVariants as halt
 use Rattle.bridge_live.specs.declared.chair.Chair.{Chair}
 use Rattle.bridge_live.specs.declared.chair.ChairCounts.{ChairCounts}
 use Rattle.bridge_live.specs.declared.ends.ChairStop.{ChairStop}
-use Rattle.bridge_live.specs.declared.lines.Pause.{Pause}
-use Rattle.bridge_live.specs.declared.lines.Pause.TheVariants as pause
-use Rattle.bridge_live.specs.Chair.{AreOrders, is_refused, IsChairCounted, heard_lines, ChairStopsAt, OrdersOf, RunsChair}
-use Rattle.bridge_live.specs.Hearing.{lines_counted, HasHeard, Orders, Hears, HearsLine, HasOrder, is_refusal, ended_lines, HasChairRoom, HasLines, ChairRounds, stop_for, halted, last_stop, StopsChair}
-use Rattle.bridge_live.specs.Lane.{most_octets, Input}
+use Rattle.bridge_live.specs.Chair.{AreOrders, is_refused_step, IsChairCounted, heard_lines, ChairStopsAt, OrdersOf, RunsChair}
+use Rattle.bridge_live.specs.Hearing.{MayHear, HasHeard, CountsLine, Orders, Hears, HearsWhole, HearsLine, HasOrder, is_refusal, ended_lines, MayTakeLine, HasLines, HearsLineOr, HearsNext, chair_stop_for, halted, last_stop, StopsChair, StopsHearing, ChairBegins}
 use Rattle.bridge_live.specs.Lines.{line_feed, IsLine, Heard, Blank, Faulty, Said, IsHeard, AreHeard, said, is_faulty}
-use Rattle.bridge_live.specs.Posting.{input}
-use Rattle.bridge_live.specs.Reading.{TakesLine}
-use Rattle.bridge_live.specs.Worker.{HallSeat, IsNew, HasMade, IsUnderWay, HasHalted, Answers}
-use Rattle.bridge_live.proofs.Flowing.{none-made, none-back}
+use Rattle.bridge_live.specs.LineTaking.{TakesLine}
+use Rattle.bridge_live.specs.Worker.{most_taken, HallSeat, IsNew, HasMade, IsUnderWay, HasHalted, IsAnswer}
+use Rattle.bridge_live.proofs.Calling.{none-made, none-back}
 
 -- ---- a command
 
@@ -46,7 +48,7 @@ pub record OrderTold (command : Command) (reply : HallReply) : Type 0 where
   pub refused : is_refusal reply ≡ not (is_done answer)
   pub has : HasOrder reply
 
-pub order-told : (command : Command) (reply : HallReply) → Answers (AskOrder command) reply → OrderTold command reply
+pub order-told : (command : Command) (reply : HallReply) → IsAnswer (AskOrder command) reply → OrderTold command reply
 order-told command (Ordered reply) a = record { answer = reply; told = refl; refused = refl; has = tt }
 order-told command (Ended back) a = absurd (apart a.0)
 order-told command (Spare box) a = absurd a.1.1
@@ -69,7 +71,7 @@ order-made lanes command answer first steps heard old new h made commands refuse
   has_made = made;
   counted = record {
     commands = omega (arith, commands, h.counted.commands, length-append steps (Order command answer ∷ []));
-    refused = omega (arith, refused, h.counted.refused, step-count is_refused steps (Order command answer));
+    refused = omega (arith, refused, h.counted.refused, step-count is_refused_step steps (Order command answer));
     bad = omega (arith, bad, h.counted.bad, heard-count heard (Said command));
   };
 }
@@ -127,12 +129,12 @@ silent lanes one first steps heard old new quiet h seat commands refused bad liv
 
 pub hears-long : (lanes : ℕ) (line whole : List ℕ) (old new : Chair) → line ≡ take 256 whole → 256 ≤ length line → new.seat ≡ old.seat
     → new.counts.commands ≡ old.counts.commands → new.counts.refused ≡ old.counts.refused → new.counts.bad ≡ old.counts.bad + 1 → IsUnderWay old.seat
-    → HearsLine lanes whole old new (Ok (tt {0}))
+    → HearsWhole lanes whole old new (Ok (tt {0}))
 hears-long lanes line whole old new is more seat commands refused bad live =
     (Faulty, inl (long-line line whole is more), λ first steps heard h. silent lanes Faulty first steps heard old new refl h seat commands refused bad live)
 
 pub hears-blank : (lanes : ℕ) (line whole : List ℕ) (old : Chair) → line ≡ take 256 whole → length line < 256 → false ≡ nat_lt 0 (length (words line)) → IsUnderWay old.seat
-    → HearsLine lanes whole old old (Ok (tt {0}))
+    → HearsWhole lanes whole old old (Ok (tt {0}))
 hears-blank lanes line whole old is less none live =
     let same = whole-line line whole is less in (
       Blank,
@@ -143,7 +145,7 @@ hears-blank lanes line whole old is less none live =
 pub hears-faulty : (lanes : ℕ) (line whole : List ℕ) (place : ℕ) (why : LineWhy) (old new : Chair) → line ≡ take 256 whole → length line < 256
     → true ≡ nat_lt 0 (length (words line)) → FailsAt line place why → new.seat ≡ old.seat
     → new.counts.commands ≡ old.counts.commands → new.counts.refused ≡ old.counts.refused → new.counts.bad ≡ old.counts.bad + 1 → IsUnderWay old.seat
-    → HearsLine lanes whole old new (Ok (tt {0}))
+    → HearsWhole lanes whole old new (Ok (tt {0}))
 hears-faulty lanes line whole place why old new is less some fails seat commands refused bad live =
     let same = whole-line line whole is less in (
       Faulty,
@@ -158,7 +160,7 @@ orders-so lanes command first steps heard new (Err back) o = (command, refl, o.0
 
 pub hears-command : (lanes : ℕ) (line whole : List ℕ) (command : Command) (old new : Chair) (r : Result Unit Halt) → line ≡ take 256 whole → length line < 256 → Says line command
     → ((first : HallSeat) (steps : List Step) (heard : List Heard) → HasHeard lanes first old steps heard → Orders lanes command first steps heard new r)
-    → HearsLine lanes whole old new r
+    → HearsWhole lanes whole old new r
 hears-command lanes line whole command old new r is less says orders =
     let same = whole-line line whole is less in (
       Said command,
@@ -210,168 +212,201 @@ empty-line : IsHeard [] Blank
 empty-line = (omega arith, refl)
 
 back-orders : (back : Halt) (heard : List Heard) (command : Command) (commands : List Command) (steps : List Step) (seat : HallSeat) → commands ≡ said heard ++ command ∷ []
-    → AreOrders (said heard) steps → HasHalted back seat → OrdersOf (stop_for back) commands steps seat
+    → AreOrders (said heard) steps → HasHalted back seat → OrdersOf (chair_stop_for back) commands steps seat
 back-orders halt.Ended heard command commands steps seat is orders halted = (said heard, command, is, orders, halted)
 back-orders halt.Over heard command commands steps seat is orders halted = (said heard, command, is, orders, halted)
 
-back-stops : (back : Halt) (octets : List ℕ) (before after : Input) → after.faults ≡ before.faults → ChairStopsAt (stop_for back) octets before after
+back-stops : (back : Halt) (octets : List ℕ) (before after : Input) → after.faults ≡ before.faults → ChairStopsAt (chair_stop_for back) octets before after
 back-stops halt.Ended octets before after same = same
 back-stops halt.Over octets before after same = same
 
-back-heard : (back : Halt) (lines : List (List ℕ)) (rest : List ℕ) (heard : List Heard) → AreHeard (lines ++ rest ∷ []) heard → AreHeard (heard_lines (stop_for back) lines rest) heard
+back-heard : (back : Halt) (lines : List (List ℕ)) (rest : List ℕ) (heard : List Heard) → AreHeard (lines ++ rest ∷ []) heard → AreHeard (heard_lines (chair_stop_for back) lines rest) heard
 back-heard halt.Ended lines rest heard h = h
 back-heard halt.Over lines rest heard h = h
 
--- a whole line was taken
-pub whole-round : (r : Result Unit Halt) (lanes : ℕ) (before : Input) (first : HallSeat) (l0 l1 : Option (List ℕ)) (f0 f1 room0 room1 : ℕ) (kept : List ℕ) (old new : Chair)
-    → HasLines lanes before (input l0 f0) first room0 old → HasChairRoom room0 old → (t : TakesLine l0 l1 f0 f1 room0 room1 kept (Ok (tt {0})))
-    → HearsLine lanes t.line old new r → lines_counted new ≤ lines_counted old + 1 → new.counts.refused ≤ new.counts.commands
-    → ChairRounds lanes before (input l1 f1) first room0 room1 new (halted r)
-whole-round (Ok x) lanes before first l0 l1 f0 f1 room0 room1 kept old new h room t hears few refused =
-    let made = hears.2 first h.steps h.heard h.has_heard in
-    let bytes = Consumes-trans before.left l0 l1 (ended_lines h.lines) (t.line ++ line_feed ∷ []) h.bytes t.bytes in
-    let long : length (t.line ++ line_feed ∷ []) ≡ length t.line + 1 = length-append t.line (line_feed ∷ []) in
-    let all = ended-more h.lines t.line in (
+module _ (lock : Lock HallView) (source now : Input) (a b : AllowanceState) (kept : List ℕ) (old new : Chair) where
+  abbrev lanes : ℕ
+  lanes = lanes_of lock.opening
+
+  -- a whole line was taken
+  whole-round : (r : Result Unit Halt) (before : Input) (first : HallSeat) → HasLines lanes before source first a old → MayTakeLine lock a old
+      → (t : TakesLine source now a b kept (Ok (tt {0}))) → HearsWhole lanes t.line old new r → CountsLine lock old new
+      → HearsLineOr lock before now first a b new (halted r)
+  whole-round (Ok x) before first h may t hears counts =
+      let made = hears.2 first h.steps h.heard h.has_heard in
+      let bytes = Consumes-trans before.left source.left now.left (ended_lines h.lines) (t.line ++ line_feed ∷ []) h.bytes t.takes.bytes in
+      let long : length (t.line ++ line_feed ∷ []) ≡ length t.line + 1 = length-append t.line (line_feed ∷ []) in
+      let all = ended-more h.lines t.line in (
+        record {
+          lines = h.lines ++ t.line ∷ [];
+          are_lines = lines-more h.lines t.line h.are_lines t.is_line;
+          bytes = subst (Consumes before.left now.left) all bytes;
+          taken = omega (arith, h.taken, t.takes.taken, ap length all, length-append (ended_lines h.lines) (t.line ++ line_feed ∷ []));
+          heard = h.heard ++ hears.0 ∷ [];
+          are_heard = heard-more h.lines t.line h.heard hears.0 h.are_heard hears.1;
+          steps = h.steps ++ made.0;
+          orders = orders-of h.heard hears.0 h.steps made.0 h.orders made.1;
+          has_heard = made.2;
+          reads = t.stops ∙ h.reads;
+        },
+        record {
+          at_lock = counts.at_lock;
+          few = omega (arith, counts.few, may.few, t.takes.taken, long);
+          within = omega (arith, t.takes.within, t.takes.budget, may.budget);
+          budget = t.takes.budget ∙ may.budget;
+          refused = counts.refused;
+          live = made.3;
+        },
+        omega (arith, t.takes.taken, long),
+      )
+  whole-round (Err back) before first h may t hears counts =
+      let made = hears.2 first h.steps h.heard h.has_heard in
+      let bytes = Consumes-trans before.left source.left now.left (ended_lines h.lines) (t.line ++ line_feed ∷ []) h.bytes t.takes.bytes in
+      let all = ended-more h.lines t.line in
+      let lines = h.lines ++ t.line ∷ [] in
+      let heard = h.heard ++ hears.0 ∷ [] in
+      let only : said (heard ++ Blank ∷ []) ≡ said h.heard ++ made.0 ∷ [] =
+      said-more heard (Blank ∷ []) ∙ (append-nil (said heard) ∙ (said-more h.heard (hears.0 ∷ []) ∙ ap (λ (x : Heard). said h.heard ++ said (x ∷ [])) made.1)) in
       record {
-        lines = h.lines ++ t.line ∷ [];
-        are_lines = lines-more h.lines t.line h.are_lines t.is_line;
-        bytes = subst (Consumes before.left l1) all bytes;
-        taken = omega (arith, h.taken, t.room_is, ap length all, length-append (ended_lines h.lines) (t.line ++ line_feed ∷ []));
+        octets = ended_lines lines ++ [];
+        bytes = subst (Consumes before.left now.left) (all ∙ sym (append-nil (ended_lines lines))) bytes;
+        stops = back-stops back (ended_lines lines ++ []) before now (t.stops ∙ h.reads);
+        lines = lines;
+        rest = [];
+        are_lines = record { cut = refl; lines = lines-more h.lines t.line h.are_lines t.is_line; rest = tt };
+        heard = heard ++ Blank ∷ [];
+        are_heard = back-heard back lines [] (heard ++ Blank ∷ [])
+            (heard-more lines [] heard Blank (heard-more h.lines t.line h.heard hears.0 h.are_heard hears.1) empty-line);
+        steps = h.steps;
+        has_made = made.2.has_made;
+        makes = back-orders back h.heard made.0 (said (heard ++ Blank ∷ [])) h.steps new.seat only h.orders made.3;
+        counted = record {
+          commands = made.2.counted.commands;
+          refused = made.2.counted.refused;
+          bad = omega (arith, made.2.counted.bad, heard-count heard Blank);
+        };
+      }
+
+  -- the last line was taken, which may be empty
+  last-round : (r : Result Unit Halt) (before : Input) (first : HallSeat) → HasLines lanes before source first a old → MayTakeLine lock a old
+      → (t : TakesLine source now a b kept (Err pause.End)) → HearsWhole lanes t.line old new r → RunsChair lanes before now first new.seat (last_stop r) new.counts
+  last-round (Ok x) before first h may t hears =
+      let made = hears.2 first h.steps h.heard h.has_heard in
+      let same = append-nil t.line in
+      let bytes = Consumes-trans before.left source.left now.left (ended_lines h.lines) t.line h.bytes (subst (Consumes source.left now.left) same t.takes.bytes) in
+      record {
+        octets = ended_lines h.lines ++ t.line;
+        bytes = bytes;
+        stops = (
+          t.stops.0,
+          omega (arith, h.taken, t.takes.taken, t.takes.budget, may.budget, t.stops.1, ap length same, length-append (ended_lines h.lines) t.line),
+          t.stops.2 ∙ h.reads,
+        );
+        lines = h.lines;
+        rest = t.line;
+        are_lines = record { cut = refl; lines = h.are_lines; rest = t.is_line };
         heard = h.heard ++ hears.0 ∷ [];
         are_heard = heard-more h.lines t.line h.heard hears.0 h.are_heard hears.1;
         steps = h.steps ++ made.0;
-        orders = orders-of h.heard hears.0 h.steps made.0 h.orders made.1;
-        has_heard = made.2;
-        reads = t.stops ∙ h.reads;
-      },
-      record { few = omega (arith, few, room.few, t.room_is, long); refused = refused; live = made.3 },
-      omega (arith, t.room_is, long),
-    )
-whole-round (Err back) lanes before first l0 l1 f0 f1 room0 room1 kept old new h room t hears few refused =
-    let made = hears.2 first h.steps h.heard h.has_heard in
-    let bytes = Consumes-trans before.left l0 l1 (ended_lines h.lines) (t.line ++ line_feed ∷ []) h.bytes t.bytes in
-    let all = ended-more h.lines t.line in
-    let lines = h.lines ++ t.line ∷ [] in
-    let heard = h.heard ++ hears.0 ∷ [] in
-    let only : said (heard ++ Blank ∷ []) ≡ said h.heard ++ made.0 ∷ [] =
-    said-more heard (Blank ∷ []) ∙ (append-nil (said heard) ∙ (said-more h.heard (hears.0 ∷ []) ∙ ap (λ (x : Heard). said h.heard ++ said (x ∷ [])) made.1)) in
-    record {
-      octets = ended_lines lines ++ [];
-      bytes = subst (Consumes before.left l1) (all ∙ sym (append-nil (ended_lines lines))) bytes;
-      stops = back-stops back (ended_lines lines ++ []) before (input l1 f1) (t.stops ∙ h.reads);
-      lines = lines;
-      rest = [];
-      are_lines = record { cut = refl; lines = lines-more h.lines t.line h.are_lines t.is_line; rest = tt };
-      heard = heard ++ Blank ∷ [];
-      are_heard = back-heard back lines [] (heard ++ Blank ∷ [])
-          (heard-more lines [] heard Blank (heard-more h.lines t.line h.heard hears.0 h.are_heard hears.1) empty-line);
-      steps = h.steps;
-      has_made = made.2.has_made;
-      makes = back-orders back h.heard made.0 (said (heard ++ Blank ∷ [])) h.steps new.seat only h.orders made.3;
-      counted = record {
-        commands = made.2.counted.commands;
-        refused = made.2.counted.refused;
-        bad = omega (arith, made.2.counted.bad, heard-count heard Blank);
-      };
-    }
+        has_made = made.2.has_made;
+        makes = (orders-of h.heard hears.0 h.steps made.0 h.orders made.1, made.3);
+        counted = made.2.counted;
+      }
+  last-round (Err back) before first h may t hears =
+      let made = hears.2 first h.steps h.heard h.has_heard in
+      let same = append-nil t.line in
+      let heard = h.heard ++ hears.0 ∷ [] in
+      let only : said heard ≡ said h.heard ++ made.0 ∷ [] = said-more h.heard (hears.0 ∷ []) ∙ ap (λ (x : Heard). said h.heard ++ said (x ∷ [])) made.1 in
+      let bytes = Consumes-trans before.left source.left now.left (ended_lines h.lines) t.line h.bytes (subst (Consumes source.left now.left) same t.takes.bytes) in
+      record {
+        octets = ended_lines h.lines ++ t.line;
+        bytes = bytes;
+        stops = back-stops back (ended_lines h.lines ++ t.line) before now (t.stops.2 ∙ h.reads);
+        lines = h.lines;
+        rest = t.line;
+        are_lines = record { cut = refl; lines = h.are_lines; rest = t.is_line };
+        heard = heard;
+        are_heard = back-heard back h.lines t.line heard (heard-more h.lines t.line h.heard hears.0 h.are_heard hears.1);
+        steps = h.steps;
+        has_made = made.2.has_made;
+        makes = back-orders back h.heard made.0 (said heard) h.steps new.seat only h.orders made.3;
+        counted = made.2.counted;
+      }
 
--- the last line was taken, which may be empty
-last-round : (r : Result Unit Halt) (lanes : ℕ) (before : Input) (first : HallSeat) (l0 l1 : Option (List ℕ)) (f0 f1 room0 room1 : ℕ) (kept : List ℕ) (old new : Chair)
-    → HasLines lanes before (input l0 f0) first room0 old → (t : TakesLine l0 l1 f0 f1 room0 room1 kept (Err pause.End))
-    → HearsLine lanes t.line old new r → RunsChair lanes before (input l1 f1) first new.seat (last_stop r) new.counts
-last-round (Ok x) lanes before first l0 l1 f0 f1 room0 room1 kept old new h t hears =
-    let made = hears.2 first h.steps h.heard h.has_heard in
-    let same = append-nil t.line in
-    let bytes = Consumes-trans before.left l0 l1 (ended_lines h.lines) t.line h.bytes (subst (Consumes l0 l1) same t.bytes) in
-    record {
-      octets = ended_lines h.lines ++ t.line;
-      bytes = bytes;
-      stops = (
-        t.stops.0,
-        omega (arith, h.taken, t.room_is, t.stops.1, ap length same, length-append (ended_lines h.lines) t.line),
-        t.stops.2 ∙ h.reads,
-      );
-      lines = h.lines;
-      rest = t.line;
-      are_lines = record { cut = refl; lines = h.are_lines; rest = t.is_line };
-      heard = h.heard ++ hears.0 ∷ [];
-      are_heard = heard-more h.lines t.line h.heard hears.0 h.are_heard hears.1;
-      steps = h.steps ++ made.0;
-      has_made = made.2.has_made;
-      makes = (orders-of h.heard hears.0 h.steps made.0 h.orders made.1, made.3);
-      counted = made.2.counted;
-    }
-last-round (Err back) lanes before first l0 l1 f0 f1 room0 room1 kept old new h t hears =
-    let made = hears.2 first h.steps h.heard h.has_heard in
-    let same = append-nil t.line in
-    let heard = h.heard ++ hears.0 ∷ [] in
-    let only : said heard ≡ said h.heard ++ made.0 ∷ [] = said-more h.heard (hears.0 ∷ []) ∙ ap (λ (x : Heard). said h.heard ++ said (x ∷ [])) made.1 in
-    let bytes = Consumes-trans before.left l0 l1 (ended_lines h.lines) t.line h.bytes (subst (Consumes l0 l1) same t.bytes) in
-    record {
-      octets = ended_lines h.lines ++ t.line;
-      bytes = bytes;
-      stops = back-stops back (ended_lines h.lines ++ t.line) before (input l1 f1) (t.stops.2 ∙ h.reads);
-      lines = h.lines;
-      rest = t.line;
-      are_lines = record { cut = refl; lines = h.are_lines; rest = t.is_line };
-      heard = heard;
-      are_heard = back-heard back h.lines t.line heard (heard-more h.lines t.line h.heard hears.0 h.are_heard hears.1);
-      steps = h.steps;
-      has_made = made.2.has_made;
-      makes = back-orders back h.heard made.0 (said heard) h.steps new.seat only h.orders made.3;
-      counted = made.2.counted;
-    }
+  -- no line more came
+  pause-round : (p : Pause) (stop : ChairStop) (before : Input) (first : HallSeat) → HasLines lanes before source first a old → MayTakeLine lock a old
+      → (t : TakesLine source now a b kept (Err p)) → StopsChair lanes p t.line old new stop → RunsChair lanes before now first new.seat stop new.counts
+  pause-round pause.End stop before first h may t stops =
+      subst (λ (s : ChairStop). RunsChair lanes before now first new.seat s new.counts) (sym stops.2)
+      (last-round stops.0 before first h may t stops.1)
+  pause-round pause.Fault stop before first h may t stops =
+      let same = append-nil t.line in
+      rw (stops.0, stops.1) (record {
+        octets = ended_lines h.lines ++ t.line;
+        bytes = Consumes-trans before.left source.left now.left (ended_lines h.lines) t.line h.bytes (subst (Consumes source.left now.left) same t.takes.bytes);
+        stops = subst (λ (f : ℕ). Rose f now.faults) h.reads t.stops.0;
+        lines = h.lines;
+        rest = t.line;
+        are_lines = record { cut = refl; lines = h.are_lines; rest = t.is_line };
+        heard = h.heard;
+        are_heard = h.are_heard;
+        steps = h.steps;
+        has_made = h.has_heard.has_made;
+        makes = (h.orders, may.live);
+        counted = h.has_heard.counted;
+      })
+  pause-round pause.Limit stop before first h may t stops =
+      let same = append-nil t.line in
+      rw (stops.0, stops.1) (record {
+        octets = ended_lines h.lines ++ t.line;
+        bytes = Consumes-trans before.left source.left now.left (ended_lines h.lines) t.line h.bytes (subst (Consumes source.left now.left) same t.takes.bytes);
+        stops = (
+          omega (arith, h.taken, t.takes.taken, t.takes.budget, may.budget, t.stops.0, ap length same, length-append (ended_lines h.lines) t.line),
+          t.stops.1 ∙ h.reads,
+        );
+        lines = h.lines;
+        rest = t.line;
+        are_lines = record { cut = refl; lines = h.are_lines; rest = t.is_line };
+        heard = h.heard;
+        are_heard = h.are_heard;
+        steps = h.steps;
+        has_made = h.has_heard.has_made;
+        makes = (h.orders, may.live);
+        counted = h.has_heard.counted;
+      })
 
--- no line more came
-pub pause-round : (p : Pause) (stop : ChairStop) (lanes : ℕ) (before : Input) (first : HallSeat) (l0 l1 : Option (List ℕ)) (f0 f1 room0 room1 : ℕ) (kept : List ℕ) (old new : Chair)
-    → HasLines lanes before (input l0 f0) first room0 old → HasChairRoom room0 old → (t : TakesLine l0 l1 f0 f1 room0 room1 kept (Err p))
-    → StopsChair lanes p t.line old new stop → RunsChair lanes before (input l1 f1) first new.seat stop new.counts
-pause-round pause.End stop lanes before first l0 l1 f0 f1 room0 room1 kept old new h room t stops =
-    subst (λ (s : ChairStop). RunsChair lanes before (input l1 f1) first new.seat s new.counts) (sym stops.2)
-    (last-round stops.0 lanes before first l0 l1 f0 f1 room0 room1 kept old new h t stops.1)
-pause-round pause.Fault stop lanes before first l0 l1 f0 f1 room0 room1 kept old new h room t stops =
-    let same = append-nil t.line in
-    rw (stops.0, stops.1) (record {
-      octets = ended_lines h.lines ++ t.line;
-      bytes = Consumes-trans before.left l0 l1 (ended_lines h.lines) t.line h.bytes (subst (Consumes l0 l1) same t.bytes);
-      stops = subst (λ (f : ℕ). Rose f f1) h.reads t.stops.0;
-      lines = h.lines;
-      rest = t.line;
-      are_lines = record { cut = refl; lines = h.are_lines; rest = t.is_line };
-      heard = h.heard;
-      are_heard = h.are_heard;
-      steps = h.steps;
-      has_made = h.has_heard.has_made;
-      makes = (h.orders, room.live);
-      counted = h.has_heard.counted;
-    })
-pause-round pause.Limit stop lanes before first l0 l1 f0 f1 room0 room1 kept old new h room t stops =
-    let same = append-nil t.line in
-    rw (stops.0, stops.1) (record {
-      octets = ended_lines h.lines ++ t.line;
-      bytes = Consumes-trans before.left l0 l1 (ended_lines h.lines) t.line h.bytes (subst (Consumes l0 l1) same t.bytes);
-      stops = (
-        omega (arith, h.taken, t.room_is, t.stops.0, ap length same, length-append (ended_lines h.lines) t.line),
-        t.stops.1 ∙ h.reads,
-      );
-      lines = h.lines;
-      rest = t.line;
-      are_lines = record { cut = refl; lines = h.are_lines; rest = t.is_line };
-      heard = h.heard;
-      are_heard = h.are_heard;
-      steps = h.steps;
-      has_made = h.has_heard.has_made;
-      makes = (h.orders, room.live);
-      counted = h.has_heard.counted;
-    })
+  pub line-heard : (heard : Result Unit Halt) → MayTakeLine lock a old → (t : TakesLine source now a b kept (Ok (tt {0}))) → HearsLine lock kept old new heard
+      → HearsNext lock source now a b old new (halted heard)
+  line-heard heard may t h = record {
+    at_lock = h.counts.at_lock;
+    hears = λ before first lines. whole-round heard before first lines may t (h.hears t.line t.kept_is) h.counts;
+  }
+
+  pub line-stopped : (p : Pause) (stop : ChairStop) → MayTakeLine lock a old → (t : TakesLine source now a b kept (Err p)) → StopsHearing lock p kept old new stop
+      → HearsNext lock source now a b old new (Err stop)
+  line-stopped p stop may t h = record {
+    at_lock = h.at_lock;
+    hears = λ before first lines. pause-round p stop before first lines may t (h.stops t.line t.kept_is);
+  }
+
+-- how many lines may be counted still
+pub may-hear : (lock : Lock HallView) (source now : Input) (a b : AllowanceState) (kept : List ℕ) (r : Result Unit Pause) (chair : Chair) → MayTakeLine lock a chair
+    → TakesLine source now a b kept r → MayHear 1 lock chair
+may-hear lock source now a b kept r chair may t = record {
+  at_lock = may.at_lock;
+  few = omega (arith, may.few, may.within);
+  refused = may.refused;
+  live = may.live;
+}
 
 -- ---- at the beginning
 
-pub chair-begins : (lanes : ℕ) (now : Input) (chair : Chair) → IsNew chair.seat → chair.counts ≡ record { commands = 0; refused = 0; bad = 0 }
-    → HasLines lanes now now chair.seat most_octets chair × HasChairRoom most_octets chair
-chair-begins lanes now chair new none =
-    let zero : (chair.counts.commands ≡ 0) × (chair.counts.refused ≡ 0) × (chair.counts.bad ≡ 0) =
-    (ap (λ (c : ChairCounts). c.commands) none, ap (λ (c : ChairCounts). c.refused) none, ap (λ (c : ChairCounts). c.bad) none) in (
+pub chair-begins : (lock : Lock HallView) (now : Input) (chair : Chair) → ChairBegins lock chair
+    → HasLines (lanes_of lock.opening) now now chair.seat (unused most_taken) chair × MayTakeLine lock (unused most_taken) chair
+chair-begins lock now chair b =
+    let commands : chair.counts.commands ≡ 0 = ap (λ (c : ChairCounts). c.commands) b.counts in
+    let refused : chair.counts.refused ≡ 0 = ap (λ (c : ChairCounts). c.refused) b.counts in
+    let bad : chair.counts.bad ≡ 0 = ap (λ (c : ChairCounts). c.bad) b.counts in (
       record {
         lines = [];
         are_lines = tt;
@@ -382,13 +417,27 @@ chair-begins lanes now chair new none =
         steps = [];
         orders = tt;
         has_heard = record {
-          has_made = none-made lanes lanes chair.seat new;
-          counted = record { commands = zero.0; refused = zero.1; bad = zero.2 };
+          has_made = none-made (lanes_of lock.opening) (lanes_of lock.opening) chair.seat b.seat;
+          counted = record { commands = commands; refused = refused; bad = bad };
         };
         reads = refl;
       },
-      record { few = omega (arith, zero.0, zero.2); refused = omega (arith, zero.0, zero.1); live = none-back chair.seat new },
+      record {
+        at_lock = b.at_lock;
+        few = omega (arith, commands, bad);
+        within = omega arith;
+        budget = refl;
+        refused = omega (arith, commands, refused);
+        live = none-back chair.seat b.seat;
+      },
     )
+
+pub one-more-at-most : (answer : Reply) → cond {A = ℕ} (not (is_done answer)) 1 0 ≤ 1
+one-more-at-most answer = at-most (not (is_done answer))
+  where
+    at-most : (b : Bool) → cond {A = ℕ} b 1 0 ≤ 1
+    at-most true = omega arith
+    at-most false = omega arith
 
 -- a refusal is counted as one
 pub one-refusal : (b b' : Bool) (k : ℕ) (answer : Reply) → k ≡ from_bool b → b ≡ b' → b' ≡ not (is_done answer) → k ≡ cond (not (is_done answer)) 1 0

@@ -4,15 +4,14 @@ use Rattle.std.proofs.lemmas.List.{map-append, same_from_push}
 use Rattle.std.proofs.lemmas.List.Elements.{filter-append}
 use Rattle.std.specs.List.{AllByRecursion, list_any}
 use mathlib.Core.List.{reverse-cons}
+use Rattle.cif_pack.specs.PicturesWritten.{pictures_written, picture_at}
 use Rattle.hall_core.specs.Machine.{turn_tells}
 use Rattle.pel_model.specs.declared.note.TickNote.{TickNote}
 use Rattle.pel_model.specs.Headline.{HasTick}
 use Rattle.pel_model.specs.History.{Step, Tick, End, History, total_of, is_end, has_ended}
 use Rattle.pel_model.specs.Legal.{Legal}
 use Rattle.pel_model.specs.Records.{Picture}
-use Rattle.seat_turns.specs.Telling.{StepsFrom}
-use Rattle.tick_picture.specs.Output.{pictures_written}
-use Rattle.tick_picture.specs.Ticks.{picture_at}
+use Rattle.hall_lock.specs.Telling.{StepsFrom}
 use Rattle.bridge_live.specs.Mixer.{MadeTick, StandsIn, steps_gone, ticks_made, pictures_of}
 use Rattle.bridge_live.specs.Serve.{tick_steps}
 use Rattle.bridge_live.proofs.Telling.{HallTurn, one-telling, steps-split, steps-one, steps-grow, is_mixed}

@@ -4,6 +4,7 @@ use Rattle.std.specs.List.{AllByRecursion}
 use Rattle.std.specs.Io.KnownBytes.{Consumes, IsAtEnd}
 use mathlib.Core.List.{IsPrefix}
 use Rattle.hall_lock.proofs.Histories.{prefix_trans, prefix_length, prefix_whole}
+use Rattle.io_edge.specs.Outside.{Input}
 use Rattle.pel_model.specs.History.{Step, Gap, History, End}
 use Rattle.rtp_wire.specs.Frames.{HasFrame, IsPartial, stream_of, IsStream}
 use Rattle.bridge_live.specs.declared.calls.Halt.TheVariants as halt
@@ -17,8 +18,8 @@ use Rattle.pel_model.specs.declared.chair.Command.{Command}
 use Rattle.bridge_live.specs.Chair.{OrdersOf}
 use Rattle.bridge_live.specs.Endings.{LaneEnding, Ending}
 use Rattle.bridge_live.specs.Flow.{IsFlow, LawOfOneFlow, LawOfFlowFronts}
-use Rattle.bridge_live.specs.Lane.{Input, MakesOf, StopsAt}
-use Rattle.bridge_live.specs.Serve.{LastCall, Closed, NoEnd, NoTick, Ticks, StopsFor, EndsWith, LanesServe}
+use Rattle.bridge_live.specs.Lane.{MakesOf, StopsAt}
+use Rattle.bridge_live.specs.Serve.{LastCall, Closed, NoEnd, NoTick, Ticks, IsStopOf, EndsWith, LanesServe}
 use Rattle.bridge_live.specs.ServeLaws.{StopTells, LawOfStops, MakesOfAll, LawOfLanes}
 use Rattle.bridge_live.specs.Worker.{HallSeat, HasHalted}
 use Rattle.bridge_live.proofs.Counting.{frames-begin}
@@ -42,10 +43,10 @@ chair-ended : (stop : ChairStop) (commands : List Command) (steps : List Step) (
 chair-ended chair_stop.Ended commands steps seat o is = o.4
 chair-ended _ commands steps seat o is = absurd (cc is)
 
-mixer-over : (stop : MixStop) (last : LastCall) (taken : List ℕ) (H : History) (seat : HallSeat) → StopsFor stop last → Ticks last taken H seat → stop ≡ mix_stop.Over → seat.full ≡ true
+mixer-over : (stop : MixStop) (last : LastCall) (taken : List ℕ) (H : History) (seat : HallSeat) → IsStopOf stop last → Ticks last taken H seat → stop ≡ mix_stop.Over → seat.full ≡ true
 mixer-over stop NoEnd taken H seat s t is = t.2.1
 mixer-over stop (NoTick step) taken H seat s t is = t.2.1
-mixer-over stop Closed taken H seat s t is = absurd (subst (λ (m : MixStop). StopsFor m Closed) is s)
+mixer-over stop Closed taken H seat s t is = absurd (subst (λ (m : MixStop). IsStopOf m Closed) is s)
 
 module _ (turns : ℕ) (end : Ending) (H : History) where
   lanes-tell : (lanes lane : ℕ) (befores : List Input) (ends : List LaneEnding) (chair mixer : HallSeat) → LanesServe lanes lane H befores ends

@@ -5,12 +5,12 @@ use Rattle.std.specs.List.{AllByRecursion}
 use Rattle.std.specs.Io.KnownBytes.{IsAtEnd}
 use mathlib.Core.List.{IsPrefix}
 use Rattle.hall_lock.proofs.Histories.{prefix_trans, prefix_length, prefix_whole}
+use Rattle.io_edge.specs.Outside.{Input}
 use Rattle.pel_model.specs.declared.chair.Command.{Command}
 use Rattle.pel_model.specs.History.{Step}
 use Rattle.bridge_live.specs.declared.ends.ChairStop.{ChairStop}
 use Rattle.bridge_live.specs.declared.ends.ChairStop.TheVariants as chair_stop
 use Rattle.bridge_live.specs.Chair.{AreOrders, heard_lines, ChairStopsAt, OrdersOf}
-use Rattle.bridge_live.specs.Lane.{Input}
 use Rattle.bridge_live.specs.Lines.{line_feed, IsLine, AreLines, Heard, Blank, Faulty, Said, AreHeard, said, LawOfOneHearing}
 use Rattle.bridge_live.specs.ServeLaws.{OrdersOfAll, LawOfChair}
 use Rattle.bridge_live.specs.Worker.{HallSeat}

@@ -3,21 +3,21 @@ use Rattle.std.proofs.Common.{◌≡◌, ℕ, ◌+◌, ◌<◌, List, [], ◌∷
 use Rattle.std.proofs.lemmas.List.Elements.{recursion_from_All}
 use Rattle.std.specs.List.{AllByRecursion}
 use mathlib.Core.List.{IsPrefix}
+use Rattle.cif_pack.specs.declared.tally.Tally.{Tally}
+use Rattle.cif_pack.specs.Tallies.{tally_of}
 use Rattle.hall_core.specs.Hall.{lanes_of}
 use Rattle.hall_core.specs.Machine.{Fits, turn_tells, TurnsTo}
 use Rattle.hall_core.proofs.Turning.{turn_law}
 use Rattle.history_laws.proofs.Cutting.{headline}
+use Rattle.io_edge.specs.Outside.{Input}
 use Rattle.pel_model.specs.History.{Step, History}
 use Rattle.pel_model.specs.Legal.{Legal}
-use Rattle.seat_turns.specs.Own.{made}
-use Rattle.seat_turns.specs.Sorting.{owned_by, MadeFrom}
-use Rattle.seat_turns.specs.Telling.{Tells}
-use Rattle.tick_picture.specs.declared.tally.Tally.{Tally}
-use Rattle.tick_picture.specs.Tallies.{tally_of}
-use Rattle.bridge_live.specs.Chair.{is_refused}
+use Rattle.hall_lock.specs.Own.{made}
+use Rattle.hall_lock.specs.Sorting.{owned_by, MadeFrom}
+use Rattle.hall_lock.specs.Telling.{Tells}
+use Rattle.bridge_live.specs.Chair.{is_refused_step}
 use Rattle.bridge_live.specs.Endings.{LaneEnding, seats_of}
 use Rattle.bridge_live.specs.Gathered.{LaneRan, LanesRan, counted_together, RunLaw}
-use Rattle.bridge_live.specs.Lane.{Input}
 use Rattle.bridge_live.specs.Serve.{is_of_lane, is_order, LaneServes, LanesServe, ChairServes}
 use Rattle.bridge_live.specs.Worker.{HallSeat, owner}
 use Rattle.bridge_live.proofs.Halting.{halted-seats}
@@ -114,6 +114,10 @@ gathered-serves set turns opening given end counts g =
       stands = to.stands;
       lanes_are = to.same.lanes ∙ g.lanes_are;
       number = g.number;
+      opening = opening;
+      opens = g.opens;
+      limit = g.limit_is;
+      leads = g.leads;
       shared = g.shared;
       lanes = parts.serve;
       chair = chair;
@@ -128,7 +132,7 @@ gathered-serves set turns opening given end counts g =
           same-tally (counted_together end counts) (tally_of set lanes H mix.whole) (mix.ticks ∙ ticks-counted H)
           (pictures-together H given.lanes end.lanes legal parts.serve) (gaps-together H given.lanes end.lanes legal parts.serve)
           (chair.runs.counted.commands ∙ (ap (λ (w : List Step). length w) chair.steps_are ∙ commands-counted H))
-          (chair.runs.counted.refused ∙ (ap (count_by is_refused) chair.steps_are ∙ refused-counted H))
+          (chair.runs.counted.refused ∙ (ap (count_by is_refused_step) chair.steps_are ∙ refused-counted H))
           (mix.taken ∙ taken-counted H) mix.packets mix.octets;
       headline = headline lanes H legal;
     }

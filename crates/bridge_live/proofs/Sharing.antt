@@ -2,15 +2,15 @@
 use Rattle.std.proofs.Common.{◌≡◌, ℕ, ◌+◌, ◌≤◌, List, [], ◌∷◌, ◌++◌, length, map, sum_by, sym, ap, subst, ◌∙◌, arith}
 use Rattle.std.specs.List.{AllByRecursion}
 use Rattle.cif_pack.specs.declared.packer.Settings.{Settings}
+use Rattle.cif_pack.specs.declared.tally.Tally.{Tally}
 use Rattle.hall_core.specs.Hall.{HallView}
+use Rattle.io_edge.specs.Outside.{Input}
 use Rattle.pel_model.specs.History.{Step}
-use Rattle.seat_turns.specs.Own.{made, InOrder}
-use Rattle.seat_turns.specs.Sorting.{WorkFrom}
-use Rattle.tick_picture.specs.declared.tally.Tally.{Tally}
+use Rattle.hall_lock.specs.Own.{made, InOrder}
+use Rattle.hall_lock.specs.Sorting.{WorkFrom}
 use Rattle.bridge_live.specs.declared.mixer.MixCounts.{MixCounts}
-use Rattle.bridge_live.specs.Endings.{Given, LaneEnding, Ending, seats_of}
+use Rattle.bridge_live.specs.Endings.{HandedIn, LaneEnding, Ending, seats_of}
 use Rattle.bridge_live.specs.Gathered.{LanesRan, ChairRan, MixerRan, Gathered}
-use Rattle.bridge_live.specs.Lane.{Input}
 use Rattle.bridge_live.specs.Worker.{HallSeat, owner, IsNew, HasMade}
 use Rattle.bridge_live.proofs.Serving.{gathered-serves}
 use Rattle.bridge_live.proofs.Tallying.{few-counted-steps}
@@ -45,7 +45,7 @@ lanes-work lanes lane (b ∷ bs) (e ∷ es) chair mixer all ran c m =
     let one : OneWorks lanes lane e.seat = one-works lanes lane ran.0.0 e.seat ran.0.2.steps ran.0.1 ran.0.2.has_made in
     (one.order, one.past, one.owned, lanes-work lanes (lane + 1) bs es chair mixer (omega (arith, all)) ran.1 c m)
 
-pub work-from : (set : Settings) (given : Given) (end : Ending) (counts : MixCounts) → LanesRan (length given.lanes) 0 given.lanes end.lanes
+pub work-from : (set : Settings) (given : HandedIn) (end : Ending) (counts : MixCounts) → LanesRan (length given.lanes) 0 given.lanes end.lanes
     → ChairRan (length given.lanes) given.chair end.chair → MixerRan (length given.lanes) set given.ticker given.sink end.mixer counts
     → WorkFrom (owner (length given.lanes)) 0 (seats_of end)
 work-from set given end counts ran chair mixer =
@@ -57,7 +57,7 @@ work-from set given end counts ran chair mixer =
 -- ---- the counts are small
 
 -- the posts and the gaps of all lanes together are no more than the turns
-pub few-counted : (set : Settings) (turns : ℕ) (opening : HallView) (given : Given) (end : Ending) (counts : MixCounts) → Gathered set turns opening given end counts
+pub few-counted : (set : Settings) (turns : ℕ) (opening : HallView) (given : HandedIn) (end : Ending) (counts : MixCounts) → Gathered set turns opening given end counts
     → sum_by (λ (e : LaneEnding). e.counts.posts) end.lanes + sum_by (λ (e : LaneEnding). e.counts.gaps) end.lanes ≤ end.number
 few-counted set turns opening given end counts g =
     let s = gathered-serves set turns opening given end counts g in

@@ -2,14 +2,14 @@
 use Rattle.std.proofs.Common.{◌≡◌, ℕ, ◌+◌, ◌<◌, ◌≤◌, ◌==◌, nat_le, Bool, true, false, not, cond, List, [], ◌∷◌, length, reverse, filter, sum_by, count_by, refl, sym, ap, ◌∙◌, arith, length-append, append-nil}
 use Rattle.std.proofs.lemmas.Bool.Decides.{nat_tests}
 use Rattle.std.proofs.lemmas.List.Sums.{sum_by_push, sum_by-append, sum_by-cons}
+use Rattle.cif_pack.specs.Tallies.{steps_counted, one_if, takes_in}
+use Rattle.io_edge.specs.Outside.{Input}
 use Rattle.pel_model.specs.History.{Step, Post, Gap, Order, Tick, End, History}
 use Rattle.pel_model.specs.Legal.{Legal}
 use Rattle.pel_model.specs.Plan.{is_done}
-use Rattle.tick_picture.specs.Tallies.{steps_counted}
-use Rattle.tick_picture.specs.Ticks.{one_if, takes_in}
-use Rattle.bridge_live.specs.Chair.{is_refused}
+use Rattle.bridge_live.specs.Chair.{is_refused_step}
 use Rattle.bridge_live.specs.Endings.{LaneEnding}
-use Rattle.bridge_live.specs.Lane.{Input, is_post, is_gap}
+use Rattle.bridge_live.specs.Lane.{is_post_step, is_gap_step}
 use Rattle.bridge_live.specs.Mixer.{MadeTick}
 use Rattle.bridge_live.specs.Serve.{is_of_lane, lane_steps, is_order, chair_steps, LanesServe}
 use Rattle.bridge_live.proofs.Placing.{ticks_in, picked-more}
@@ -55,14 +55,14 @@ one-refused : (b : Bool) → 0 + cond b 1 0 ≡ one_if b
 one-refused true = refl
 one-refused false = refl
 
-pub refused-counted : (H : History) → count_by is_refused (chair_steps H) ≡ (steps_counted H).refused
+pub refused-counted : (H : History) → count_by is_refused_step (chair_steps H) ≡ (steps_counted H).refused
 refused-counted [] = refl
 refused-counted (Order command reply ∷ H) =
-    omega (arith, refused-counted H, more-counted is_refused is_order (Order command reply) H, one-refused (not (is_done reply)))
-refused-counted (Post lane picture ∷ H) = omega (arith, refused-counted H, more-counted is_refused is_order (Post lane picture) H)
-refused-counted (Gap lane ∷ H) = omega (arith, refused-counted H, more-counted is_refused is_order (Gap lane) H)
-refused-counted (Tick note ∷ H) = omega (arith, refused-counted H, more-counted is_refused is_order (Tick note) H)
-refused-counted (End ∷ H) = omega (arith, refused-counted H, more-counted is_refused is_order End H)
+    omega (arith, refused-counted H, more-counted is_refused_step is_order (Order command reply) H, one-refused (not (is_done reply)))
+refused-counted (Post lane picture ∷ H) = omega (arith, refused-counted H, more-counted is_refused_step is_order (Post lane picture) H)
+refused-counted (Gap lane ∷ H) = omega (arith, refused-counted H, more-counted is_refused_step is_order (Gap lane) H)
+refused-counted (Tick note ∷ H) = omega (arith, refused-counted H, more-counted is_refused_step is_order (Tick note) H)
+refused-counted (End ∷ H) = omega (arith, refused-counted H, more-counted is_refused_step is_order End H)
 
 -- ---- the posts and the gaps of all lanes
 
@@ -102,37 +102,37 @@ not-counted-if : (test : Step → Bool) (s : Step) (b : Bool) → test s ≡ fal
 not-counted-if test s true fails = ap (λ (v : Bool). 0 + cond v 1 0) fails
 not-counted-if test s false fails = refl
 
-posts-of-lane : (c : ℕ) (H : History) → posts_from c H ≡ count_by is_post (lane_steps c H) + posts_from (c + 1) H
+posts-of-lane : (c : ℕ) (H : History) → posts_from c H ≡ count_by is_post_step (lane_steps c H) + posts_from (c + 1) H
 posts-of-lane c [] = refl
 posts-of-lane c (Post lane picture ∷ H) =
     omega (
       arith,
       posts-of-lane c H,
       one-lane c lane,
-      more-counted is_post (is_of_lane c) (Post lane picture) H,
-      counted-if is_post (Post lane picture) (lane == c) refl,
+      more-counted is_post_step (is_of_lane c) (Post lane picture) H,
+      counted-if is_post_step (Post lane picture) (lane == c) refl,
     )
 posts-of-lane c (Gap lane ∷ H) =
-    omega (arith, posts-of-lane c H, more-counted is_post (is_of_lane c) (Gap lane) H, not-counted-if is_post (Gap lane) (lane == c) refl)
-posts-of-lane c (Order command reply ∷ H) = omega (arith, posts-of-lane c H, more-counted is_post (is_of_lane c) (Order command reply) H)
-posts-of-lane c (Tick note ∷ H) = omega (arith, posts-of-lane c H, more-counted is_post (is_of_lane c) (Tick note) H)
-posts-of-lane c (End ∷ H) = omega (arith, posts-of-lane c H, more-counted is_post (is_of_lane c) End H)
+    omega (arith, posts-of-lane c H, more-counted is_post_step (is_of_lane c) (Gap lane) H, not-counted-if is_post_step (Gap lane) (lane == c) refl)
+posts-of-lane c (Order command reply ∷ H) = omega (arith, posts-of-lane c H, more-counted is_post_step (is_of_lane c) (Order command reply) H)
+posts-of-lane c (Tick note ∷ H) = omega (arith, posts-of-lane c H, more-counted is_post_step (is_of_lane c) (Tick note) H)
+posts-of-lane c (End ∷ H) = omega (arith, posts-of-lane c H, more-counted is_post_step (is_of_lane c) End H)
 
-gaps-of-lane : (c : ℕ) (H : History) → gaps_from c H ≡ count_by is_gap (lane_steps c H) + gaps_from (c + 1) H
+gaps-of-lane : (c : ℕ) (H : History) → gaps_from c H ≡ count_by is_gap_step (lane_steps c H) + gaps_from (c + 1) H
 gaps-of-lane c [] = refl
 gaps-of-lane c (Gap lane ∷ H) =
     omega (
       arith,
       gaps-of-lane c H,
       one-lane c lane,
-      more-counted is_gap (is_of_lane c) (Gap lane) H,
-      counted-if is_gap (Gap lane) (lane == c) refl,
+      more-counted is_gap_step (is_of_lane c) (Gap lane) H,
+      counted-if is_gap_step (Gap lane) (lane == c) refl,
     )
 gaps-of-lane c (Post lane picture ∷ H) =
-    omega (arith, gaps-of-lane c H, more-counted is_gap (is_of_lane c) (Post lane picture) H, not-counted-if is_gap (Post lane picture) (lane == c) refl)
-gaps-of-lane c (Order command reply ∷ H) = omega (arith, gaps-of-lane c H, more-counted is_gap (is_of_lane c) (Order command reply) H)
-gaps-of-lane c (Tick note ∷ H) = omega (arith, gaps-of-lane c H, more-counted is_gap (is_of_lane c) (Tick note) H)
-gaps-of-lane c (End ∷ H) = omega (arith, gaps-of-lane c H, more-counted is_gap (is_of_lane c) End H)
+    omega (arith, gaps-of-lane c H, more-counted is_gap_step (is_of_lane c) (Post lane picture) H, not-counted-if is_gap_step (Post lane picture) (lane == c) refl)
+gaps-of-lane c (Order command reply ∷ H) = omega (arith, gaps-of-lane c H, more-counted is_gap_step (is_of_lane c) (Order command reply) H)
+gaps-of-lane c (Tick note ∷ H) = omega (arith, gaps-of-lane c H, more-counted is_gap_step (is_of_lane c) (Tick note) H)
+gaps-of-lane c (End ∷ H) = omega (arith, gaps-of-lane c H, more-counted is_gap_step (is_of_lane c) End H)
 
 past-it : (lanes lane : ℕ) → lane < lanes → one_if (nat_le lanes lane) ≡ 0
 past-it lanes lane below = let past : nat_le lanes lane ≡ false = grind (arith, nat_tests) in rw past refl
@@ -184,7 +184,7 @@ sum-of-posts lanes lane H (b ∷ bs) (e ∷ es) legal serve all =
       arith,
       sum_by-cons (λ (x : LaneEnding). x.counts.posts) e es,
       serve.0.runs.counted.posts,
-      ap (count_by is_post) serve.0.steps_are,
+      ap (count_by is_post_step) serve.0.steps_are,
       sum-of-posts lanes (lane + 1) H bs es legal serve.1 (omega (arith, all)),
       posts-of-lane lane H,
     )
@@ -200,7 +200,7 @@ sum-of-gaps lanes lane H (b ∷ bs) (e ∷ es) legal serve all =
       arith,
       sum_by-cons (λ (x : LaneEnding). x.counts.gaps) e es,
       serve.0.runs.counted.gaps,
-      ap (count_by is_gap) serve.0.steps_are,
+      ap (count_by is_gap_step) serve.0.steps_are,
       sum-of-gaps lanes (lane + 1) H bs es legal serve.1 (omega (arith, all)),
       gaps-of-lane lane H,
     )

@@ -13,10 +13,10 @@ use Rattle.hall_core.specs.Machine.{Fits, TellsStep, turn_tells, is_ended}
 use Rattle.hall_lock.specs.declared.view.Turn.{Turn}
 use Rattle.pel_model.specs.declared.Format.TheVariants.{Qcif}
 use Rattle.pel_model.specs.History.{Step, Post, Tick, End, History}
-use Rattle.seat_turns.specs.Own.{made}
-use Rattle.seat_turns.specs.Sorting.{owned_by}
-use Rattle.seat_turns.specs.Telling.{Tells, StepsFrom}
-use Rattle.seat_turns.proofs.Told.{tells_one}
+use Rattle.hall_lock.specs.Own.{made}
+use Rattle.hall_lock.specs.Sorting.{owned_by}
+use Rattle.hall_lock.specs.Telling.{Tells, StepsFrom}
+use Rattle.hall_lock.proofs.Told.{tells_one}
 use Rattle.bridge_live.specs.Endings.{LaneEnding}
 use Rattle.bridge_live.specs.Serve.{is_of_lane, is_order}
 use Rattle.bridge_live.specs.Worker.{HallSeat, owner}

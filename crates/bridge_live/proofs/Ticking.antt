@@ -3,33 +3,40 @@ use Rattle.std.proofs.Common.{◌≡◌, ℕ, ◌+◌, ◌<◌, ◌≤◌, nat_l
 use Rattle.std.proofs.lemmas.Bool.Decides.{nat_tests}
 use Rattle.std.specs.Io.KnownBytes.{Consumes, Keeps, IsAtEnd}
 use Rattle.cif_pack.specs.State.{PackerState}
+use Rattle.cif_pack.specs.Tallies.{one_if, takes_in}
+use Rattle.h261_pic.specs.Coded.{Coding, coding}
 use Rattle.h261_pic.specs.declared.hand.Hand.{Hand}
+use Rattle.h261_pic.specs.Hand.{box_of, HasTaken}
 use Rattle.hall_core.specs.declared.machine.HallCall.{HallCall}
 use Rattle.hall_core.specs.declared.machine.HallCall.TheVariants.{Tick as AskTick, Finish}
 use Rattle.hall_core.specs.declared.machine.HallReply.{HallReply}
 use Rattle.hall_core.specs.declared.machine.HallReply.TheVariants.{Spare, Counted, Ordered, Ticked, Finished, Ended}
 use Rattle.hall_core.specs.Hall.{HallView, lanes_of}
 use Rattle.hall_core.specs.Machine.{Fits, HallSteps, Makes, TellsStep, turn_tells, is_ended, TurnsTo}
-use Rattle.hall_core.specs.Stands.{StandsFor, IsQcifHand}
+use Rattle.hall_core.specs.Stands.{StandsFor, TakesInto, IsQcifHand, box_behind}
 use Rattle.hall_core.proofs.Turning.{turn_law}
 use Rattle.hall_lock.specs.declared.view.Turn.{Turn}
 use Rattle.hall_lock.specs.Seats.{Lock}
-use Rattle.io_edge.specs.Steps.{IsStep}
+use Rattle.io_edge.specs.Outside.{Input}
+use Rattle.io_edge.specs.Ticks.{IsStep}
+use Rattle.pel_model.specs.declared.Format.TheVariants.{Qcif}
+use Rattle.pel_model.specs.declared.held.Held.{Held}
 use Rattle.pel_model.specs.declared.note.TickNote.{TickNote}
 use Rattle.pel_model.specs.History.{Step, History, Tick, End}
+use Rattle.pel_model.specs.Records.{Picture}
+use Rattle.pel_model.specs.Takes.{choice}
 use Rattle.pel_model.specs.Legal.{Legal}
-use Rattle.seat_turns.specs.Asking.{StepsAfter}
-use Rattle.seat_turns.specs.Own.{turns_at, Rise, made}
-use Rattle.seat_turns.specs.Telling.{Tells}
-use Rattle.tick_picture.specs.Ticks.{HasTaken, one_if, takes_in}
-use Rattle.tick_picture.proofs.Taking.{takes-law, total-small}
+use Rattle.hall_lock.specs.Asking.{StepsAfter}
+use Rattle.hall_lock.specs.Own.{turns_at, Rise, made}
+use Rattle.hall_lock.specs.Telling.{Tells}
+use Rattle.cif_pack.proofs.Totals.{totals-are-small}
 use Rattle.bridge_live.specs.declared.mixer.MixCounts.{MixCounts}
 use Rattle.bridge_live.specs.declared.mixer.Mixer.{Mixer}
 use Rattle.bridge_live.specs.declared.mixer.Quiet.{Quiet}
 use Rattle.bridge_live.specs.declared.mixer.Quiet.TheVariants as quiet
 use Rattle.bridge_live.specs.declared.mixer.Taken.{Taken}
-use Rattle.bridge_live.specs.Mixing.{most_turns, TakesStep, HasTick, TookStep, MakesOne, HasMixRoom}
-use Rattle.bridge_live.specs.Worker.{HallSeat, HasMade, Answers}
+use Rattle.bridge_live.specs.Mixing.{most_turns, TakesTickStep, HoldsTick, TookStep, MakesOne, HasMixRoom}
+use Rattle.bridge_live.specs.Worker.{HallSeat, HasMade, IsAnswer}
 
 abbrev HallTurn : Type 0
 HallTurn = Turn HallCall HallReply
@@ -39,15 +46,15 @@ apart e = cc
 
 -- ---- the ticker
 
-pub step-given : (old new : Option (List ℕ)) (before now : ℕ) (given : Option ℕ) (r : Result ℕ Quiet) → IfSome given IsStep
-    → MatchOption given (IsAtEnd old × Keeps old new) (λ step. Consumes old new (step ∷ [])) → now ≡ before → r ≡ ok_or given quiet.AtEnd
-    → TakesStep old new before now r
-step-given old new before now None r range gives kept is = subst (TakesStep old new before now) (sym is) (gives.1, gives.0, kept)
-step-given old new before now (Some step) r range gives kept is = subst (TakesStep old new before now) (sym is) (gives, range, kept)
+pub step-given : (old new : Input) (given : Option ℕ) (r : Result ℕ Quiet) → IfSome given IsStep
+    → MatchOption given (IsAtEnd old.left × Keeps old.left new.left) (λ step. Consumes old.left new.left (step ∷ [])) → new.faults ≡ old.faults → r ≡ ok_or given quiet.AtEnd
+    → TakesTickStep old new r
+step-given old new None r range gives kept is = subst (TakesTickStep old new) (sym is) (gives.1, gives.0, kept)
+step-given old new (Some step) r range gives kept is = subst (TakesTickStep old new) (sym is) (gives, range, kept)
 
 -- ---- a tick's reply
 
-pub has-tick : (step : ℕ) (hand : Hand) (reply : HallReply) → Answers (AskTick step hand) reply → HasTick reply
+pub has-tick : (step : ℕ) (hand : Hand) (reply : HallReply) → IsAnswer (AskTick step hand) reply → HoldsTick reply
 has-tick step hand (Ticked note filled) a = tt
 has-tick step hand (Ended back) a = absurd (apart a.0)
 has-tick step hand (Spare box) a = absurd a.1.1
@@ -55,7 +62,7 @@ has-tick step hand Counted a = absurd a.1.1
 has-tick step hand (Ordered reply) a = absurd a.1.1
 has-tick step hand Finished a = absurd a.1.1
 
-pub end-told : (reply : HallReply) → Answers Finish reply → TellsStep Finish reply End
+pub end-told : (reply : HallReply) → IsAnswer Finish reply → TellsStep Finish reply End
 end-told Finished a = refl
 end-told (Ended back) a = absurd (apart a.0)
 end-told (Spare box) a = absurd a.1.1
@@ -66,13 +73,20 @@ end-told (Ticked note filled) a = absurd a.1.1
 pub tick-told : (step : ℕ) (hand : Hand) (reply : HallReply) (t : Taken) → reply ≡ Ticked t.note t.hand → TellsStep (AskTick step hand) reply (Tick t.note)
 tick-told step hand reply t is = subst (λ (r : HallReply). TellsStep (AskTick step hand) r (Tick t.note)) (sym is) refl
 
-pub tick-hand : (step : ℕ) (hand : Hand) (reply : HallReply) (t : Taken) → Answers (AskTick step hand) reply → reply ≡ Ticked t.note t.hand → IsQcifHand t.hand
+pub tick-hand : (step : ℕ) (hand : Hand) (reply : HallReply) (t : Taken) → IsAnswer (AskTick step hand) reply → reply ≡ Ticked t.note t.hand → IsQcifHand t.hand
 tick-hand step hand reply t a is =
-    let b : Answers (AskTick step hand) (Ticked t.note t.hand) = subst (Answers (AskTick step hand)) is a in b.1.1.2
+    let b : IsAnswer (AskTick step hand) (Ticked t.note t.hand) = subst (IsAnswer (AskTick step hand)) is a in b.1.1.2
 
 not-over : (ended : Bool) (limit steps : ℕ) → (ended || nat_le limit steps) ≡ false → steps < limit
 not-over true limit steps e = absurd (apart e)
 not-over false limit steps e = grind (arith, nat_tests)
+
+has-of : (chosen : Option (Held Picture)) (old new : Coding) → new ≡ box_behind chosen old → IfSome chosen (λ h. new ≡ coding Qcif h.item)
+has-of None old new e = tt
+has-of (Some h) old new e = e
+
+taken-so : (hall : HallView) (old new : Hand) (H : History) → StandsFor hall H → TakesInto hall old new → HasTaken (lanes_of hall) H new
+taken-so hall old new H stands takes q = has-of (choice (lanes_of hall) H q) (box_of old q) (box_of new q) (takes H stands q)
 
 -- the hand has what a hall took that stood for the history before the tick
 pub took-step : (opening : HallView) (step : ℕ) (hand : Hand) (reply : HallReply) (t : Taken) (seen : List HallTurn) → StandsFor opening [] → opening.limit ≤ most_turns
@@ -90,7 +104,7 @@ took-step opening step hand reply t seen opens few is led =
       record {
         took = record {
           legal = here;
-          holds = subst (λ (n : ℕ). HasTaken n H t.hand) after.same (takes-law after.machine hand t.hand H to.stands after.step.0.1);
+          holds = subst (λ (n : ℕ). HasTaken n H t.hand) after.same (taken-so after.machine hand t.hand H to.stands after.step.0.1);
         };
         step_is = after.step.0.0;
         stands = record {
@@ -105,7 +119,7 @@ took-step opening step hand reply t seen opens few is led =
         total = omega (
           arith,
           here.2.total,
-          total-small (lanes_of opening) (Tick t.note ∷ H) here,
+          totals-are-small (lanes_of opening) (Tick t.note ∷ H) here,
           not-over after.machine.ended after.machine.limit after.machine.steps makes.live,
           to.stands.steps,
           to.same.limit,

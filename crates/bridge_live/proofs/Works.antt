@@ -12,20 +12,19 @@ use Rattle.bridge_live.specs.declared.worker.LaneWorker.{LaneWorker}
 use Rattle.bridge_live.specs.declared.worker.MixWorker.{MixWorker}
 use Rattle.bridge_live.specs.declared.worker.Worker.{Worker}
 use Rattle.bridge_live.specs.declared.worker.Worker.TheVariants.{Lane, Chair, Mixer}
-use Rattle.bridge_live.specs.Crew.{IsReady, LaneDid, ChairDid, MixDid, Worked}
+use Rattle.bridge_live.specs.Crew.{IsReadyToWork, LaneDid, ChairDid, MixDid, Worked}
 use Rattle.bridge_live.specs.Ending.{CrewDid}
-use Rattle.bridge_live.specs.Endings.{Given}
+use Rattle.bridge_live.specs.Endings.{HandedIn}
 use Rattle.bridge_live.specs.Handed.{given_of}
-use Rattle.bridge_live.specs.Lane.{Input}
 use Rattle.bridge_live.specs.Lining.{new_seat, LaneUp, ChairUp, MixUp, LanesUp, IsLinedUp}
-use Rattle.bridge_live.specs.Mixer.{Output}
+use Rattle.io_edge.specs.Outside.{Input, Output}
 
 -- ---- before the work
 
 module _ {S C K : Type 0} (lock : Lock HallView) where
-  lanes-ready : (number : ℕ) (lanes : List S) (up : List (Worker S C K)) → LanesUp lock number lanes up → All (IsReady lock) up
-  lanes-ready number [] [] is = All-nil (IsReady lock)
-  lanes-ready number (s ∷ ss) (Lane w ∷ ws) is = All-cons (IsReady lock) (Lane w) ws is.0.ready (lanes-ready (number + 1) ss ws is.1)
+  lanes-ready : (number : ℕ) (lanes : List S) (up : List (Worker S C K)) → LanesUp lock number lanes up → All (IsReadyToWork lock) up
+  lanes-ready number [] [] is = All-nil (IsReadyToWork lock)
+  lanes-ready number (s ∷ ss) (Lane w ∷ ws) is = All-cons (IsReadyToWork lock) (Lane w) ws is.0.ready (lanes-ready (number + 1) ss ws is.1)
   lanes-ready number [] (w ∷ ws) is = absurd is
   lanes-ready number (s ∷ ss) [] is = absurd is
   lanes-ready number (s ∷ ss) (Chair w ∷ ws) is = absurd is
@@ -41,9 +40,9 @@ module _ {S C K : Type 0} (lock : Lock HallView) where
 
 module _ {S C K : Type 0} (set : Settings) (lanes : List S) (chair : S) (ticker : C) (sink : K) (crew : Crew S C K)
     (line : IsLinedUp set lanes chair ticker sink crew) where
-  pub lined-ready : All (IsReady crew.lock) crew.lists.workers.items
+  pub lined-ready : All (IsReadyToWork crew.lock) crew.lists.workers.items
   lined-ready =
-      let ready = IsReady crew.lock in
+      let ready = IsReadyToWork crew.lock in
       let others = Chair line.chair_worker ∷ Mixer line.mixer ∷ [] in
       All-same ready crew.lists.workers.items (line.up ++ others) line.in_line
       (All-append ready line.up others (lanes-ready crew.lock 0 lanes line.up line.lanes_up)
@@ -96,7 +95,7 @@ module _ {S C K : Type 0} (reads : S → Input) (ticks : C → Input) (writes : 
       (subst (λ k. MixDid ticks writes lock old.mixer.writer.settings (ticks old.ticker) (writes k) (new_seat lock) new) up.sink_is
       (subst (λ seat. MixDid ticks writes lock old.mixer.writer.settings (ticks old.ticker) (writes old.sink) seat new) up.seat_is did)))
 
-  module _ (set : Settings) (chair : S) (ticker : C) (sink : K) (given : Given) (chair_is : given.chair ≡ reads chair)
+  module _ (set : Settings) (chair : S) (ticker : C) (sink : K) (given : HandedIn) (chair_is : given.chair ≡ reads chair)
       (ticker_is : given.ticker ≡ ticks ticker) (sink_is : given.sink ≡ writes sink) (cw : ChairWorker S) (mw : MixWorker C K)
       (chair_up : ChairUp lock chair cw) (mix_up : MixUp lock set ticker sink mw) where
     crew-did : (number : ℕ) (lanes : List S) (up new : List (Worker S C K)) → LanesUp lock number lanes up

@@ -2,6 +2,7 @@
 use Rattle.std.specs.Prelude.{⊤, ◌≡◌, ℕ, ◌<◌, Bool, false, not, List, [], ◌∷◌, ◌++◌, length, count_by}
 use Rattle.std.specs.Io.KnownBytes.{Consumes, IsAtEnd}
 use Rattle.io_edge.specs.Causes.{Rose}
+use Rattle.io_edge.specs.Outside.{Input}
 use Rattle.pel_model.specs.declared.chair.Command.{Command}
 use Rattle.pel_model.specs.History.{Step, Order}
 use Rattle.pel_model.specs.Plan.{is_done}
@@ -10,9 +11,8 @@ use Rattle.bridge_live.specs.declared.calls.Halt.TheVariants as halt
 use Rattle.bridge_live.specs.declared.chair.ChairCounts.{ChairCounts}
 use Rattle.bridge_live.specs.declared.ends.ChairStop.{ChairStop}
 use Rattle.bridge_live.specs.declared.ends.ChairStop.TheVariants.{Whole, Fault, Limit, Ended, Over}
-use Rattle.bridge_live.specs.Lane.{most_octets, Input}
 use Rattle.bridge_live.specs.Lines.{AreLines, Heard, AreHeard, said, is_faulty}
-use Rattle.bridge_live.specs.Worker.{HallSeat, HasMade, IsUnderWay, HasHalted}
+use Rattle.bridge_live.specs.Worker.{most_taken, HallSeat, HasMade, IsUnderWay, HasHalted}
 
 -- the steps are these commands, each with its reply
 abbrev pub AreOrders : List Command → List Step → Type 0
@@ -20,14 +20,14 @@ AreOrders [] [] = ⊤
 AreOrders (command ∷ commands) (Order given reply ∷ steps) = (given ≡ command) × AreOrders commands steps
 AreOrders _ _ = ⊥
 
-abbrev pub is_refused : Step → Bool
-is_refused (Order command reply) = not (is_done reply)
-is_refused _ = false
+abbrev pub is_refused_step : Step → Bool
+is_refused_step (Order command reply) = not (is_done reply)
+is_refused_step _ = false
 
 -- the commands, those of them that were refused, and the lines that were faulty
 pub record IsChairCounted (counts : ChairCounts) (steps : List Step) (heard : List Heard) : Type 0 where
   pub commands : counts.commands ≡ length steps
-  pub refused : counts.refused ≡ count_by is_refused steps
+  pub refused : counts.refused ≡ count_by is_refused_step steps
   pub bad : counts.bad ≡ count_by is_faulty heard
 
 -- Which lines were heard: the whole ones, and behind them the rest, which is a line where the source ended. Where it did not
@@ -40,9 +40,9 @@ heard_lines _ lines rest = lines ++ rest ∷ []
 -- why no line more came, behind these octets; where a call was given back, nothing is said of it
 abbrev pub ChairStopsAt : ChairStop → (octets : List ℕ) → (before after : Input) → Type 0
 ChairStopsAt Whole octets before after =
-    IsAtEnd after.left × (length octets < most_octets) × (after.faults ≡ before.faults)
+    IsAtEnd after.left × (length octets < most_taken) × (after.faults ≡ before.faults)
 ChairStopsAt Fault octets before after = Rose before.faults after.faults
-ChairStopsAt Limit octets before after = (length octets ≡ most_octets) × (after.faults ≡ before.faults)
+ChairStopsAt Limit octets before after = (length octets ≡ most_taken) × (after.faults ≡ before.faults)
 ChairStopsAt Ended octets before after = after.faults ≡ before.faults
 ChairStopsAt Over octets before after = after.faults ≡ before.faults
 

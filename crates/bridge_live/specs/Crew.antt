@@ -1,61 +1,43 @@
 -- Inner contracts alone use this; nothing here has to be believed.
 -- The workers of a conference in one list, the lanes in order, then the chair, then the mixer: before their work and behind it.
-use Rattle.std.specs.Prelude.{◌≡◌, ⊤, ℕ, ◌+◌, ◌^◌, ◌<◌, false, List, [], ◌∷◌, length, Option, Some}
-use Rattle.std.specs.Global.{Box}
+use Rattle.std.specs.Prelude.{◌≡◌, ⊤, ℕ, ◌+◌, ◌^◌, ◌<◌, false, List, [], ◌∷◌, length, Option, Some, slice_index_or}
 use Rattle.cif_pack.specs.declared.packer.Settings.{Settings}
-use Rattle.h261_pic.specs.Coded.{Coding}
 use Rattle.h261_pic.specs.declared.hand.Hand.{Hand}
 use Rattle.hall_core.specs.Hall.{HallView, lanes_of}
-use Rattle.hall_core.specs.Stands.{IsQcifHand}
 use Rattle.hall_lock.specs.Seats.{Lock, IsOf, first_seat, part_of}
-use Rattle.pel_model.specs.declared.Format.TheVariants.{Qcif}
+use Rattle.bridge_live.specs.declared.qcif.QcifBox.{QcifBox}
 use Rattle.bridge_live.specs.declared.worker.ChairWorker.{ChairWorker}
 use Rattle.bridge_live.specs.declared.worker.LaneWorker.{LaneWorker}
 use Rattle.bridge_live.specs.declared.worker.MixWorker.{MixWorker}
 use Rattle.bridge_live.specs.declared.worker.Worker.{Worker}
 use Rattle.bridge_live.specs.declared.worker.Worker.TheVariants.{Lane, Chair, Mixer}
 use Rattle.bridge_live.specs.Chair.{RunsChair}
-use Rattle.bridge_live.specs.Hearing.{MayCall}
-use Rattle.bridge_live.specs.Lane.{Input, RunsLane}
-use Rattle.bridge_live.specs.Mixer.{Output, RunsMixer}
-use Rattle.bridge_live.specs.Mixing.{MayMix}
-use Rattle.bridge_live.specs.Posting.{IsAtLock, IsFresh}
-use Rattle.bridge_live.specs.Worker.{HallSeat, IsNew}
+use Rattle.bridge_live.specs.Hearing.{ChairBegins}
+use Rattle.bridge_live.specs.Lane.{RunsLane}
+use Rattle.bridge_live.specs.Mixer.{RunsMixer}
+use Rattle.bridge_live.specs.Mixing.{MixBegins}
+use Rattle.bridge_live.specs.Posting.{LaneBegins}
+use Rattle.bridge_live.specs.Worker.{HallSeat}
+use Rattle.io_edge.specs.Outside.{Input, Output}
 
 -- ---- before the work
 
--- a picture to begin with is there
-abbrev pub HasItem : Option (Box Coding) → Type 0
-HasItem item = (box : Box Coding) × (item ≡ Some box) × (box.value.format ≡ Qcif)
+-- a box to begin with is there
+pub record LaneIsReady {S : Type 0} (lock : Lock HallView) (worker : LaneWorker S) : Type 0 where
+  pub item : (box : QcifBox) × (worker.item ≡ Some box)
+  pub begins : LaneBegins lock worker.reader worker.lane
+
+abbrev pub ChairIsReady : {S : Type 0} → Lock HallView → ChairWorker S → Type 0
+ChairIsReady lock worker = ChairBegins lock worker.chair
 
 -- a hand is there
-abbrev pub HasHand : Option Hand → Type 0
-HasHand hand = (it : Hand) × (hand ≡ Some it) × IsQcifHand it
+abbrev pub MixIsReady : {C K : Type 0} → Lock HallView → MixWorker C K → Type 0
+MixIsReady lock worker = (hand : Hand) × (worker.hand ≡ Some hand) × MixBegins lock worker.mixer hand
 
-pub record LaneIsReady {S : Type 0} (lock : Lock HallView) (worker : LaneWorker S) : Type 0 where
-  pub at_lock : IsAtLock lock worker.lane
-  pub fresh : IsFresh worker.reader
-  pub item : HasItem worker.item
-  pub seat : IsNew worker.lane.seat
-  pub counts : worker.lane.counts ≡ record { posts = 0; gaps = 0 }
-
-pub record ChairIsReady {S : Type 0} (lock : Lock HallView) (worker : ChairWorker S) : Type 0 where
-  pub may_call : MayCall lock worker.chair
-  pub seat : IsNew worker.chair.seat
-  pub counts : worker.chair.counts ≡ record { commands = 0; refused = 0; bad = 0 }
-
-pub record MixIsReady {C K : Type 0} (lock : Lock HallView) (worker : MixWorker C K) : Type 0 where
-  pub may_mix : MayMix lock worker.mixer
-  pub seat : IsNew worker.mixer.seat
-  pub usable : worker.mixer.writer.spent ≡ false
-  pub seq : worker.mixer.writer.settings.seq < 2 ^ 16
-  pub counts : worker.mixer.counts ≡ record { ticks = 0; taken = 0; packets = 0; octets = 0 }
-  pub hand : HasHand worker.hand
-
-abbrev pub IsReady : {S C K : Type 0} → Lock HallView → Worker S C K → Type 0
-IsReady lock (Lane worker) = LaneIsReady lock worker
-IsReady lock (Chair worker) = ChairIsReady lock worker
-IsReady lock (Mixer worker) = MixIsReady lock worker
+abbrev pub IsReadyToWork : {S C K : Type 0} → Lock HallView → Worker S C K → Type 0
+IsReadyToWork lock (Lane worker) = LaneIsReady lock worker
+IsReadyToWork lock (Chair worker) = ChairIsReady lock worker
+IsReadyToWork lock (Mixer worker) = MixIsReady lock worker
 
 -- ---- behind it
 
@@ -84,3 +66,8 @@ module _ {S C K : Type 0} (reads : S → Input) (ticks : C → Input) (writes : 
   Worked (Mixer a) (Mixer b) =
       MixDid ticks writes lock a.mixer.writer.settings (ticks a.ticker) (writes a.sink) a.mixer.seat b
   Worked _ _ = ⊥
+
+  -- each did
+  pub record EachWorked (old new : List (Worker S C K)) : Type 0 where
+    pub number : length new ≡ length old
+    pub each : (i : ℕ) (d : Worker S C K) → i < length old → Worked (slice_index_or old i d) (slice_index_or new i d)

@@ -9,12 +9,11 @@ use Rattle.bridge_live.specs.declared.ends.ChairStop.{ChairStop}
 use Rattle.bridge_live.specs.declared.ends.LaneStop.{LaneStop}
 use Rattle.bridge_live.specs.declared.ends.MixStop.{MixStop}
 use Rattle.bridge_live.specs.declared.lane.Counts.{Counts}
-use Rattle.bridge_live.specs.Lane.{Input}
-use Rattle.bridge_live.specs.Mixer.{Output}
 use Rattle.bridge_live.specs.Worker.{HallSeat}
+use Rattle.io_edge.specs.Outside.{Input, Output}
 
 -- the sources of the lanes in their order and of the chair, the ticker with the steps that it has left, and the sink
-pub record Given : Type 0 where
+pub record HandedIn : Type 0 where
   pub lanes : List Input
   pub chair : Input
   pub ticker : Input

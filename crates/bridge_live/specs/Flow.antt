@@ -3,7 +3,7 @@ use Rattle.std.specs.Prelude.{◌≡◌, ℕ, List, ◌++◌, map}
 use mathlib.Core.List.{IsPrefix}
 use Rattle.pel_model.specs.declared.Format.TheVariants.{Qcif}
 use Rattle.pel_model.specs.History.{Step, Post, Gap}
-use Rattle.unit_stream.specs.Events.{Event, Lost, Shown, Refused, AreEvents}
+use Rattle.rtp_h261.specs.Events.{Event, Lost, Shown, Refused, AreEvents}
 
 -- a loss is a gap, and so is a unit that is no picture
 abbrev pub step_of : ℕ → Event → Step

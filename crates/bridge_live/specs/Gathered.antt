@@ -5,18 +5,19 @@ use Rattle.std.specs.Prelude.{⊤, ◌≡◌, ℕ, ◌+◌, ◌≤◌, true, Lis
 use Rattle.std.specs.List.{AllByRecursion}
 use mathlib.Core.List.{IsPrefix}
 use Rattle.cif_pack.specs.declared.packer.Settings.{Settings}
+use Rattle.cif_pack.specs.declared.tally.Tally.{Tally}
 use Rattle.hall_core.specs.Hall.{HallView, lanes_of}
 use Rattle.hall_core.specs.Machine.{Fits, HallSteps}
 use Rattle.hall_core.specs.Stands.{StandsFor}
 use Rattle.hall_lock.specs.Turns.{Leads}
-use Rattle.seat_turns.specs.Sorting.{SharedOut}
-use Rattle.tick_picture.specs.declared.tally.Tally.{Tally}
+use Rattle.hall_lock.specs.Sorting.{SharedOut}
+use Rattle.io_edge.specs.Outside.{Input, Output}
 use Rattle.bridge_live.specs.declared.mixer.MixCounts.{MixCounts}
 use Rattle.bridge_live.specs.Chair.{RunsChair}
-use Rattle.bridge_live.specs.Endings.{Given, LaneEnding, ChairEnding, MixEnding, Ending, seats_of}
-use Rattle.bridge_live.specs.Lane.{Input, RunsLane}
-use Rattle.bridge_live.specs.Mixer.{Output, RunsMixer}
-use Rattle.bridge_live.specs.Serve.{Serves, IsComplete}
+use Rattle.bridge_live.specs.Endings.{HandedIn, LaneEnding, ChairEnding, MixEnding, Ending, seats_of}
+use Rattle.bridge_live.specs.Lane.{RunsLane}
+use Rattle.bridge_live.specs.Mixer.{RunsMixer}
+use Rattle.bridge_live.specs.Serve.{Serves, IsServedWhole}
 use Rattle.bridge_live.specs.Worker.{HallSeat, owner, IsNew}
 
 -- each worker ran from a new seat to the one that was joined
@@ -41,7 +42,7 @@ MixerRan lanes set ticker sink end counts =
     × RunsMixer lanes set ticker end.ticker first end.seat sink end.sink end.stop counts
 
 -- the turns of the closing history, sorted by the seats, and what those know of it
-pub record Gathered (set : Settings) (turns : ℕ) (opening : HallView) (given : Given) (end : Ending) (counts : MixCounts) :
+pub record Gathered (set : Settings) (turns : ℕ) (opening : HallView) (given : HandedIn) (end : Ending) (counts : MixCounts) :
     Type 0 where
   pub opens : StandsFor opening []
   pub lanes_are : lanes_of opening ≡ length given.lanes
@@ -70,9 +71,9 @@ counted_together end counts = record {
 
 -- what is known so is what the conference did
 abbrev pub RunLaw : Type 0
-RunLaw = (set : Settings) (turns : ℕ) (opening : HallView) (given : Given) (end : Ending) (counts : MixCounts) →
+RunLaw = (set : Settings) (turns : ℕ) (opening : HallView) (given : HandedIn) (end : Ending) (counts : MixCounts) →
     Gathered set turns opening given end counts → Serves set turns given end (counted_together end counts)
 
 abbrev pub CompleteLaw : Type 0
-CompleteLaw = (set : Settings) (turns : ℕ) (opening : HallView) (given : Given) (end : Ending) (counts : MixCounts) →
-    Gathered set turns opening given end counts → IsComplete turns given end
+CompleteLaw = (set : Settings) (turns : ℕ) (opening : HallView) (given : HandedIn) (end : Ending) (counts : MixCounts) →
+    Gathered set turns opening given end counts → IsServedWhole turns given end

@@ -1,9 +1,10 @@
 -- What the worker of a lane does: the flow of the packets that its source gives.
-use Rattle.std.specs.Prelude.{◌≡◌, ℕ, ◌^◌, ◌<◌, Bool, true, false, List, [], ◌∷◌, ◌++◌, length, count_by, Option}
+use Rattle.std.specs.Prelude.{◌≡◌, ℕ, ◌<◌, Bool, true, false, List, [], ◌∷◌, ◌++◌, length, count_by, Option}
 use Rattle.std.specs.List.{AllByRecursion}
 use Rattle.std.specs.Io.KnownBytes.{Consumes, IsAtEnd}
 use mathlib.Core.List.{IsPrefix}
 use Rattle.io_edge.specs.Causes.{Rose}
+use Rattle.io_edge.specs.Outside.{Input}
 use Rattle.pel_model.specs.History.{Step, Post, Gap}
 use Rattle.rtp_wire.specs.Frames.{HasFrame, IsPartial, stream_of}
 use Rattle.bridge_live.specs.declared.calls.Halt.TheVariants as halt
@@ -11,40 +12,31 @@ use Rattle.bridge_live.specs.declared.ends.LaneStop.{LaneStop}
 use Rattle.bridge_live.specs.declared.ends.LaneStop.TheVariants.{Whole, Cut, Fault, Limit, Ended, Over}
 use Rattle.bridge_live.specs.declared.lane.Counts.{Counts}
 use Rattle.bridge_live.specs.Flow.{IsFlow}
-use Rattle.bridge_live.specs.Worker.{HallSeat, HasMade, IsUnderWay, HasHalted}
+use Rattle.bridge_live.specs.Worker.{most_taken, HallSeat, HasMade, IsUnderWay, HasHalted}
 
--- the most octets that a worker takes from its source
-abbrev pub most_octets : ℕ
-most_octets = 2 ^ 62
+abbrev pub is_post_step : Step → Bool
+is_post_step (Post lane picture) = true
+is_post_step _ = false
 
-abbrev pub is_post : Step → Bool
-is_post (Post lane picture) = true
-is_post _ = false
-
-abbrev pub is_gap : Step → Bool
-is_gap (Gap lane) = true
-is_gap _ = false
+abbrev pub is_gap_step : Step → Bool
+is_gap_step (Gap lane) = true
+is_gap_step _ = false
 
 -- the pictures and the gaps that were posted
 pub record IsCounted (counts : Counts) (steps : List Step) : Type 0 where
-  pub posts : counts.posts ≡ count_by is_post steps
-  pub gaps : counts.gaps ≡ count_by is_gap steps
-
--- what a source has left, where it tells it, and its count of faults
-pub record Input : Type 0 where
-  pub left : Option (List ℕ)
-  pub faults : ℕ
+  pub posts : counts.posts ≡ count_by is_post_step steps
+  pub gaps : counts.gaps ≡ count_by is_gap_step steps
 
 -- Why no packet more came: behind these octets, of which the last are less than a frame, the source was at its end between
 -- two frames or inside one; or it failed; or as many octets were taken as may be. Where a call was given back, nothing is
 -- said of it.
 abbrev pub StopsAt : LaneStop → (octets part : List ℕ) → (before after : Input) → Type 0
 StopsAt Whole octets part before after =
-    (part ≡ []) × IsAtEnd after.left × (length octets < most_octets) × (after.faults ≡ before.faults)
+    (part ≡ []) × IsAtEnd after.left × (length octets < most_taken) × (after.faults ≡ before.faults)
 StopsAt Cut octets part before after =
-    (0 < length part) × IsAtEnd after.left × (length octets < most_octets) × (after.faults ≡ before.faults)
+    (0 < length part) × IsAtEnd after.left × (length octets < most_taken) × (after.faults ≡ before.faults)
 StopsAt Fault octets part before after = Rose before.faults after.faults
-StopsAt Limit octets part before after = (length octets ≡ most_octets) × (after.faults ≡ before.faults)
+StopsAt Limit octets part before after = (length octets ≡ most_taken) × (after.faults ≡ before.faults)
 StopsAt Ended octets part before after = Unit {0}
 StopsAt Over octets part before after = Unit {0}
 

@@ -1,3 +1,4 @@
+pub mod Calling
 pub mod Chair
 pub mod Crew
 pub mod Ending
@@ -12,7 +13,8 @@ pub mod Lining
 pub mod Mixer
 pub mod Mixing
 pub mod Posting
-pub mod Reading
+pub mod LineTaking
+pub mod Sending
 pub mod Serve
 pub mod ServeLaws
 pub mod Worker

@@ -2,10 +2,13 @@
 -- The workers of a conference are lined up: what was reserved for them, and how they begin.
 use Rattle.std.specs.Prelude.{◌≡◌, ⊤, ℕ, ◌+◌, ◌-◌, ◌^◌, ◌<◌, ◌≤◌, false, List, [], ◌∷◌, ◌++◌, length, All, vec_capacity}
 use Rattle.cif_pack.specs.declared.packer.Settings.{Settings}
+use Rattle.cif_pack.specs.State.{PackerState}
+use Rattle.h261_pic.specs.declared.hand.Hand.{Hand}
 use Rattle.hall_core.specs.Hall.{HallView, lanes_of}
 use Rattle.hall_core.specs.Stands.{StandsFor, IsQcifHand}
 use Rattle.hall_lock.specs.Seats.{Lock, first_seat, part_of}
 use Rattle.pel_model.specs.declared.Format.TheVariants.{Qcif}
+use Rattle.rtp_h261.specs.UnitReader.{reading_after}
 use Rattle.bridge_live.specs.declared.crew.Crew.{Crew}
 use Rattle.bridge_live.specs.declared.crew.Kit.{Kit}
 use Rattle.bridge_live.specs.declared.crew.Lists.{Lists}
@@ -16,8 +19,7 @@ use Rattle.bridge_live.specs.declared.worker.MixWorker.{MixWorker}
 use Rattle.bridge_live.specs.declared.worker.Worker.{Worker}
 use Rattle.bridge_live.specs.declared.worker.Worker.TheVariants.{Lane, Chair, Mixer}
 use Rattle.bridge_live.specs.Crew.{LaneIsReady, ChairIsReady, MixIsReady}
-use Rattle.bridge_live.specs.Posting.{IsFresh}
-use Rattle.bridge_live.specs.Worker.{HallSeat}
+use Rattle.bridge_live.specs.Worker.{most_taken, HallSeat}
 
 -- the seat with which each worker begins
 abbrev pub new_seat : Lock HallView → HallSeat
@@ -30,7 +32,12 @@ seat_behind lock n = record (first_seat lock) { share = 2 ^ 32 - n }
 -- ---- what was reserved
 
 abbrev pub IsKit : Kit → Type 0
-IsKit kit = IsFresh kit.reader × (kit.item.value.format ≡ Qcif)
+IsKit kit = kit.reader ≡ reading_after Qcif most_taken []
+
+-- a kit for each lane
+pub record HasKits (lanes : ℕ) (kits : List Kit) : Type 0 where
+  pub number : length kits ≡ lanes
+  pub each : All IsKit kits
 
 pub record HasLists {S C K : Type 0} (lanes : ℕ) (lists : Lists S C K) : Type 0 where
   pub workers : lists.workers.items ≡ []
@@ -48,11 +55,25 @@ pub record Opens (lanes : ℕ) (lock : Lock HallView) : Type 0 where
 pub record IsReserved {S C K : Type 0} (lanes : ℕ) (reserved : Reserved S C K) : Type 0 where
   pub opens : Opens lanes reserved.lock
   pub seat : reserved.seat ≡ first_seat reserved.lock
-  pub number : length reserved.kits.items ≡ lanes
-  pub kits : All IsKit reserved.kits.items
+  pub few : lanes ≤ 16
+  pub kits : HasKits lanes reserved.kits.items
   pub usable : reserved.writer.spent ≡ false
   pub hand : IsQcifHand reserved.hand
   pub lists : HasLists lanes reserved.lists
+
+-- for such packets and so many turns
+pub record Reserves {S C K : Type 0} (set : Settings) (turns lanes : ℕ) (reserved : Reserved S C K) : Type 0 where
+  pub is_reserved : IsReserved lanes reserved
+  pub settings : reserved.writer.settings ≡ set
+  pub turns_are : reserved.lock.turns ≡ turns
+
+-- what the mixer's worker is made of
+pub record MayMixWith (lock : Lock HallView) (seat : HallSeat) (writer : PackerState) (hand : Hand) : Type 0 where
+  pub seat_is : seat ≡ new_seat lock
+  pub opens : Opens (lanes_of lock.opening) lock
+  pub usable : writer.spent ≡ false
+  pub seq : writer.settings.seq < 2 ^ 16
+  pub qcif : IsQcifHand hand
 
 -- ---- lined up
 
@@ -108,3 +129,20 @@ pub record LinesUp {S C K : Type 0} (lock : Lock HallView) (lanes left : List S)
   pub up : LanesUp lock 0 done workers
   pub number : length workers ≡ length done
   pub seat_is : seat ≡ seat_behind lock (length workers)
+
+-- the lanes may be lined up, in an empty list with so much room
+pub record MayLine {S W : Type 0} (lock : Lock HallView) (seat : HallSeat) (kits : List Kit) (lanes : List S) (workers : List W)
+    (space : ℕ) : Type 0 where
+  pub seat_is : seat ≡ seat_behind lock 0
+  pub lanes_are : lanes_of lock.opening ≡ length lanes
+  pub few : length lanes ≤ 16
+  pub has_kits : HasKits (length lanes) kits
+  pub empty : workers ≡ []
+  pub room : length lanes ≤ space
+
+-- they are
+pub record LinesLanes {S C K : Type 0} (lock : Lock HallView) (seat : HallSeat) (lanes : List S) (workers : List (Worker S C K)) :
+    Type 0 where
+  pub seat_is : seat ≡ seat_behind lock (length lanes)
+  pub up : LanesUp lock 0 lanes workers
+  pub number : length workers ≡ length lanes

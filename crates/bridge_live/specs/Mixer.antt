@@ -4,23 +4,25 @@ use Rattle.std.specs.List.{AllByRecursion}
 use Rattle.std.specs.Io.KnownBytes.{Consumes, Appends}
 use Rattle.cif_pack.specs.declared.packer.Settings.{Settings}
 use Rattle.cif_pack.specs.Packets.{sent_packets, out}
+use Rattle.cif_pack.specs.PicturesWritten.{picture_at}
+use Rattle.cif_pack.specs.Tallies.{takes_in}
+use Rattle.cif_pack.specs.State.{HasFront}
 use Rattle.hall_core.specs.declared.machine.HallCall.{HallCall}
 use Rattle.hall_core.specs.declared.machine.HallReply.{HallReply}
 use Rattle.hall_core.specs.Machine.{turn_tells}
 use Rattle.hall_lock.specs.declared.view.Turn.{Turn}
 use Rattle.io_edge.specs.Causes.{Rose}
+use Rattle.io_edge.specs.Outside.{Input, Output}
 use Rattle.pel_model.specs.declared.note.TickNote.{TickNote}
 use Rattle.pel_model.specs.History.{Step, History, Tick, End}
 use Rattle.pel_model.specs.Legal.{Legal}
 use Rattle.pel_model.specs.Records.{Picture}
-use Rattle.seat_turns.specs.Telling.{StepsFrom}
-use Rattle.tick_picture.specs.Ticks.{picture_at, takes_in, HasFront}
+use Rattle.hall_lock.specs.Telling.{StepsFrom}
 use Rattle.bridge_live.specs.declared.calls.Halt.{Halt}
 use Rattle.bridge_live.specs.declared.calls.Halt.TheVariants as halt
 use Rattle.bridge_live.specs.declared.ends.MixStop.{MixStop}
 use Rattle.bridge_live.specs.declared.ends.MixStop.TheVariants as mix_stop
 use Rattle.bridge_live.specs.declared.mixer.MixCounts.{MixCounts}
-use Rattle.bridge_live.specs.Lane.{Input}
 use Rattle.bridge_live.specs.Worker.{HallSeat, HasMade, IsUnderWay, HasHalted}
 
 -- ---- ticks
@@ -103,18 +105,12 @@ TickerStops _ _ taken before after =
 
 -- ---- what was written
 
--- what a sink was given, where it tells it, and its count of faults
-pub record Output : Type 0 where
-  pub written : Option (List ℕ)
-  pub faults : ℕ
-
 -- The packets of the pictures of all ticks, in order, each in its frame. Where the sink failed, it did so at the last tick:
 -- what it was given is a front of that and not all, and has all packets of the ticks before.
 abbrev pub WritesTicks : MixStop → Settings → (lanes : ℕ) → (ticks whole : List MadeTick) → (before after : Output) → Type 0
 WritesTicks mix_stop.Sink set lanes ticks whole before after =
     (last : MadeTick) × (ticks ≡ whole ++ last ∷ [])
-    × HasFront set (pictures_of lanes whole) (picture_at lanes last.before last.note) before.written after.written
-    × Rose before.faults after.faults
+    × HasFront set (pictures_of lanes whole) (picture_at lanes last.before last.note) before after
 WritesTicks _ set lanes ticks whole before after =
     (ticks ≡ whole) × Appends before.written after.written (out set 0 (pictures_of lanes ticks))
     × (after.faults ≡ before.faults)

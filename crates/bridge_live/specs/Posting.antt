@@ -1,45 +1,50 @@
 -- Inner contracts alone use this; nothing here has to be believed.
--- A lane at the lock: what it posts for one packet, and what it has posted so far.
-use Rattle.std.specs.Prelude.{◌≡◌, ℕ, ◌+◌, ◌<◌, ◌≤◌, Bool, if◌then◌else◌, List, [], ◌∷◌, ◌++◌, length, Option, None, Some, Result, Ok, Err, flat_map}
-use Rattle.std.specs.List.{AllByRecursion}
-use Rattle.std.specs.Global.{Box}
-use Rattle.std.specs.Io.KnownBytes.{Consumes}
-use Rattle.h261_pic.specs.Coded.{Coding}
+-- A lane at the lock: what it may post and posts, for one packet, and packet by packet.
+use Rattle.std.specs.Prelude.{◌≡◌, ℕ, ◌+◌, ◌^◌, ◌<◌, ◌≤◌, Bool, if◌then◌else◌, List, [], ◌∷◌, ◌++◌, length, map, Option, None, Some, Result, Ok, Err, OnOk}
+use Rattle.h261_pic.specs.Coded.{Coding, IsFinished}
 use Rattle.hall_core.specs.declared.machine.HallReply.{HallReply}
 use Rattle.hall_core.specs.declared.machine.HallReply.TheVariants.{Spare}
 use Rattle.hall_core.specs.Hall.{HallView, lanes_of}
 use Rattle.hall_core.specs.Machine.{Holds}
 use Rattle.hall_lock.specs.Seats.{Lock, IsOf}
+use Rattle.io_edge.specs.Outside.{Input}
 use Rattle.pel_model.specs.declared.Format.TheVariants.{Qcif}
 use Rattle.pel_model.specs.History.{Step, Post, Gap}
 use Rattle.pel_model.specs.Records.{Picture}
 use Rattle.rtp_h261.specs.declared.depack.Fed.{Fed}
 use Rattle.rtp_h261.specs.declared.depack.Unit.{Unit as Ending}
 use Rattle.rtp_h261.specs.declared.depack.Unit.TheVariants as unit
-use Rattle.rtp_h261.specs.Depack.{StandsFor, Answers, given_behind}
+use Rattle.rtp_h261.specs.Events.{Event}
+use Rattle.rtp_h261.specs.ReadSoFar.{HasReadPackets}
+use Rattle.rtp_h261.specs.UnitReader.{UnitReading, reading_after}
 use Rattle.rtp_wire.specs.declared.frames.FrameEnd.{FrameEnd}
 use Rattle.rtp_wire.specs.declared.frames.FrameEnd.TheVariants as frame_end
-use Rattle.rtp_wire.specs.Frames.{frame, HasFrame, CallsNext}
-use Rattle.seat_turns.specs.Own.{InOrder}
 use Rattle.bridge_live.specs.declared.calls.Halt.{Halt}
 use Rattle.bridge_live.specs.declared.calls.Halt.TheVariants as halt
 use Rattle.bridge_live.specs.declared.ends.LaneStop.{LaneStop}
 use Rattle.bridge_live.specs.declared.ends.LaneStop.TheVariants.{Whole, Cut, Fault, Limit, Ended, Over}
 use Rattle.bridge_live.specs.declared.lane.Lane.{Lane}
-use Rattle.bridge_live.specs.declared.lane.Reader.{Reader}
-use Rattle.bridge_live.specs.Flow.{IsFlow}
-use Rattle.bridge_live.specs.Lane.{most_octets, IsCounted, Input, RunsLane}
-use Rattle.bridge_live.specs.Worker.{HallSeat, HasMade, IsUnderWay, HasHalted}
+use Rattle.bridge_live.specs.declared.qcif.QcifBox.{QcifBox}
+use Rattle.bridge_live.specs.Flow.{step_of}
+use Rattle.bridge_live.specs.Lane.{IsCounted, RunsLane}
+use Rattle.bridge_live.specs.Worker.{most_taken, HallSeat, IsNew, HasMade, IsUnderWay, HasHalted}
 
--- the lane may call
-pub record IsAtLock (lock : Lock HallView) (lane : Lane) : Type 0 where
-  pub seat : IsOf lock lane.seat
-  pub order : InOrder lane.seat
-  pub number : lane.number < lanes_of lock.opening
+-- ---- at the lock
 
 -- how many calls were counted
 abbrev pub counted_by : Lane → ℕ
 counted_by lane = lane.counts.posts + lane.counts.gaps
+
+-- the lane's seat is one of the lock, which is that of a conference with such a lane
+pub record IsLaneAt (lock : Lock HallView) (lane : Lane) : Type 0 where
+  pub seat : IsOf lock lane.seat
+  pub number : lane.number < lanes_of lock.opening
+
+-- the lane may make so many calls more
+pub record MayPost (n : ℕ) (lock : Lock HallView) (lane : Lane) : Type 0 where
+  pub at_lock : IsLaneAt lock lane
+  pub few : counted_by lane + n < 2 ^ 64
+  pub live : IsUnderWay lane.seat
 
 -- the lane has made these steps, and counted them
 pub record HasPosted (lanes : ℕ) (first : HallSeat) (lane : Lane) (steps : List Step) : Type 0 where
@@ -50,11 +55,22 @@ pub record HasPosted (lanes : ℕ) (first : HallSeat) (lane : Lane) (steps : Lis
 abbrev pub IsShort : List Step → List Step → Type 0
 IsShort part whole = (next : Step) × (rest : List Step) × (whole ≡ part ++ next ∷ rest)
 
--- the lane made these steps more; or, where a call was given back, a front of them
-abbrev pub Posts : {T : Type 0} → (lanes : ℕ) → (more : List Step) → (first : HallSeat) → (steps : List Step) → Lane → Result T Halt → Type 0
-Posts lanes more first steps new (Ok _) = HasPosted lanes first new (steps ++ more) × IsUnderWay new.seat
-Posts lanes more first steps new (Err back) =
+-- these steps were made behind others; or, where a call was given back, a front of them
+abbrev pub PostsMore :
+    {T : Type 0} → (lanes : ℕ) → (more : List Step) → (first : HallSeat) → (steps : List Step) → Lane → Result T Halt → Type 0
+PostsMore lanes more first steps new (Ok _) = HasPosted lanes first new (steps ++ more)
+PostsMore lanes more first steps new (Err back) =
     (part : List Step) × IsShort part more × HasPosted lanes first new (steps ++ part) × HasHalted back new.seat
+
+-- the lane made these steps, behind those that it had made
+pub record Posts {T : Type 0} (lock : Lock HallView) (more : List Step) (old new : Lane) (result : Result T Halt) : Type 0
+  where
+    pub at_lock : IsLaneAt lock new
+    pub number : new.number ≡ old.number
+    pub few : counted_by new ≤ counted_by old + length more
+    pub live : OnOk result (IsUnderWay new.seat)
+    pub posted : (first : HallSeat) (steps : List Step) → HasPosted (lanes_of lock.opening) first old steps →
+        PostsMore (lanes_of lock.opening) more first steps new result
 
 -- a spare box is in the reply
 abbrev pub HasSpare : HallReply → Type 0
@@ -63,11 +79,11 @@ HasSpare _ = ⊥
 
 -- ---- what a packet gives
 
--- the steps of a unit that left this coding
+-- the steps of a unit that left this coding; a picture has all its groups
 abbrev pub AreUnitSteps : ℕ → Option Ending → Coding → List Step → Type 0
 AreUnitSteps lane None coded steps = steps ≡ []
 AreUnitSteps lane (Some unit.Picture) coded steps =
-    (picture : Picture) × Holds coded picture × (steps ≡ Post lane picture ∷ [])
+    (picture : Picture) × Holds coded picture × IsFinished coded × (steps ≡ Post lane picture ∷ [])
 AreUnitSteps lane (Some (unit.Gap fault)) coded steps = steps ≡ Gap lane ∷ []
 
 abbrev pub lost_steps : ℕ → Bool → List Step
@@ -79,36 +95,20 @@ pub record AreSteps (lane : ℕ) (fed : Fed) (coded : Coding) (steps : List Step
   pub is_unit : AreUnitSteps lane fed.unit coded unit
   pub order : steps ≡ lost_steps lane fed.lost ++ unit
 
--- the packet that was taken was fed; or none was
-abbrev pub FeedsOn : (old new : Reader) → (before after : Coding) → Result (List ℕ) FrameEnd → Result Fed FrameEnd → Type 0
-FeedsOn old new before after (Ok packet) (Ok fed) =
-    ((packets : List (List ℕ)) → StandsFor packets old.depack → StandsFor (packets ++ packet ∷ []) new.depack)
-    × ((packets : List (List ℕ)) → StandsFor packets old.depack
-    → Answers old.depack.format (given_behind packets packet) fed before after)
-FeedsOn old new before after (Err end) (Err other) = other ≡ end
-FeedsOn old new before after _ _ = ⊥
-
-pub record ReadsOn (source rest : Option (List ℕ)) (faults now : ℕ) (old new : Reader) (before after : Coding)
-    (result : Result Fed FrameEnd) : Type 0 where
-  pub answer : Result (List ℕ) FrameEnd
-  pub framed : CallsNext source rest faults now old.framer new.framer answer
-  pub fed : FeedsOn old new before after answer result
-  pub format : new.depack.format ≡ old.depack.format
-
 -- ---- stops
 
-abbrev pub stop_for : Halt → LaneStop
-stop_for halt.Ended = Ended
-stop_for halt.Over = Over
+abbrev pub lane_stop_for : Halt → LaneStop
+lane_stop_for halt.Ended = Ended
+lane_stop_for halt.Over = Over
 
-abbrev pub halted : Result (Box Coding) Halt → Result (Box Coding) LaneStop
+abbrev pub halted : Result QcifBox Halt → Result QcifBox LaneStop
 halted (Ok spare) = Ok spare
-halted (Err back) = Err (stop_for back)
+halted (Err back) = Err (lane_stop_for back)
 
 -- the stop where the last gap was answered so
 abbrev pub stop_after : LaneStop → Result Unit Halt → LaneStop
 stop_after stop (Ok _) = stop
-stop_after stop (Err back) = stop_for back
+stop_after stop (Err back) = lane_stop_for back
 
 abbrev pub stop_at : FrameEnd → LaneStop
 stop_at frame_end.End = Whole
@@ -122,46 +122,59 @@ end_steps lane frame_end.End = []
 end_steps lane _ = Gap lane ∷ []
 
 -- the lane made the step of an end, or was given it back
-abbrev pub Closes : (lanes : ℕ) → FrameEnd → (first : HallSeat) → (steps : List Step) → Lane → LaneStop → Type 0
-Closes lanes end first steps new stop =
-    (last : Result Unit Halt) × Posts lanes (end_steps new.number end) first steps new last × (stop ≡ stop_after (stop_at end) last)
+pub record ClosesLane (lock : Lock HallView) (end : FrameEnd) (old new : Lane) (stop : LaneStop) : Type 0 where
+  pub at_lock : IsLaneAt lock new
+  pub number : new.number ≡ old.number
+  pub last : Result Unit Halt
+  pub live : OnOk last (IsUnderWay new.seat)
+  pub stop_is : stop ≡ stop_after (stop_at end) last
+  pub posted : (first : HallSeat) (steps : List Step) → HasPosted (lanes_of lock.opening) first old steps →
+      PostsMore (lanes_of lock.opening) (end_steps old.number end) first steps new last
 
 -- ---- between two packets
 
-abbrev pub input : Option (List ℕ) → ℕ → Input
-input left faults = record { left = left; faults = faults }
-
--- nothing was read yet
-pub record IsFresh (reader : Reader) : Type 0 where
-  pub framer : reader.framer ≡ record { taken = 0; budget = most_octets; ended = None }
-  pub depack : StandsFor [] reader.depack
-  pub format_is : reader.depack.format ≡ Qcif
-
 -- the reader may go on, and the counts are small, since each packet takes two octets at least
-pub record HasRoom (reader : Reader) (lane : Lane) : Type 0 where
-  pub budget : reader.framer.budget ≡ most_octets
-  pub taken : reader.framer.taken ≤ most_octets
-  pub going : reader.framer.ended ≡ None
-  pub format_is : reader.depack.format ≡ Qcif
-  pub fed : (packets : List (List ℕ)) × StandsFor packets reader.depack
-  pub few : counted_by lane ≤ reader.framer.taken
+pub record MayRead (lock : Lock HallView) (source : Input) (reader : UnitReading) (lane : Lane) : Type 0 where
+  pub at_lock : IsLaneAt lock lane
+  pub read : (before : Input) × (packets : List (List ℕ)) × (events : List Event)
+      × HasReadPackets Qcif most_taken before source reader packets events
+  pub few : counted_by lane ≤ reader.framer.allowance.taken
   pub live : IsUnderWay lane.seat
 
--- the octets that were taken are the frames of these packets, and their flow was made
-pub record HasFlowed (lanes : ℕ) (before now : Input) (first : HallSeat) (reader : Reader) (lane : Lane) : Type 0 where
+-- what the packets so far gave was posted
+pub record HasFlowed (lanes : ℕ) (before now : Input) (first : HallSeat) (reader : UnitReading) (lane : Lane) : Type 0 where
   pub packets : List (List ℕ)
-  pub frames : AllByRecursion HasFrame packets
-  pub bytes : Consumes before.left now.left (flat_map frame packets)
-  pub taken : reader.framer.taken ≡ length (flat_map frame packets)
-  pub stands : StandsFor packets reader.depack
-  pub flow : List Step
-  pub is_flow : IsFlow lane.number packets flow
-  pub posted : HasPosted lanes first lane flow
-  pub reads : now.faults ≡ before.faults
+  pub events : List Event
+  pub read : HasReadPackets Qcif most_taken before now reader packets events
+  pub posted : HasPosted lanes first lane (map (step_of lane.number) events)
 
 -- a packet was read and its calls were made, or the lane stopped
-abbrev pub Rounds : (lanes : ℕ) → (before now : Input) → (first : HallSeat) → (old new : Reader) → Lane → Result (Box Coding) LaneStop → Type 0
-Rounds lanes before now first old new lane (Ok _) =
-    HasFlowed lanes before now first new lane × HasRoom new lane × (old.framer.taken < new.framer.taken)
-Rounds lanes before now first old new lane (Err stop) =
-    RunsLane lanes lane.number before now first lane.seat stop lane.counts
+abbrev pub GoesOnOrStops :
+    (lock : Lock HallView) → (before now : Input) → (first : HallSeat) → (old new : UnitReading) → Lane
+    → Result QcifBox LaneStop → Type 0
+GoesOnOrStops lock before now first old new lane (Ok _) =
+    HasFlowed (lanes_of lock.opening) before now first new lane × MayRead lock now new lane
+    × (old.framer.allowance.taken < new.framer.allowance.taken)
+GoesOnOrStops lock before now first old new lane (Err stop) =
+    RunsLane (lanes_of lock.opening) lane.number before now first lane.seat stop lane.counts
+
+pub record TakesPacket (lock : Lock HallView) (source now : Input) (old_reader new_reader : UnitReading) (old new : Lane)
+    (result : Result QcifBox LaneStop) : Type 0 where
+  pub at_lock : IsLaneAt lock new
+  pub number : new.number ≡ old.number
+  pub reads : (before : Input) (first : HallSeat) →
+      HasFlowed (lanes_of lock.opening) before source first old_reader old →
+      GoesOnOrStops lock before now first old_reader new_reader new result
+
+-- ---- a lane's worker
+
+pub record LaneBegins (lock : Lock HallView) (reader : UnitReading) (lane : Lane) : Type 0 where
+  pub at_lock : IsLaneAt lock lane
+  pub fresh : reader ≡ reading_after Qcif most_taken []
+  pub seat : IsNew lane.seat
+  pub counts : lane.counts ≡ record { posts = 0; gaps = 0 }
+
+pub record RanLane (lock : Lock HallView) (before after : Input) (old new : Lane) (stop : LaneStop) : Type 0 where
+  pub at_lock : IsLaneAt lock new
+  pub number : new.number ≡ old.number
+  pub runs : RunsLane (lanes_of lock.opening) old.number before after old.seat new.seat stop new.counts

@@ -4,29 +4,30 @@ use Rattle.std.specs.List.{AllByRecursion}
 use Rattle.std.specs.Io.KnownBytes.{Consumes, Appends}
 use Rattle.cif_pack.specs.declared.packer.Settings.{Settings}
 use Rattle.cif_pack.specs.Packets.{out}
-use Rattle.hall_core.specs.Hall.{lanes_of}
-use Rattle.hall_core.specs.Machine.{turn_tells}
+use Rattle.cif_pack.specs.declared.tally.Tally.{Tally}
+use Rattle.cif_pack.specs.PicturesWritten.{pictures_written, picture_at}
+use Rattle.cif_pack.specs.Tallies.{tally_of, one_if}
+use Rattle.cif_pack.specs.State.{HasFront}
+use Rattle.hall_core.specs.Hall.{HallView, lanes_of}
+use Rattle.hall_core.specs.Machine.{Fits, HallSteps, turn_tells}
 use Rattle.hall_core.specs.Stands.{StandsFor}
 use Rattle.io_edge.specs.Causes.{Rose}
+use Rattle.io_edge.specs.Outside.{Input, Output}
 use Rattle.pel_model.specs.declared.note.TickNote.{TickNote}
 use Rattle.pel_model.specs.Headline.{Headline}
 use Rattle.pel_model.specs.History.{Step, Post, Gap, Order, Tick, End, History, has_ended}
 use Rattle.pel_model.specs.Legal.{Legal}
 use Rattle.rtp_wire.specs.Frames.{IsStream}
-use Rattle.seat_turns.specs.Sorting.{SharedOut}
-use Rattle.seat_turns.specs.Telling.{StepsFrom}
-use Rattle.tick_picture.specs.declared.tally.Tally.{Tally}
-use Rattle.tick_picture.specs.Output.{pictures_written}
-use Rattle.tick_picture.specs.Tallies.{tally_of}
-use Rattle.tick_picture.specs.Ticks.{picture_at, one_if, HasFront}
+use Rattle.hall_lock.specs.Sorting.{SharedOut}
+use Rattle.hall_lock.specs.Turns.{Leads}
+use Rattle.hall_lock.specs.Telling.{StepsFrom}
 use Rattle.bridge_live.specs.declared.calls.Halt.TheVariants as halt
 use Rattle.bridge_live.specs.declared.ends.MixStop.{MixStop}
 use Rattle.bridge_live.specs.declared.ends.MixStop.TheVariants.{Whole, Sink, Ticker, Over}
 use Rattle.bridge_live.specs.Chair.{RunsChair}
-use Rattle.bridge_live.specs.Endings.{Given, LaneEnding, ChairEnding, MixEnding, Ending, seats_of}
-use Rattle.bridge_live.specs.Lane.{Input, RunsLane}
+use Rattle.bridge_live.specs.Endings.{HandedIn, LaneEnding, ChairEnding, MixEnding, Ending, seats_of}
+use Rattle.bridge_live.specs.Lane.{RunsLane}
 use Rattle.bridge_live.specs.Lines.{line_feed}
-use Rattle.bridge_live.specs.Mixer.{Output}
 use Rattle.bridge_live.specs.Worker.{HallSeat, owner, IsNew, IsUnderWay, HasHalted}
 
 -- ---- whose steps they are, the first of them first
@@ -101,15 +102,15 @@ Ticks (NoTick step) taken history seat =
 
 -- The mixer stopped for its sink or its ticker where one of them failed, and then called for the end, whatever became of that
 -- call. Else it stopped for all turns being drawn exactly where its last call was given back for that.
-abbrev pub StopsFor : MixStop → LastCall → Type 0
-StopsFor Sink (NoTick step) = ⊥
-StopsFor Sink _ = ⊤
-StopsFor Ticker (NoTick step) = ⊥
-StopsFor Ticker _ = ⊤
-StopsFor Whole Closed = ⊤
-StopsFor Whole _ = ⊥
-StopsFor Over Closed = ⊥
-StopsFor Over _ = ⊤
+abbrev pub IsStopOf : MixStop → LastCall → Type 0
+IsStopOf Sink (NoTick step) = ⊥
+IsStopOf Sink _ = ⊤
+IsStopOf Ticker (NoTick step) = ⊥
+IsStopOf Ticker _ = ⊤
+IsStopOf Whole Closed = ⊤
+IsStopOf Whole _ = ⊥
+IsStopOf Over Closed = ⊥
+IsStopOf Over _ = ⊤
 
 -- Why no step more was taken from the ticker, where it tells what it has left: it failed; or the sink did; or a tick was given
 -- back; or all its steps were taken.
@@ -125,25 +126,24 @@ pub record MixerServes (history : History) (before : Input) (end : MixEnding) : 
   pub given : Consumes before.left end.ticker.left taken
   pub last_call : LastCall
   pub ticks : Ticks last_call taken history end.seat
-  pub stops : StopsFor end.stop last_call
+  pub stops : IsStopOf end.stop last_call
   pub ends : TickerEnds end.stop last_call taken before end.ticker
 
 -- The sink was given the packets of the picture of every tick, in order, each in its frame. Where it failed, it did so at the
 -- last tick: what it was given is a front of that and not all, and has all that comes before the tick's own packets. The
 -- pictures of the ticks of `whole` were written whole.
-abbrev pub Wrote : MixStop → Settings → (lanes : ℕ) → (history whole : History) → (before after : Output) → Type 0
-Wrote Sink set lanes history whole before after =
+abbrev pub WroteHistory : MixStop → Settings → (lanes : ℕ) → (history whole : History) → (before after : Output) → Type 0
+WroteHistory Sink set lanes history whole before after =
     (note : TickNote) × (later : History) × (history ≡ later ++ Tick note ∷ whole) × (tick_steps later ≡ [])
-    × HasFront set (pictures_written lanes whole) (picture_at lanes whole note) before.written after.written
-    × Rose before.faults after.faults
-Wrote _ set lanes history whole before after =
+    × HasFront set (pictures_written lanes whole) (picture_at lanes whole note) before after
+WroteHistory _ set lanes history whole before after =
     (history ≡ whole) × Appends before.written after.written (out set 0 (pictures_written lanes history))
     × (after.faults ≡ before.faults)
 
 -- ---- the whole of it
 
 -- a live conference of so many turns at most
-pub record Serves (set : Settings) (turns : ℕ) (given : Given) (end : Ending) (tally : Tally) : Type 0 where
+pub record Serves (set : Settings) (turns : ℕ) (given : HandedIn) (end : Ending) (tally : Tally) : Type 0 where
   -- the history that the turns tell, for which the hall stands then; it keeps the rules of a conference
   pub history : History
   pub told : StepsFrom turn_tells [] end.turns history
@@ -151,6 +151,11 @@ pub record Serves (set : Settings) (turns : ℕ) (given : Given) (end : Ending) 
   pub stands : StandsFor end.hall history
   pub lanes_are : lanes_of end.hall ≡ length given.lanes
   pub number : (end.number ≡ length end.turns) × (end.number ≤ turns)
+  -- the turns lead by the hall's own steps from one of which no step was made, which may make so many steps, to the closing one
+  pub opening : HallView
+  pub opens : StandsFor opening []
+  pub limit : opening.limit ≡ turns
+  pub leads : Leads lanes_of Fits HallSteps opening end.turns end.hall
   -- each turn is one that one worker's seat made
   pub shared : SharedOut (owner (length given.lanes)) end.turns (seats_of end)
   -- what each worker made of what it was given
@@ -163,7 +168,7 @@ pub record Serves (set : Settings) (turns : ℕ) (given : Given) (end : Ending) 
   pub ended : AllByRecursion (λ (s : HallSeat). HasHalted halt.Ended s → EndsWith End history) (seats_of end)
   -- what was written; and what was counted
   pub whole : History
-  pub wrote : Wrote end.mixer.stop set (length given.lanes) history whole given.sink end.mixer.sink
+  pub wrote : WroteHistory end.mixer.stop set (length given.lanes) history whole given.sink end.mixer.sink
   pub counted : tally ≡ tally_of set (length given.lanes) history whole
   -- at every tick: a legal CIF picture is written, and each place shows what its sender's own decoder shows behind the
   -- picture that was taken, or what it showed before
@@ -172,13 +177,13 @@ pub record Serves (set : Settings) (turns : ℕ) (given : Given) (end : Ending) 
 -- ---- a conference that has turns enough
 
 -- the lines of octets: one for each LF, and one for what stands behind the last LF, if anything does
-abbrev pub lines_from : (begun : Bool) → List ℕ → ℕ
-lines_from begun [] = one_if begun
-lines_from begun (octet ∷ octets) =
-    if octet == line_feed then 1 + lines_from false octets else lines_from true octets
+abbrev pub line_count_from : (begun : Bool) → List ℕ → ℕ
+line_count_from begun [] = one_if begun
+line_count_from begun (octet ∷ octets) =
+    if octet == line_feed then 1 + line_count_from false octets else line_count_from true octets
 
 abbrev pub line_count : List ℕ → ℕ
-line_count octets = lines_from false octets
+line_count octets = line_count_from false octets
 
 -- the sources of the lanes tell their octets, which have so many frames
 abbrev pub TellFrames : List Input → List ℕ → Type 0
@@ -191,8 +196,8 @@ TellFrames _ _ = ⊥
 
 -- Where the sources and the ticker tell what they have, neither the ticker nor the sink fails, and there are two turns for
 -- each frame, one for each lane, one for each line, one for each step, and one more, the mixer has made all its steps.
-abbrev pub IsComplete : (turns : ℕ) → Given → Ending → Type 0
-IsComplete turns given end =
+abbrev pub IsServedWhole : (turns : ℕ) → HandedIn → Ending → Type 0
+IsServedWhole turns given end =
     (frames : List ℕ) (line_octets steps : List ℕ) → TellFrames given.lanes frames → given.chair.left ≡ Some line_octets
     → given.ticker.left ≡ Some steps
     → 2 * sum frames + length given.lanes + line_count line_octets + length steps + 1 ≤ turns

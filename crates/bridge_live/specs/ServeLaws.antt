@@ -3,19 +3,19 @@ use Rattle.std.specs.Prelude.{◌≡◌, ℕ, List, [], ◌∷◌, ◌++◌, Som
 use Rattle.std.specs.List.{AllByRecursion}
 use mathlib.Core.List.{IsPrefix}
 use Rattle.cif_pack.specs.declared.packer.Settings.{Settings}
+use Rattle.cif_pack.specs.declared.tally.Tally.{Tally}
+use Rattle.io_edge.specs.Outside.{Input}
 use Rattle.pel_model.specs.declared.chair.Command.{Command}
 use Rattle.pel_model.specs.History.{Step, Gap, End, History}
 use Rattle.rtp_wire.specs.Frames.{IsStream}
-use Rattle.tick_picture.specs.declared.tally.Tally.{Tally}
 use Rattle.bridge_live.specs.declared.ends.ChairStop.{ChairStop}
 use Rattle.bridge_live.specs.declared.ends.ChairStop.TheVariants as chair_stop
 use Rattle.bridge_live.specs.declared.ends.LaneStop.{LaneStop}
 use Rattle.bridge_live.specs.declared.ends.LaneStop.TheVariants as lane_stop
 use Rattle.bridge_live.specs.declared.ends.MixStop.TheVariants.{Over}
 use Rattle.bridge_live.specs.Chair.{AreOrders}
-use Rattle.bridge_live.specs.Endings.{Given, LaneEnding, ChairEnding, Ending}
+use Rattle.bridge_live.specs.Endings.{HandedIn, LaneEnding, ChairEnding, Ending}
 use Rattle.bridge_live.specs.Flow.{IsFlow}
-use Rattle.bridge_live.specs.Lane.{Input}
 use Rattle.bridge_live.specs.Lines.{AreLines, Heard, AreHeard, said}
 use Rattle.bridge_live.specs.Serve.{EndsWith, lane_steps, chair_steps, LaneServes, ChairServes, Serves}
 
@@ -33,7 +33,7 @@ pub record StopsTell (turns : ℕ) (end : Ending) (history : History) : Type 0 w
 
 abbrev pub LawOfStops : Type 0
 LawOfStops =
-    (set : Settings) (turns : ℕ) (given : Given) (end : Ending) (tally : Tally) → (s : Serves set turns given end tally)
+    (set : Settings) (turns : ℕ) (given : HandedIn) (end : Ending) (tally : Tally) → (s : Serves set turns given end tally)
     → StopsTell turns end s.history
 
 -- ---- sources that tell their octets

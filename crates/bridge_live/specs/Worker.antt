@@ -1,5 +1,5 @@
 -- What a worker at the hall's lock does: calls, each of which makes a step of the conference, until one of them makes none.
-use Rattle.std.specs.Prelude.{◌≡◌, ℕ, ◌+◌, false, List, [], ◌∷◌, ◌++◌, Result, Ok, Err}
+use Rattle.std.specs.Prelude.{◌≡◌, ℕ, ◌+◌, ◌^◌, false, List, [], ◌∷◌, ◌++◌, Result, Ok, Err}
 use Rattle.hall_core.specs.declared.machine.HallCall.{HallCall}
 use Rattle.hall_core.specs.declared.machine.HallCall.TheVariants.{Post, Gap, Order, Tick, Finish}
 use Rattle.hall_core.specs.declared.machine.HallReply.{HallReply}
@@ -8,11 +8,15 @@ use Rattle.hall_core.specs.Machine.{IsReplyTo, TellsStep, is_ended, turn_tells}
 use Rattle.hall_lock.specs.declared.view.Turn.{Turn}
 use Rattle.hall_lock.specs.Seats.{SeatState}
 use Rattle.pel_model.specs.History.{Step}
-use Rattle.seat_turns.specs.Asking.{Works, IsGoing, HasEnded, IsOver}
-use Rattle.seat_turns.specs.Own.{made, InOrder}
-use Rattle.seat_turns.specs.Telling.{Tells}
+use Rattle.hall_lock.specs.Asking.{Works, IsGoing, HasEnded, IsOver}
+use Rattle.hall_lock.specs.Own.{made}
+use Rattle.hall_lock.specs.Telling.{Tells}
 use Rattle.bridge_live.specs.declared.calls.Halt.{Halt}
 use Rattle.bridge_live.specs.declared.calls.Halt.TheVariants as halt
+
+-- the most octets that a worker takes from its source
+abbrev pub most_taken : ℕ
+most_taken = 2 ^ 62
 
 -- a seat at the hall's lock
 abbrev pub HallSeat : Type 0
@@ -35,7 +39,6 @@ pub record IsNew (seat : HallSeat) : Type 0 where
   pub mine : seat.mine ≡ []
   pub past : seat.past ≡ []
   pub live : seat.full ≡ false
-  pub order : InOrder seat
 
 -- with the seat a worker made these steps of the conference, in this order, and no other calls but ones that were given back
 pub record HasMade (lanes worker : ℕ) (first seat : HallSeat) (steps : List Step) : Type 0 where
@@ -52,8 +55,8 @@ HasHalted halt.Ended seat = HasEnded is_ended seat
 HasHalted halt.Over seat = IsOver is_ended seat
 
 -- the reply is one to this call, and does not give it back
-abbrev pub Answers : HallCall → HallReply → Type 0
-Answers call reply = (is_ended reply ≡ false) × ((hall : HallView) × IsReplyTo hall call reply)
+abbrev pub IsAnswer : HallCall → HallReply → Type 0
+IsAnswer call reply = (is_ended reply ≡ false) × ((hall : HallView) × IsReplyTo hall call reply)
 
 -- what a call did with a seat behind these steps: it made the step that it tells, or none
 abbrev pub MakesStep : ℕ → HallCall → (first : HallSeat) → List Step → (new : HallSeat) → Result HallReply Halt → Type 0

@@ -1,23 +1,25 @@
 //! The workers of a live conference are lined up: all memory is taken, and then each has its seat and what it works on.
-ghost use Rattle.bridge_live.specs.Lining.{IsReserved, IsKit, HasLists, Opens, LaneUp, ChairUp, MixUp, LanesUp, IsLinedUp, new_seat, seat_behind};
-ghost use Rattle.hall_core.specs.Hall.{lanes_of};
-ghost use Rattle.hall_core.specs.Stands.{IsQcifHand};
-ghost use Rattle.std.specs.Prelude.{◌≡◌, ℕ, ◌+◌, ◌^◌, ◌<◌, ◌≤◌, false, [], length, All, IfOk, vec_capacity};
+ghost use Rattle.bridge_live.specs.Lining.{IsReserved, Reserves, IsKit, HasKits, HasLists, LaneUp, ChairUp, MayMixWith, MixUp, MayLine, LinesLanes, IsLinedUp, new_seat, seat_behind};
+ghost use Rattle.hall_core.specs.Hall.{HallView, lanes_of};
+ghost use Rattle.hall_lock.specs.Seats.{Lock};
+ghost use Rattle.std.specs.Prelude.{◌≡◌, ℕ, ◌+◌, ◌^◌, ◌<◌, ◌≤◌, length, IfOk, vec_capacity};
 
 use crate::chair::{Chair, ChairCounts};
 use crate::ends::{ChairStop, LaneEnd, LaneStop, MixStop};
-use crate::lane::{Counts, Lane, Reader};
+use crate::lane::{Counts, Lane, MOST_TAKEN};
 use crate::mixer::{MixCounts, Mixer};
+use crate::qcif::QcifBox;
 use crate::worker::{ChairWorker, LaneWorker, MixWorker, Worker};
+use crate::writer::PictureWriter;
 use cif_pack::Settings;
-use h261_pic::{Coded, Hand};
+use h261_pic::Hand;
 use hall_core::Hall;
 use hall_lock::{Seat, Shared};
 use pel_bits::NoMemory;
 use pel_model::Format;
+use rtp_h261::UnitReader;
 use std::alloc::Global;
 use std::collections::VecDeque;
-use tick_picture::PictureWriter;
 
 /// The workers that are not of lanes: those of the chair and of the mixer.
 pub(crate) const OTHERS: usize = 2;
@@ -25,8 +27,8 @@ pub(crate) const OTHERS: usize = 2;
 /// What a lane needs beside its source and its seat.
 #[derive(Drop)]
 pub(crate) struct Kit {
-    pub reader: Reader,
-    pub item: Box<Coded>,
+    pub reader: UnitReader,
+    pub item: QcifBox,
 }
 
 /// All that a conference takes memory for. The lists are empty, with room for the workers and for the ends of the lanes.
@@ -57,18 +59,16 @@ impl Kit {
     fn reserve(alloc: Global) -> Result<Kit, NoMemory>
         ensures { IfOk result IsKit }
     {
-        let reader = Reader::reserve(alloc)?;
-        let Ok(item) = Box::new(alloc, Coded::reserve(alloc, Format::Qcif)?) else {
-            return Err(NoMemory);
-        };
-        Ok(Kit { reader, item })
+        Ok(Kit {
+            reader: UnitReader::reserve(alloc, Format::Qcif, MOST_TAKEN)?,
+            item: QcifBox::reserve(alloc)?,
+        })
     }
 }
 
 /// A kit for each lane.
 fn reserve_kits(alloc: Global, lanes: u8) -> Result<Vec<Kit>, NoMemory>
-    ensures number { IfOk result (λ kits. length kits.items ≡ lanes) }
-    ensures kits { IfOk result (λ kits. All IsKit kits.items) }
+    ensures { IfOk result (λ kits. HasKits lanes kits.items) }
 {
     let mut kits = Vec::new(alloc);
     for _ in 0..lanes {
@@ -108,9 +108,7 @@ pub(crate) fn reserve<S, C, K>(
     requires lanes { (1 ≤ lanes) × (lanes ≤ 16) }
     requires mtu { (1000 ≤ settings.mtu) × (settings.mtu ≤ 9000) }
     requires turns { (1 ≤ turns) × (turns ≤ 2 ^ 45) }
-    ensures reserved { IfOk result (IsReserved lanes) }
-    ensures settings { IfOk result (λ reserved. reserved.writer.settings ≡ settings) }
-    ensures turns { IfOk result (λ reserved. reserved.lock.turns ≡ turns) }
+    ensures reserves { IfOk result (Reserves settings turns lanes) }
     ensures seq { IfOk result (λ reserved. reserved.writer.settings.seq < 2 ^ 16) }
 {
     let hall = Hall::reserve(alloc, lanes, turns)?;
@@ -138,26 +136,18 @@ fn next_seat(lock: &Shared<Hall>, seat: &mut Seat<Hall>) -> Seat<Hall>
     lock.split(seat, 1)
 }
 
-/// The worker of a lane.
-fn lane_worker<S>(
-    lock: &Shared<Hall>,
-    seat: &mut Seat<Hall>,
-    kit: Kit,
-    number: u8,
-    source: S,
-) -> LaneWorker<S>
-    requires seat { (n : ℕ) × (n < 2 ^ 31) × (seat.old ≡ seat_behind lock.now n) }
-    requires kit { IsKit kit }
-    requires number { number < lanes_of lock.now.opening }
-    ensures left { (n : ℕ) → seat.old ≡ seat_behind lock.now n → seat.new ≡ seat_behind lock.now (n + 1) }
-    ensures up { LaneUp lock.now number source result }
+/// The worker of a lane, with a new seat.
+fn lane_worker<S>(seat: Seat<Hall>, kit: Kit, number: u8, source: S) -> LaneWorker<S>
+    requires { IsKit kit }
+    ensures { (lock : Lock HallView) → seat ≡ new_seat lock → number < lanes_of lock.opening →
+        LaneUp lock number source result }
 {
     LaneWorker {
         source,
         reader: kit.reader,
         lane: Lane {
             number,
-            seat: next_seat(lock, seat),
+            seat,
             counts: Counts { posts: 0, gaps: 0 },
         },
         item: Some(kit.item),
@@ -165,16 +155,14 @@ fn lane_worker<S>(
     }
 }
 
-/// The worker of the chair.
-fn chair_worker<S>(lock: &Shared<Hall>, seat: &mut Seat<Hall>, source: S) -> ChairWorker<S>
-    requires { (n : ℕ) × (n < 2 ^ 31) × (seat.old ≡ seat_behind lock.now n) }
-    ensures left { (n : ℕ) → seat.old ≡ seat_behind lock.now n → seat.new ≡ seat_behind lock.now (n + 1) }
-    ensures up { ChairUp lock.now source result }
+/// The worker of the chair, with a new seat.
+fn chair_worker<S>(seat: Seat<Hall>, source: S) -> ChairWorker<S>
+    ensures { (lock : Lock HallView) → seat ≡ new_seat lock → ChairUp lock source result }
 {
     ChairWorker {
         source,
         chair: Chair {
-            seat: next_seat(lock, seat),
+            seat,
             counts: ChairCounts {
                 commands: 0,
                 refused: 0,
@@ -185,27 +173,22 @@ fn chair_worker<S>(lock: &Shared<Hall>, seat: &mut Seat<Hall>, source: S) -> Cha
     }
 }
 
-/// The worker of the mixer.
+/// The worker of the mixer, with a new seat.
 fn mix_worker<C, K>(
-    lock: &Shared<Hall>,
-    seat: &mut Seat<Hall>,
+    seat: Seat<Hall>,
     writer: PictureWriter,
     hand: Hand,
     ticker: C,
     sink: K,
 ) -> MixWorker<C, K>
-    requires seat { (n : ℕ) × (n < 2 ^ 31) × (seat.old ≡ seat_behind lock.now n) }
-    requires opens { Opens (lanes_of lock.now.opening) lock.now }
-    requires usable { (writer.spent ≡ false) × (writer.settings.seq < 2 ^ 16) }
-    requires hand { IsQcifHand hand }
-    ensures left { (n : ℕ) → seat.old ≡ seat_behind lock.now n → seat.new ≡ seat_behind lock.now (n + 1) }
-    ensures up { MixUp lock.now writer.settings ticker sink result }
+    ensures { (lock : Lock HallView) → MayMixWith lock seat writer hand →
+        MixUp lock writer.settings ticker sink result }
 {
     MixWorker {
         ticker,
         sink,
         mixer: Mixer {
-            seat: next_seat(lock, seat),
+            seat,
             writer,
             counts: MixCounts {
                 ticks: 0,
@@ -227,16 +210,8 @@ fn line_lanes<S, C, K>(
     lanes: Vec<S>,
     workers: &mut Vec<Worker<S, C, K>>,
 )
-    requires seat { seat.old ≡ seat_behind lock.now 0 }
-    requires lanes { lanes_of lock.now.opening ≡ length lanes.items }
-    requires few { length lanes.items ≤ 16 }
-    requires number { length kits.items ≡ length lanes.items }
-    requires kits { All IsKit kits.items }
-    requires empty { workers.old.items ≡ [] }
-    requires room { length lanes.items ≤ vec_capacity workers.old }
-    ensures seat { seat.new ≡ seat_behind lock.now (length lanes.items) }
-    ensures up { LanesUp lock.now 0 lanes.items workers.new.items }
-    ensures number { length workers.new.items ≡ length lanes.items }
+    requires { MayLine lock.now seat.old kits.items lanes.items workers.old.items (vec_capacity workers.old) }
+    ensures lines { LinesLanes lock.now seat.new lanes.items workers.new.items }
     ensures room { vec_capacity workers.new ≡ vec_capacity workers.old }
 {
     let mut lanes = VecDeque::from_vec(lanes);
@@ -245,7 +220,7 @@ fn line_lanes<S, C, K>(
             unreachable!();
         };
         let number = workers.len() as u8;
-        let worker = lane_worker(lock, seat, kit, number, source);
+        let worker = lane_worker(next_seat(lock, seat), kit, number, source);
         workers.push_reserved(Worker::Lane(worker));
     }
     lanes.destroy_empty();
@@ -259,7 +234,6 @@ pub(crate) fn line_up<S, C, K>(
     ticker: C,
     sink: K,
 ) -> Crew<S, C, K>
-    requires few { length lanes.items ≤ 16 }
     requires reserved { IsReserved (length lanes.items) reserved }
     requires seq { reserved.writer.settings.seq < 2 ^ 16 }
     ensures turns { result.lock.turns ≡ reserved.lock.turns }
@@ -274,9 +248,9 @@ pub(crate) fn line_up<S, C, K>(
         mut lists,
     } = reserved;
     line_lanes(&lock, &mut seat, kits, lanes, &mut lists.workers);
-    let chair = chair_worker(&lock, &mut seat, chair);
+    let chair = chair_worker(next_seat(&lock, &mut seat), chair);
     lists.workers.push_reserved(Worker::Chair(chair));
-    let mixer = mix_worker(&lock, &mut seat, writer, hand, ticker, sink);
+    let mixer = mix_worker(next_seat(&lock, &mut seat), writer, hand, ticker, sink);
     lists.workers.push_reserved(Worker::Mixer(mixer));
     Crew { lock, seat, lists }
 }

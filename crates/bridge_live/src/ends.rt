@@ -2,9 +2,9 @@
 
 use crate::chair::ChairCounts;
 use crate::lane::Counts;
+use cif_pack::Tally;
 use hall_core::Hall;
 use hall_lock::{Closed, Past};
-use tick_picture::Tally;
 
 /// Why a lane stopped.
 #[derive(Clone, Copy, Debug, PartialEq, Eq)]

@@ -1,32 +1,25 @@
 //! The worker of a lane: it takes packets from its source, and posts what they give.
-ghost use Rattle.std.specs.Prelude.{◌≡◌, ◌+◌, ◌^◌, ◌<◌, ◌≤◌, List, [], ◌∷◌, Some, IfOk, OnOk, length};
-ghost use Rattle.h261_pic.specs.Coded.{IsFinished};
-ghost use Rattle.hall_core.specs.Hall.{lanes_of};
+ghost use Rattle.std.specs.Prelude.{◌≡◌, ◌≤◌, List, [], ◌∷◌, Some, length};
 ghost use Rattle.hall_core.specs.Machine.{Holds};
-ghost use Rattle.pel_model.specs.declared.Format.TheVariants.{Qcif};
+ghost use Rattle.h261_pic.specs.Coded.{IsFinished};
 ghost use Rattle.pel_model.specs.History.{Step, Post as Posted, Gap as Missed};
 ghost use Rattle.pel_model.specs.Records.{Picture};
 ghost use Rattle.pel_model.specs.Valid.{limit};
-ghost use Rattle.rtp_h261.specs.Depack.{FinishedAt};
-ghost use Rattle.bridge_live.specs.Lane.{Input, RunsLane};
-ghost use Rattle.bridge_live.specs.Posting.{IsAtLock, counted_by, HasPosted, Posts, HasSpare, lost_steps, AreUnitSteps, AreSteps, ReadsOn, stop_after, halted, Closes, input, IsFresh, HasRoom, HasFlowed, Rounds};
-ghost use Rattle.bridge_live.specs.Worker.{HallSeat, IsNew, IsUnderWay};
+ghost use Rattle.bridge_live.specs.Posting.{MayPost, Posts, HasSpare, lost_steps, AreUnitSteps, AreSteps, stop_after, halted, ClosesLane, MayRead, TakesPacket, LaneBegins, RanLane};
 
 use crate::calls::{Halt, call};
 use crate::ends::LaneStop;
+use crate::qcif::QcifBox;
 use h261_pic::Coded;
 use hall_core::{Hall, HallCall, HallReply};
 use hall_lock::{Seat, Shared};
 use io_edge::Source;
-use pel_bits::NoMemory;
-use pel_model::Format;
-use rtp_h261::{Depack, Fed, Unit, packets_one_by_one};
-use rtp_wire::{FrameEnd, Framer};
-use std::alloc::Global;
+use rtp_h261::{Fed, Unit, UnitReader};
+use rtp_wire::FrameEnd;
 use std::sync::Wait;
 
-/// The most octets that a lane takes.
-const MOST_OCTETS: u64 = 0x4000_0000_0000_0000;
+/// The most octets that a lane or the chair takes.
+pub(crate) const MOST_TAKEN: u64 = 0x4000_0000_0000_0000;
 
 /// The steps that a lane made.
 #[derive(Clone, Copy, Debug, Default, PartialEq, Eq)]
@@ -45,52 +38,11 @@ pub struct Lane {
     pub counts: Counts,
 }
 
-/// What a lane reads its packets with.
-#[derive(Drop)]
-pub struct Reader {
-    framer: Framer,
-    depack: Depack,
-}
-
-impl Reader {
-    /// A reader of nothing so far, which may take 2^62 octets. It takes all its memory here; NoMemory where there is none.
-    pub fn reserve(alloc: Global) -> Result<Reader, NoMemory>
-        ensures { IfOk result IsFresh }
-    {
-        Ok(Reader {
-            framer: Framer::reserve(alloc, MOST_OCTETS)?,
-            depack: Depack::reserve(alloc, Format::Qcif)?,
-        })
-    }
-
-    /// Takes the next packet and feeds it.
-    fn next<S: Source>(&mut self, source: &mut S, into: &mut Coded) -> Result<Fed, FrameEnd>
-        requires { into.old.format ≡ self.old.depack.format }
-        ensures reads { ReadsOn (S.left source.old) (S.left source.new) (S.faults source.old)
-            (S.faults source.new) self.old self.new into.old into.new result }
-        ensures format { into.new.format ≡ into.old.format }
-        ensures finished { IfOk result (λ fed. FinishedAt fed.unit into.new) }
-    {
-        match self.framer.next(source) {
-            Ok(packet) => Ok(self.depack.feed(packet, into)),
-            Err(end) => Err(end),
-        }
-    }
-}
-
 impl Lane {
     /// Pictures of the lane were lost.
     fn gap(&mut self, rt: &impl Wait, lock: &Shared<Hall>) -> Result<(), Halt>
-        requires ready { IsAtLock lock.now self.old }
-        requires few { counted_by self.old < 2 ^ 63 }
-        requires live { IsUnderWay self.old.seat }
-        ensures ready { IsAtLock lock.now self.new }
-        ensures number { self.new.number ≡ self.old.number }
-        ensures live { OnOk result (IsUnderWay self.new.seat) }
-        ensures few { counted_by self.new ≤ counted_by self.old + 1 }
-        ensures posts { (first : HallSeat) (steps : List Step) →
-            HasPosted (lanes_of lock.now.opening) first self.old steps →
-            Posts (lanes_of lock.now.opening) (Missed self.old.number ∷ []) first steps self.new result }
+        requires { MayPost 1 lock.now self.old }
+        ensures { Posts lock.now (Missed self.old.number ∷ []) self.old self.new result }
     {
         let lane = self.number;
         let _counted = call(rt, lock, &mut self.seat, HallCall::Gap { lane })?;
@@ -100,42 +52,21 @@ impl Lane {
 
     /// A gap, where packets are missing before one.
     fn lose(&mut self, rt: &impl Wait, lock: &Shared<Hall>, lost: bool) -> Result<(), Halt>
-        requires ready { IsAtLock lock.now self.old }
-        requires few { counted_by self.old < 2 ^ 63 }
-        requires live { IsUnderWay self.old.seat }
-        ensures ready { IsAtLock lock.now self.new }
-        ensures number { self.new.number ≡ self.old.number }
-        ensures live { OnOk result (IsUnderWay self.new.seat) }
-        ensures few { counted_by self.new ≤ counted_by self.old + 1 }
-        ensures posts { (first : HallSeat) (steps : List Step) →
-            HasPosted (lanes_of lock.now.opening) first self.old steps →
-            Posts (lanes_of lock.now.opening) (lost_steps self.old.number lost) first steps self.new result }
+        requires { MayPost 1 lock.now self.old }
+        ensures { Posts lock.now (lost_steps self.old.number lost) self.old self.new result }
     {
         if lost { self.gap(rt, lock) } else { Ok(()) }
     }
 
     /// A picture of the lane comes. Gives a box for the next one.
-    fn post(
-        &mut self,
-        rt: &impl Wait,
-        lock: &Shared<Hall>,
-        item: Box<Coded>,
-    ) -> Result<Box<Coded>, Halt>
-        requires ready { IsAtLock lock.now self.old }
-        requires few { counted_by self.old < 2 ^ 63 }
-        requires live { IsUnderWay self.old.seat }
-        requires finished { IsFinished item.value }
-        requires holds { (picture : Picture) × Holds item.value picture }
-        ensures ready { IsAtLock lock.now self.new }
-        ensures number { self.new.number ≡ self.old.number }
-        ensures live { OnOk result (IsUnderWay self.new.seat) }
-        ensures few { counted_by self.new ≤ counted_by self.old + 1 }
-        ensures spare { IfOk result (λ spare. spare.value.format ≡ Qcif) }
-        ensures posts { (picture : Picture) → Holds item.value picture → (first : HallSeat) (steps : List Step) →
-            HasPosted (lanes_of lock.now.opening) first self.old steps →
-            Posts (lanes_of lock.now.opening) (Posted self.old.number picture ∷ []) first steps self.new result }
+    fn post(&mut self, rt: &impl Wait, lock: &Shared<Hall>, item: QcifBox) -> Result<QcifBox, Halt>
+        requires ready { MayPost 1 lock.now self.old }
+        requires holds { (picture : Picture) × Holds item.item.value picture × IsFinished item.item.value }
+        ensures { (picture : Picture) → Holds item.item.value picture →
+            Posts lock.now (Posted self.old.number picture ∷ []) self.old self.new result }
     {
         let lane = self.number;
+        let QcifBox { item } = item;
         let reply = call(rt, lock, &mut self.seat, HallCall::Post { lane, item })?;
         self.counts.posts += 1;
         Ok(spare_in(reply))
@@ -147,23 +78,12 @@ impl Lane {
         rt: &impl Wait,
         lock: &Shared<Hall>,
         unit: Unit,
-        item: Box<Coded>,
-    ) -> Result<Box<Coded>, Halt>
-        requires ready { IsAtLock lock.now self.old }
-        requires few { counted_by self.old < 2 ^ 63 }
-        requires live { IsUnderWay self.old.seat }
-        requires format { item.value.format ≡ Qcif }
-        requires finished { FinishedAt (Some unit) item.value }
-        requires holds { (more : List Step) × AreUnitSteps self.old.number (Some unit) item.value more }
-        ensures ready { IsAtLock lock.now self.new }
-        ensures number { self.new.number ≡ self.old.number }
-        ensures live { OnOk result (IsUnderWay self.new.seat) }
-        ensures few { counted_by self.new ≤ counted_by self.old + 1 }
-        ensures spare { IfOk result (λ spare. spare.value.format ≡ Qcif) }
-        ensures posts { (more : List Step) → AreUnitSteps self.old.number (Some unit) item.value more →
-            (first : HallSeat) (steps : List Step) →
-            HasPosted (lanes_of lock.now.opening) first self.old steps →
-            Posts (lanes_of lock.now.opening) more first steps self.new result }
+        item: QcifBox,
+    ) -> Result<QcifBox, Halt>
+        requires ready { MayPost 1 lock.now self.old }
+        requires gives { (more : List Step) × AreUnitSteps self.old.number (Some unit) item.item.value more }
+        ensures { (more : List Step) → AreUnitSteps self.old.number (Some unit) item.item.value more →
+            Posts lock.now more self.old self.new result }
     {
         match unit {
             Unit::Picture => self.post(rt, lock, item),
@@ -180,23 +100,12 @@ impl Lane {
         rt: &impl Wait,
         lock: &Shared<Hall>,
         unit: Option<Unit>,
-        item: Box<Coded>,
-    ) -> Result<Box<Coded>, Halt>
-        requires ready { IsAtLock lock.now self.old }
-        requires few { counted_by self.old < 2 ^ 63 }
-        requires live { IsUnderWay self.old.seat }
-        requires format { item.value.format ≡ Qcif }
-        requires finished { FinishedAt unit item.value }
-        requires holds { (more : List Step) × AreUnitSteps self.old.number unit item.value more }
-        ensures ready { IsAtLock lock.now self.new }
-        ensures number { self.new.number ≡ self.old.number }
-        ensures live { OnOk result (IsUnderWay self.new.seat) }
-        ensures few { counted_by self.new ≤ counted_by self.old + 1 }
-        ensures spare { IfOk result (λ spare. spare.value.format ≡ Qcif) }
-        ensures posts { (more : List Step) → AreUnitSteps self.old.number unit item.value more →
-            (first : HallSeat) (steps : List Step) →
-            HasPosted (lanes_of lock.now.opening) first self.old steps →
-            Posts (lanes_of lock.now.opening) more first steps self.new result }
+        item: QcifBox,
+    ) -> Result<QcifBox, Halt>
+        requires ready { MayPost 1 lock.now self.old }
+        requires gives { (more : List Step) × AreUnitSteps self.old.number unit item.item.value more }
+        ensures { (more : List Step) → AreUnitSteps self.old.number unit item.item.value more →
+            Posts lock.now more self.old self.new result }
     {
         match unit {
             None => Ok(item),
@@ -210,23 +119,12 @@ impl Lane {
         rt: &impl Wait,
         lock: &Shared<Hall>,
         fed: Fed,
-        item: Box<Coded>,
-    ) -> Result<Box<Coded>, Halt>
-        requires ready { IsAtLock lock.now self.old }
-        requires few { counted_by self.old < 2 ^ 62 }
-        requires live { IsUnderWay self.old.seat }
-        requires format { item.value.format ≡ Qcif }
-        requires finished { FinishedAt fed.unit item.value }
-        requires holds { (more : List Step) × AreSteps self.old.number fed item.value more }
-        ensures ready { IsAtLock lock.now self.new }
-        ensures number { self.new.number ≡ self.old.number }
-        ensures live { OnOk result (IsUnderWay self.new.seat) }
-        ensures few { counted_by self.new ≤ counted_by self.old + 2 }
-        ensures spare { IfOk result (λ spare. spare.value.format ≡ Qcif) }
-        ensures posts { (more : List Step) → AreSteps self.old.number fed item.value more →
-            (first : HallSeat) (steps : List Step) →
-            HasPosted (lanes_of lock.now.opening) first self.old steps →
-            Posts (lanes_of lock.now.opening) more first steps self.new result }
+        item: QcifBox,
+    ) -> Result<QcifBox, Halt>
+        requires ready { MayPost 2 lock.now self.old }
+        requires gives { (more : List Step) × AreSteps self.old.number fed item.item.value more }
+        ensures { (more : List Step) → AreSteps self.old.number fed item.item.value more →
+            Posts lock.now more self.old self.new result }
     {
         self.lose(rt, lock, fed.lost)?;
         self.take_unit(rt, lock, fed.unit, item)
@@ -234,14 +132,8 @@ impl Lane {
 
     /// The call for the end of the source: a gap, where it is not between two frames.
     fn close(&mut self, rt: &impl Wait, lock: &Shared<Hall>, end: FrameEnd) -> LaneStop
-        requires ready { IsAtLock lock.now self.old }
-        requires few { counted_by self.old < 2 ^ 63 }
-        requires live { IsUnderWay self.old.seat }
-        ensures ready { IsAtLock lock.now self.new }
-        ensures number { self.new.number ≡ self.old.number }
-        ensures closes { (first : HallSeat) (steps : List Step) →
-            HasPosted (lanes_of lock.now.opening) first self.old steps →
-            Closes (lanes_of lock.now.opening) end first steps self.new result }
+        requires { MayPost 1 lock.now self.old }
+        ensures { ClosesLane lock.now end self.old self.new result }
     {
         match end {
             FrameEnd::End => LaneStop::Whole,
@@ -253,14 +145,13 @@ impl Lane {
 }
 
 /// The box in the reply to a post.
-fn spare_in(reply: HallReply) -> Box<Coded>
+fn spare_in(reply: HallReply) -> QcifBox
     requires { HasSpare reply }
-    ensures { result.value.format ≡ Qcif }
 {
-    let HallReply::Spare(spare) = reply else {
+    let HallReply::Spare(item) = reply else {
         unreachable!();
     };
-    spare
+    QcifBox { item }
 }
 
 /// The stop of a lane whose last gap was answered so.
@@ -279,34 +170,26 @@ fn take_packet<S: Source>(
     rt: &impl Wait,
     lock: &Shared<Hall>,
     source: &mut S,
-    reader: &mut Reader,
+    reader: &mut UnitReader,
     lane: &mut Lane,
-    item: Box<Coded>,
-) -> Result<Box<Coded>, LaneStop>
-    requires ready { IsAtLock lock.now lane.old }
-    requires room { HasRoom reader.old lane.old }
-    requires format { item.value.format ≡ Qcif }
-    ensures ready { IsAtLock lock.now lane.new }
-    ensures number { lane.new.number ≡ lane.old.number }
-    ensures spare { IfOk result (λ spare. spare.value.format ≡ Qcif) }
-    ensures rounds { (before : Input) (first : HallSeat) →
-        HasFlowed (lanes_of lock.now.opening) before (input (S.left source.old) (S.faults source.old)) first reader.old lane.old →
-        Rounds (lanes_of lock.now.opening) before (input (S.left source.new) (S.faults source.new))
-        first reader.old reader.new lane.new result }
+    item: QcifBox,
+) -> Result<QcifBox, LaneStop>
+    requires { MayRead lock.now (S.tells source.old) reader.old lane.old }
+    ensures { TakesPacket lock.now (S.tells source.old) (S.tells source.new)
+        reader.old reader.new lane.old lane.new result }
 {
-    packets_one_by_one();
-    let mut item = item;
+    let QcifBox { mut item } = item;
     match reader.next(source, &mut item) {
         Ok(fed) => {
             tell_length(&item);
-            halted(lane.give(rt, lock, fed, item))
+            halted(lane.give(rt, lock, fed, QcifBox { item }))
         }
         Err(end) => Err(lane.close(rt, lock, end)),
     }
 }
 
 /// A call that was given back stops the lane.
-fn halted(given: Result<Box<Coded>, Halt>) -> Result<Box<Coded>, LaneStop>
+fn halted(given: Result<QcifBox, Halt>) -> Result<QcifBox, LaneStop>
     ensures { result ≡ halted given }
 {
     match given {
@@ -329,20 +212,13 @@ pub fn run_lane<S: Source>(
     rt: &impl Wait,
     lock: &Shared<Hall>,
     source: &mut S,
-    reader: &mut Reader,
+    reader: &mut UnitReader,
     lane: &mut Lane,
-    item: Box<Coded>,
+    item: QcifBox,
 ) -> LaneStop
-    requires ready { IsAtLock lock.now lane.old }
-    requires fresh { IsFresh reader.old }
-    requires format { item.value.format ≡ Qcif }
-    requires seat { IsNew lane.old.seat }
-    requires counts { lane.old.counts ≡ record { posts = 0; gaps = 0 } }
-    ensures ready { IsAtLock lock.now lane.new }
-    ensures number { lane.new.number ≡ lane.old.number }
-    ensures runs { RunsLane (lanes_of lock.now.opening) lane.old.number
-        (input (S.left source.old) (S.faults source.old)) (input (S.left source.new) (S.faults source.new))
-        lane.old.seat lane.new.seat result lane.new.counts }
+    requires { LaneBegins lock.now reader.old lane.old }
+    ensures { RanLane lock.now (S.tells source.old) (S.tells source.new)
+        lane.old lane.new result }
 {
     let mut item = item;
     loop {

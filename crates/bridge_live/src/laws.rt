@@ -6,8 +6,7 @@ ghost use Rattle.bridge_live.specs.ServeLaws.{LawOfStops, LawOfLanes, LawOfChair
 ghost use Rattle.bridge_live.specs.Gathered.{RunLaw, CompleteLaw};
 
 use chair_words::one_answer;
-use rtp_h261::packets_one_by_one;
-use unit_stream::one_telling;
+use rtp_h261::{one_telling, packets_one_by_one};
 
 /// Packets have one flow, and packets that come behind them change nothing of it.
 pub fn flow_of_packets()

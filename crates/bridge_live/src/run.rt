@@ -1,15 +1,14 @@
 //! A live conference from its beginning to its end.
-ghost use Rattle.bridge_live.specs.Ending.{TakesIn, CrewDid, LanesJoined, GathersFrom};
-ghost use Rattle.bridge_live.specs.Endings.{Given};
-ghost use Rattle.bridge_live.specs.Handed.{inputs, outputs, given_of, ending_of};
-ghost use Rattle.bridge_live.specs.Lining.{Opens, seat_behind};
-ghost use Rattle.bridge_live.specs.Serve.{Serves, IsComplete};
+ghost use Rattle.bridge_live.specs.Ending.{JoinsWorker, CrewDid, LanesJoined, MayEnd, MayJoin, EndsLane, EndsChair, together, GathersFrom};
+ghost use Rattle.bridge_live.specs.Endings.{HandedIn};
+ghost use Rattle.bridge_live.specs.Handed.{given_of, ending_of};
+ghost use Rattle.bridge_live.specs.Serve.{Serves, IsServedWhole};
 ghost use Rattle.hall_core.specs.Hall.{lanes_of};
 ghost use Rattle.cif_pack.specs.declared.packer.Settings.{Settings as Packing};
 ghost use Rattle.bridge_live.specs.declared.worker.Worker.{Worker};
 ghost use Rattle.bridge_live.specs.declared.worker.Worker.TheVariants.{Lane as OfLane, Chair as OfChair, Mixer as OfMixer};
 ghost use Rattle.hall_lock.specs.Seats.{IsOf};
-ghost use Rattle.std.specs.Prelude.{◌≡◌, ◌+◌, ◌^◌, ◌<◌, ◌≤◌, List, [], ◌∷◌, length, sum_by, vec_capacity, IfOk, IfErr};
+ghost use Rattle.std.specs.Prelude.{◌≡◌, ◌^◌, ◌<◌, ◌≤◌, List, [], ◌∷◌, length, sum_by, vec_capacity, IfOk, IfErr};
 
 use crate::chair::{Chair, ChairCounts};
 use crate::crew::{Crew, Lists, OTHERS, line_up, reserve};
@@ -18,16 +17,14 @@ use crate::lane::Lane;
 use crate::laws::workers_make_the_conference;
 use crate::mixer::{MixCounts, Mixer};
 use crate::worker::{ChairWorker, LaneWorker, MixWorker, Worker, work_all};
-use cif_pack::Settings;
+use cif_pack::{Settings, Tally};
 use hall_core::Hall;
-use hall_lock::{Past, Seat, Shared};
+use hall_lock::{Past, Seat, Shared, history_is_shared_out};
 use io_edge::{Sink, Source, Ticker};
-use seat_turns::{history_is_shared_out, seats_join_one_by_one};
 use std::alloc::Global;
 use std::collections::VecDeque;
 use std::sync::Wait;
 use std::thread::Threads;
-use tick_picture::Tally;
 
 /// The first worker, which is a lane's.
 fn pop_lane<S, C, K>(workers: &mut VecDeque<Worker<S, C, K>>) -> LaneWorker<S>
@@ -76,18 +73,15 @@ fn pop_mixer<S, C, K>(workers: VecDeque<Worker<S, C, K>>) -> MixWorker<C, K>
 /// Joins a worker's seat into the one that is to end the lock. Only contracts see what is left of it.
 fn take_in(lock: &Shared<Hall>, seat: &mut Seat<Hall>, other: Seat<Hall>) -> Past<Hall>
     requires { IsOf lock.now seat.old × IsOf lock.now other }
-    ensures { TakesIn lock.now other result.seat.value seat.old seat.new }
+    ensures { JoinsWorker lock.now other result.seat.value seat.old seat.new }
 {
-    seats_join_one_by_one::<Hall>();
     lock.join(seat, other)
 }
 
 /// The end of a lane, whose seat is joined.
 fn join_lane<S>(lock: &Shared<Hall>, seat: &mut Seat<Hall>, worker: LaneWorker<S>) -> LaneEnd<S>
     requires { IsOf lock.now seat.old × IsOf lock.now worker.lane.seat }
-    ensures joins { TakesIn lock.now worker.lane.seat result.past.seat.value seat.old seat.new }
-    ensures source { result.source ≡ worker.source }
-    ensures end { (result.stop ≡ worker.stop) × (result.counts ≡ worker.lane.counts) }
+    ensures { EndsLane lock.now worker result seat.old seat.new }
 {
     let LaneWorker {
         source,
@@ -113,9 +107,7 @@ fn join_lane<S>(lock: &Shared<Hall>, seat: &mut Seat<Hall>, worker: LaneWorker<S
 /// The end of the chair, whose seat is joined.
 fn join_chair<S>(lock: &Shared<Hall>, seat: &mut Seat<Hall>, worker: ChairWorker<S>) -> ChairEnd<S>
     requires { IsOf lock.now seat.old × IsOf lock.now worker.chair.seat }
-    ensures joins { TakesIn lock.now worker.chair.seat result.past.seat.value seat.old seat.new }
-    ensures source { result.source ≡ worker.source }
-    ensures end { (result.stop ≡ worker.stop) × (result.counts ≡ worker.chair.counts) }
+    ensures { EndsChair lock.now worker result seat.old seat.new }
 {
     let ChairWorker {
         source,
@@ -142,14 +134,11 @@ fn join_lanes<S: Source, C: Ticker, K: Sink>(
     workers: &mut VecDeque<Worker<S, C, K>>,
     ends: &mut Vec<LaneEnd<S>>,
 )
-    requires seat { IsOf lock.now seat.old }
-    requires ends { ends.old.items ≡ [] }
-    requires room { length workers.old.items ≤ vec_capacity ends.old + 2 }
-    requires did { (set : Packing) × (given : Given) ×
-        CrewDid (inputs S.left S.faults) (inputs C.steps C.faults) (outputs K.written K.faults) lock.now set given 0 given.lanes workers.old.items }
-    ensures { (set : Packing) (given : Given) →
-        CrewDid (inputs S.left S.faults) (inputs C.steps C.faults) (outputs K.written K.faults) lock.now set given 0 given.lanes workers.old.items →
-        LanesJoined (inputs S.left S.faults) (inputs C.steps C.faults) (outputs K.written K.faults) lock.now set given seat.old seat.new [] ends.new.items workers.new.items }
+    requires { MayJoin S.tells C.tells K.tells lock.now seat.old workers.old.items ends.old.items
+        (vec_capacity ends.old) }
+    ensures { (set : Packing) (given : HandedIn) →
+        CrewDid S.tells C.tells K.tells lock.now set given 0 given.lanes workers.old.items →
+        LanesJoined S.tells C.tells K.tells lock.now set given seat.old seat.new [] ends.new.items workers.new.items }
 {
     while workers.len() > OTHERS {
         let worker = pop_lane(workers);
@@ -162,16 +151,7 @@ fn join_lanes<S: Source, C: Ticker, K: Sink>(
 fn count_together<S>(lanes: &[LaneEnd<S>], chair: ChairCounts, mixer: MixCounts) -> Tally
     requires pictures { sum_by (λ lane. lane.counts.posts) lanes.now < 2 ^ 64 }
     requires gaps { sum_by (λ lane. lane.counts.gaps) lanes.now < 2 ^ 64 }
-    ensures { result ≡ record {
-      ticks = mixer.ticks;
-      pictures = sum_by (λ lane. lane.counts.posts) lanes.now;
-      gaps = sum_by (λ lane. lane.counts.gaps) lanes.now;
-      commands = chair.commands;
-      refused = chair.refused;
-      taken = mixer.taken;
-      packets = mixer.packets;
-      octets = mixer.octets;
-    } }
+    ensures { result ≡ together lanes.now chair mixer }
 {
     let mut pictures = 0;
     let mut gaps = 0;
@@ -194,16 +174,10 @@ fn count_together<S>(lanes: &[LaneEnd<S>], chair: ChairCounts, mixer: MixCounts)
 /// The end of a conference whose workers came to their stops. Their seats are joined, in the order of the workers, and the
 /// lock is ended.
 fn end_all<S: Source, C: Ticker, K: Sink>(crew: Crew<S, C, K>) -> ServeEnd<S, C, K>
-    requires opens { Opens (lanes_of crew.lock.opening) crew.lock }
-    requires few { length crew.lists.workers.items ≤ 18 }
-    requires seat { crew.seat ≡ seat_behind crew.lock (length crew.lists.workers.items) }
-    requires ends { crew.lists.ends.items ≡ [] }
-    requires room { length crew.lists.workers.items ≤ vec_capacity crew.lists.ends + 2 }
-    requires did { (set : Packing) × (given : Given) × (lanes_of crew.lock.opening ≡ length given.lanes)
-        × CrewDid (inputs S.left S.faults) (inputs C.steps C.faults) (outputs K.written K.faults) crew.lock set given 0 given.lanes crew.lists.workers.items }
-    ensures { (set : Packing) (given : Given) → lanes_of crew.lock.opening ≡ length given.lanes →
-        CrewDid (inputs S.left S.faults) (inputs C.steps C.faults) (outputs K.written K.faults) crew.lock set given 0 given.lanes crew.lists.workers.items →
-        GathersFrom set crew.lock given (ending_of (inputs S.left S.faults) (inputs C.steps C.faults) (outputs K.written K.faults) result) result.tally }
+    requires { MayEnd S.tells C.tells K.tells crew }
+    ensures { (set : Packing) (given : HandedIn) → lanes_of crew.lock.opening ≡ length given.lanes →
+        CrewDid S.tells C.tells K.tells crew.lock set given 0 given.lanes crew.lists.workers.items →
+        GathersFrom set crew.lock given (ending_of S.tells C.tells K.tells result) result.tally }
 {
     history_is_shared_out::<Hall>();
     let Crew {
@@ -265,11 +239,11 @@ pub fn serve<S: Source + Send, C: Ticker + Send, K: Sink + Send>(
     requires mtu { (1000 ≤ set.mtu) × (set.mtu ≤ 9000) }
     requires turns { (1 ≤ turns) × (turns ≤ 2 ^ 45) }
     ensures serves { IfOk result (λ end. Serves set turns
-        (given_of (inputs S.left S.faults) (inputs C.steps C.faults) (outputs K.written K.faults) lanes.items chair ticker sink)
-        (ending_of (inputs S.left S.faults) (inputs C.steps C.faults) (outputs K.written K.faults) end) end.tally) }
-    ensures complete { IfOk result (λ end. IsComplete turns
-        (given_of (inputs S.left S.faults) (inputs C.steps C.faults) (outputs K.written K.faults) lanes.items chair ticker sink)
-        (ending_of (inputs S.left S.faults) (inputs C.steps C.faults) (outputs K.written K.faults) end)) }
+        (given_of S.tells C.tells K.tells lanes.items chair ticker sink)
+        (ending_of S.tells C.tells K.tells end) end.tally) }
+    ensures complete { IfOk result (λ end. IsServedWhole turns
+        (given_of S.tells C.tells K.tells lanes.items chair ticker sink)
+        (ending_of S.tells C.tells K.tells end)) }
     ensures back { IfErr result (λ back. back ≡ record { lanes = lanes; chair = chair; ticker = ticker; sink = sink }) }
 {
     workers_make_the_conference();

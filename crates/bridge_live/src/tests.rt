@@ -3,19 +3,20 @@ ghost use Rattle.std.specs.Prelude.{◌≤◌, ◌^◌};
 ghost use Rattle.bridge_live.specs.Mixing.{most_turns};
 
 use super::*;
+use crate::lane::MOST_TAKEN;
 use cif_pack::Settings;
-use h261_pic::{Coded, Hand};
+use h261_pic::Hand;
 use hall_core::Hall;
 use hall_lock::Shared;
 use io_edge::{MemSink, MemSource, MemTicker};
 use pel_bits::NoMemory;
 use pel_model::Format;
+use rtp_h261::UnitReader;
 use std::alloc::Global;
 use std::process::Abort;
 use std::sync::Wait;
 use std::test::Fail;
 use std::thread::Threads;
-use tick_picture::PictureWriter;
 
 /// Two packets in their frames, the first with number 0 and the second with number 2: each is a QCIF picture of one header, whose
 /// groups are all left out.
@@ -45,8 +46,8 @@ fn run(
     bytes.extend_from_slice(&TWO_PACKETS)?;
     bytes.truncate(octets);
     let mut source = MemSource::new(bytes, vec![in alloc; fails]?, 7);
-    let mut reader = Reader::reserve(alloc)?;
-    let item = Box::new(alloc, Coded::reserve(alloc, Format::Qcif)?)?;
+    let mut reader = UnitReader::reserve(alloc, Format::Qcif, MOST_TAKEN)?;
+    let item = QcifBox::reserve(alloc)?;
     let stop = run_lane(rt, &lock, &mut source, &mut reader, &mut lane, item);
     Ok((stop, lane.counts))
 }
@@ -256,14 +257,54 @@ fn what_a_live_conference_writes(rt: HostRuntime) -> Result<(), Fail> {
     Ok(())
 }
 
-/// Two ticks and the end do not fit into two turns.
+/// Three calls of the first lane, one of the chair and three of the mixer are seven at most. The end is the third of the mixer, so
+/// two turns are too few, and from three to six it is up to the threads.
 #[test]
-fn turns_that_are_too_few(rt: HostRuntime) -> Result<(), Fail> {
-    for turns in [1, 2] {
+fn turns_from_one_to_ten(rt: HostRuntime) -> Result<(), Fail> {
+    for turns in 1..11 {
         let end = live(&rt, rt.alloc(), 44, 0, 0, turns)?;
-        assert_eq!(rt; end.stop, MixStop::Over);
-        assert_eq!(rt; end.hall.turns, turns);
+        let over = end.stop == MixStop::Over;
+        assert!(rt; over || end.stop == MixStop::Whole);
+        assert!(rt; over || turns > 2);
+        assert!(rt; !over || turns < 7);
+        // all turns were made where one was over, and all ticks where none was
+        assert!(rt; !over || end.hall.turns == turns);
+        assert!(rt; end.hall.turns <= 7);
+        assert!(rt; over || end.tally.ticks == 2);
         assert_eq!(rt; end.tally.packets, end.tally.ticks);
+        assert_eq!(rt; end.sink.bytes().len() as u64, end.tally.octets);
+    }
+    Ok(())
+}
+
+/// The sink fails at the second picture, if its tick is made: with six turns it is.
+#[test]
+fn turns_where_the_sink_fails(rt: HostRuntime) -> Result<(), Fail> {
+    for turns in 1..11 {
+        let end = live(&rt, rt.alloc(), 44, 0, 2, turns)?;
+        let over = end.stop == MixStop::Over;
+        assert!(rt; over || end.stop == MixStop::Sink);
+        assert!(rt; over || turns > 1);
+        assert!(rt; !over || turns < 6);
+        assert!(rt; over || end.tally.ticks == 2);
+        assert!(rt; over || end.tally.packets == 1);
+        assert!(rt; !over || end.tally.packets == end.tally.ticks);
+        assert_eq!(rt; end.sink.bytes().len() as u64, end.tally.octets);
+    }
+    Ok(())
+}
+
+/// The ticker fails behind the first step, if its tick is made: with five turns it is.
+#[test]
+fn turns_where_the_ticker_fails(rt: HostRuntime) -> Result<(), Fail> {
+    for turns in 1..11 {
+        let end = live(&rt, rt.alloc(), 44, 2, 0, turns)?;
+        let over = end.stop == MixStop::Over;
+        assert!(rt; over || end.stop == MixStop::Ticker);
+        assert!(rt; !over || turns < 5);
+        let ticks = if over { 0 } else { 1 };
+        assert_eq!(rt; end.tally.ticks, ticks);
+        assert_eq!(rt; end.tally.packets, ticks);
         assert_eq!(rt; end.sink.bytes().len() as u64, end.tally.octets);
     }
     Ok(())

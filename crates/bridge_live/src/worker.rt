@@ -1,17 +1,17 @@
 //! The workers of a live conference in one list, and their work in a thread each.
-ghost use Rattle.bridge_live.specs.Crew.{IsReady, Worked, LaneIsReady, LaneDid, ChairIsReady, ChairDid, MixIsReady, MixDid};
-ghost use Rattle.bridge_live.specs.Handed.{inputs, outputs};
-ghost use Rattle.bridge_live.specs.declared.worker.Worker.{Worker};
-ghost use Rattle.std.specs.Prelude.{◌≡◌, ℕ, ◌<◌, All, length, slice_index_or};
+ghost use Rattle.bridge_live.specs.Crew.{IsReadyToWork, Worked, EachWorked, LaneIsReady, LaneDid, ChairIsReady, ChairDid, MixIsReady, MixDid};
+ghost use Rattle.std.specs.Prelude.{◌<◌, All, length};
 
 use crate::chair::{Chair, run_chair};
 use crate::ends::{ChairStop, LaneStop, MixStop};
-use crate::lane::{Lane, Reader, run_lane};
+use crate::lane::{Lane, run_lane};
 use crate::mixer::{Mixer, run_mixer};
-use h261_pic::{Coded, Hand};
+use crate::qcif::QcifBox;
+use h261_pic::Hand;
 use hall_core::Hall;
 use hall_lock::Shared;
 use io_edge::{Sink, Source, Ticker};
+use rtp_h261::UnitReader;
 use std::sync::Wait;
 use std::thread;
 use std::thread::Threads;
@@ -19,9 +19,9 @@ use std::thread::Threads;
 /// The worker of a lane, with what it works on. Before its work it has a picture to begin with.
 pub(crate) struct LaneWorker<S> {
     pub source: S,
-    pub reader: Reader,
+    pub reader: UnitReader,
     pub lane: Lane,
-    pub item: Option<Box<Coded>>,
+    pub item: Option<QcifBox>,
     pub stop: LaneStop,
 }
 
@@ -52,8 +52,8 @@ impl<S: Source> LaneWorker<S> {
     /// Takes packets and posts what they give, to the stop.
     fn work(&mut self, rt: &impl Wait, lock: &Shared<Hall>)
         requires { LaneIsReady lock.now self.old }
-        ensures { LaneDid (inputs S.left S.faults) lock.now self.old.lane.number
-            (inputs S.left S.faults self.old.source) self.old.lane.seat self.new }
+        ensures { LaneDid S.tells lock.now self.old.lane.number
+            (S.tells self.old.source) self.old.lane.seat self.new }
     {
         let Some(item) = self.item.take() else {
             unreachable!();
@@ -73,8 +73,8 @@ impl<S: Source> ChairWorker<S> {
     /// Takes lines and orders what they say, to the stop.
     fn work(&mut self, rt: &impl Wait, lock: &Shared<Hall>)
         requires { ChairIsReady lock.now self.old }
-        ensures { ChairDid (inputs S.left S.faults) lock.now
-            (inputs S.left S.faults self.old.source) self.old.chair.seat self.new }
+        ensures { ChairDid S.tells lock.now
+            (S.tells self.old.source) self.old.chair.seat self.new }
     {
         self.stop = run_chair(rt, lock, &mut self.source, &mut self.chair);
     }
@@ -84,9 +84,9 @@ impl<C: Ticker, K: Sink> MixWorker<C, K> {
     /// Takes steps and writes the pictures of ticks, to the stop.
     fn work(&mut self, rt: &impl Wait, lock: &Shared<Hall>)
         requires { MixIsReady lock.now self.old }
-        ensures { MixDid (inputs C.steps C.faults) (outputs K.written K.faults) lock.now
-            self.old.mixer.writer.settings (inputs C.steps C.faults self.old.ticker)
-            (outputs K.written K.faults self.old.sink) self.old.mixer.seat self.new }
+        ensures { MixDid C.tells K.tells lock.now
+            self.old.mixer.writer.settings (C.tells self.old.ticker)
+            (K.tells self.old.sink) self.old.mixer.seat self.new }
     {
         let Some(hand) = self.hand.take() else {
             unreachable!();
@@ -105,9 +105,9 @@ impl<C: Ticker, K: Sink> MixWorker<C, K> {
 impl<S: Source, C: Ticker, K: Sink> Worker<S, C, K> {
     /// Works to its stop.
     fn work(&mut self, rt: &impl Wait, lock: &Shared<Hall>)
-        requires { IsReady lock.now self.old }
-        ensures { Worked (inputs S.left S.faults) (inputs C.steps C.faults)
-            (outputs K.written K.faults) lock.now self.old self.new }
+        requires { IsReadyToWork lock.now self.old }
+        ensures { Worked S.tells C.tells
+            K.tells lock.now self.old self.new }
     {
         match self {
             Worker::Lane(worker) => worker.work(rt, lock),
@@ -125,11 +125,8 @@ pub(crate) fn work_all<
     K: Sink + Send,
 >(rt: &R, lock: &Shared<Hall>, workers: &mut Vec<Worker<S, C, K>>)
     requires some { 0 < length workers.old.items }
-    requires ready { All (IsReady lock.now) workers.old.items }
-    ensures number { length workers.new.items ≡ length workers.old.items }
-    ensures worked { (i : ℕ) (d : Worker S C K) → i < length workers.old.items →
-        Worked (inputs S.left S.faults) (inputs C.steps C.faults) (outputs K.written K.faults) lock.now
-        (slice_index_or workers.old.items i d) (slice_index_or workers.new.items i d) }
+    requires ready { All (IsReadyToWork lock.now) workers.old.items }
+    ensures { EachWorked S.tells C.tells K.tells lock.now workers.old.items workers.new.items }
 {
     let threads = workers.len();
     thread::for_each_mut(

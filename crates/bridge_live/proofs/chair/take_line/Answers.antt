@@ -1,24 +1,25 @@
 -- A line more, or none.
 use Rattle.std.proofs.Common.{Result, sym, subst, ◌∙◌}
-use Rattle.hall_core.specs.Hall.{lanes_of}
 use Rattle.bridge_live.specs.declared.ends.ChairStop.{ChairStop}
-use Rattle.bridge_live.specs.Hearing.{ChairRounds}
-use Rattle.bridge_live.specs.Posting.{input}
-use Rattle.bridge_live.proofs.Ordering.{whole-round, pause-round}
+use Rattle.bridge_live.specs.Hearing.{HearsNext, HearsLine, StopsHearing}
+use Rattle.bridge_live.proofs.Ordering.{line-heard, line-stopped}
 use Rattle.bridge_live.proofs.chair.take_line.Goals as goal
 
-pub returns-in-Ok-clause-rounds : goal.returns-in-Ok-clause-rounds
-returns-in-Ok-clause-rounds g c = λ before first h.
-    let lanes = lanes_of c.args.lock.now.opening in
-    let t = c.in-Ok.ensures in
-    subst (λ (r : Result Unit ChairStop). ChairRounds lanes before (input (g.S.Source.left c.next_line.new.source) (g.S.Source.faults c.next_line.new.source)) first c.args.room.now c.next_line.new.room c.hear.new.self r)
-    (sym c.halted.ensures)
-    (whole-round c.hear.result lanes before first _ _ _ _ c.args.room.now c.next_line.new.room c.next_line.new.line.items c.args.chair.now c.hear.new.self h c.requires.room t
-    (c.hear.ensures.hears t.line (c.as_slice.ensures.value ∙ t.kept_is)) c.hear.ensures.few c.hear.ensures.refused)
+pub returns-in-Ok : goal.returns-in-Ok
+returns-in-Ok g c =
+    let source = g.S.Source.tells c.args.source.now in
+    let now = g.S.Source.tells c.next_line.new.source in
+    let lock = c.args.lock.now in
+    let kept = c.next_line.new.line.items in
+    let heard = subst (λ line. HearsLine lock line c.args.chair.now c.hear.new.self c.hear.result) c.as_slice.ensures.value c.hear.ensures in
+    subst (λ (r : Result Unit ChairStop). HearsNext lock source now c.args.allowance.now c.next_line.new.allowance c.args.chair.now c.hear.new.self r) (sym c.halted.ensures)
+    (line-heard lock source now c.args.allowance.now c.next_line.new.allowance kept c.args.chair.now c.hear.new.self c.hear.result c.requires c.in-Ok.ensures heard)
 
-pub returns-in-Err-clause-rounds : goal.returns-in-Err-clause-rounds
-returns-in-Err-clause-rounds g c = λ before first h.
-    let lanes = lanes_of c.args.lock.now.opening in
-    let t = c.in-Err.ensures in
-    pause-round c.in-Err.pause c.stop.result lanes before first _ _ _ _ c.args.room.now c.next_line.new.room c.next_line.new.line.items c.args.chair.now c.stop.new.self h c.requires.room t
-    (c.stop.ensures.stops t.line (c.as_slice-in-Err.ensures.value ∙ t.kept_is))
+pub returns-in-Err : goal.returns-in-Err
+returns-in-Err g c =
+    let source = g.S.Source.tells c.args.source.now in
+    let now = g.S.Source.tells c.next_line.new.source in
+    let lock = c.args.lock.now in
+    let kept = c.next_line.new.line.items in
+    let stops = subst (λ line. StopsHearing lock c.in-Err.pause line c.args.chair.now c.stop.new.self c.stop.result) c.as_slice-in-Err.ensures.value c.stop.ensures in
+    line-stopped lock source now c.args.allowance.now c.next_line.new.allowance kept c.args.chair.now c.stop.new.self c.in-Err.pause c.stop.result c.requires c.in-Err.ensures stops

@@ -4,5 +4,5 @@ use Rattle.bridge_live.proofs.mixer.next_step.Goals as goal
 
 pub returns-in-Ok : goal.returns-in-Ok
 returns-in-Ok g c =
-    step-given (g.C.Ticker.steps c.args.ticker.now) (g.C.Ticker.steps c.next.new.self) (g.C.Ticker.faults c.args.ticker.now) (g.C.Ticker.faults c.next.new.self)
-    c.in-Ok.given c.ok_or.result c.in-Ok.ensures.range c.in-Ok.ensures.step c.in-Ok.ensures.cause.kept c.ok_or.ensures.value
+    let e = c.in-Ok.ensures in
+    step-given (g.C.Ticker.tells c.args.ticker.now) (g.C.Ticker.tells c.next.new.self) c.in-Ok.given c.ok_or.result e.range e.step e.cause.kept c.ok_or.ensures.value

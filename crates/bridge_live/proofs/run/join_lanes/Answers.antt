@@ -3,7 +3,6 @@ use Rattle.std.proofs.Common.{◌≡◌, ◌<◌, ◌∷◌, ◌++◌, [], arith
 use Rattle.std.proofs.lemmas.Grind.{common_steps}
 use Rattle.bridge_live.specs.declared.worker.Worker.TheVariants.{Lane}
 use Rattle.bridge_live.specs.Ending.{CrewDid, LanesJoined}
-use Rattle.bridge_live.specs.Handed.{inputs, outputs}
 use Rattle.bridge_live.proofs.Joining.{joined-none, joined-more, lane-first, lane-next, none-left}
 use Rattle.bridge_live.proofs.run.join_lanes.Goals as goal
 
@@ -26,9 +25,9 @@ join_lane-end-requires g c =
     let set = begun.0 in
     let given = begun.1 in
     let j = c.loop-workers.invariant.did set given begun.2 in
-    let reads = inputs g.S.Source.left g.S.Source.faults in
-    let ticks = inputs g.C.Ticker.steps g.C.Ticker.faults in
-    let writes = outputs g.K.Sink.written g.K.Sink.faults in
+    let reads = g.S.Source.tells in
+    let ticks = g.C.Ticker.tells in
+    let writes = g.K.Sink.tells in
     let lock = c.args.lock.now in
     let rest = subst (λ ws. CrewDid reads ticks writes lock set given (length j.1.done) j.0 ws) c.pop_lane-worker.ensures j.1.rest in
     let next = lane-next reads ticks writes lock set given (length j.1.done) j.0 c.pop_lane-worker.result c.pop_lane-worker.new.workers.items rest in
@@ -36,9 +35,9 @@ join_lane-end-requires g c =
 
 pub loop-workers-preserved : goal.loop-workers-preserved
 loop-workers-preserved g c =
-    let reads = inputs g.S.Source.left g.S.Source.faults in
-    let ticks = inputs g.C.Ticker.steps g.C.Ticker.faults in
-    let writes = outputs g.K.Sink.written g.K.Sink.faults in
+    let reads = g.S.Source.tells in
+    let ticks = g.C.Ticker.tells in
+    let writes = g.K.Sink.tells in
     let lock = c.args.lock.now in
     let old = c.args.seat.now in
     let end = c.join_lane-end.result in
@@ -57,9 +56,9 @@ loop-workers-preserved g c =
 
 pub returns : goal.returns
 returns g c = λ set given did.
-    let reads = inputs g.S.Source.left g.S.Source.faults in
-    let ticks = inputs g.C.Ticker.steps g.C.Ticker.faults in
-    let writes = outputs g.K.Sink.written g.K.Sink.faults in
+    let reads = g.S.Source.tells in
+    let ticks = g.C.Ticker.tells in
+    let writes = g.K.Sink.tells in
     let j = c.loop-workers.invariant.did set given did in
     let few : length c.loop-workers.workers.items < 3 = grind (arith, common_steps) in
     none-left reads ticks writes c.args.lock.now set given c.args.seat.now c.loop-workers.seat j.0 c.loop-workers.ends.items c.loop-workers.workers.items j.1 few

@@ -1,9 +1,9 @@
 -- The workers are lined up, work, and are gathered.
 use Rattle.std.proofs.Common.{◌≡◌, ◌∙◌, ◌+◌, ℕ, arith, subst, sym, length, map}
 use Rattle.std.proofs.lemmas.List.{length-map}
-use Rattle.bridge_live.specs.Handed.{inputs, outputs, given_of, ending_of}
-use Rattle.bridge_live.specs.Lining.{seat_behind}
-use Rattle.bridge_live.specs.Serve.{Serves, IsComplete}
+use Rattle.bridge_live.specs.Handed.{given_of, ending_of}
+use Rattle.bridge_live.specs.Lining.{Opens, seat_behind}
+use Rattle.bridge_live.specs.Serve.{Serves, IsServedWhole}
 use Rattle.bridge_live.proofs.Works.{lined-ready, lined-number, lined-did}
 use Rattle.bridge_live.proofs.run.serve.Goals as goal
 
@@ -11,44 +11,36 @@ pub work_all-requires-clause-ready : goal.work_all-requires-clause-ready
 work_all-requires-clause-ready g c = λ lifetimes outlive.
     lined-ready c.in-Ok.reserved.writer.settings c.args.lanes.items c.args.chair c.args.ticker c.args.sink c.line_up-crew.result c.line_up-crew.ensures.lined_up
 
-pub end_all-requires-clause-few : goal.end_all-requires-clause-few
-end_all-requires-clause-few g c =
-    let number = lined-number c.in-Ok.reserved.writer.settings c.args.lanes.items c.args.chair c.args.ticker c.args.sink c.line_up-crew.result c.line_up-crew.ensures.lined_up in
-    omega (arith, c.work_all.ensures.number, number, c.requires.lanes.1)
-
-pub end_all-requires-clause-seat : goal.end_all-requires-clause-seat
-end_all-requires-clause-seat g c =
+pub end_all-requires : goal.end_all-requires
+end_all-requires g c =
+    let reads = g.S.Source.tells in
+    let ticks = g.C.Ticker.tells in
+    let writes = g.K.Sink.tells in
     let line = c.line_up-crew.ensures.lined_up in
     let crew = c.line_up-crew.result in
-    let number = lined-number c.in-Ok.reserved.writer.settings c.args.lanes.items c.args.chair c.args.ticker c.args.sink crew line in
-    subst (λ (k : ℕ). crew.seat ≡ seat_behind crew.lock k) (sym (c.work_all.ensures.number ∙ number)) line.seat
-
-pub end_all-requires-clause-room : goal.end_all-requires-clause-room
-end_all-requires-clause-room g c =
-    let line = c.line_up-crew.ensures.lined_up in
-    let number = lined-number c.in-Ok.reserved.writer.settings c.args.lanes.items c.args.chair c.args.ticker c.args.sink c.line_up-crew.result line in
-    omega (arith, c.work_all.ensures.number, number, line.ends_room)
-
-pub end_all-requires-clause-did : goal.end_all-requires-clause-did
-end_all-requires-clause-did g c =
-    let reads = inputs g.S.Source.left g.S.Source.faults in
-    let ticks = inputs g.C.Ticker.steps g.C.Ticker.faults in
-    let writes = outputs g.K.Sink.written g.K.Sink.faults in
-    let line = c.line_up-crew.ensures.lined_up in
     let set = c.in-Ok.reserved.writer.settings in
-    let lanes = c.args.lanes.items in (
-      set,
-      given_of reads ticks writes lanes c.args.chair c.args.ticker c.args.sink,
-      line.opens.lanes_are ∙ sym (length-map lanes reads),
-      lined-did reads ticks writes set lanes c.args.chair c.args.ticker c.args.sink c.line_up-crew.result line c.work_all.new.workers.items
-          c.work_all.ensures.number c.work_all.ensures.worked,
-    )
+    let lanes = c.args.lanes.items in
+    let number = lined-number set lanes c.args.chair c.args.ticker c.args.sink crew line in
+    let worked = c.work_all.ensures.number in
+    record {
+      opens = subst (λ (k : ℕ). Opens k crew.lock) (sym line.opens.lanes_are) line.opens;
+      few = omega (arith, worked, number, c.requires.lanes.1);
+      seat = subst (λ (k : ℕ). crew.seat ≡ seat_behind crew.lock k) (sym (worked ∙ number)) line.seat;
+      ends = line.ends;
+      room = omega (arith, worked, number, line.ends_room);
+      did = (
+        set,
+        given_of reads ticks writes lanes c.args.chair c.args.ticker c.args.sink,
+        line.opens.lanes_are ∙ sym (length-map lanes reads),
+        lined-did reads ticks writes set lanes c.args.chair c.args.ticker c.args.sink crew line c.work_all.new.workers.items worked c.work_all.ensures.each,
+      );
+    }
 
 pub returns-in-Ok-clause-serves : goal.returns-in-Ok-clause-serves
 returns-in-Ok-clause-serves g c =
-    let reads = inputs g.S.Source.left g.S.Source.faults in
-    let ticks = inputs g.C.Ticker.steps g.C.Ticker.faults in
-    let writes = outputs g.K.Sink.written g.K.Sink.faults in
+    let reads = g.S.Source.tells in
+    let ticks = g.C.Ticker.tells in
+    let writes = g.K.Sink.tells in
     let line = c.line_up-crew.ensures.lined_up in
     let lock = c.line_up-crew.result.lock in
     let set = c.in-Ok.reserved.writer.settings in
@@ -56,18 +48,18 @@ returns-in-Ok-clause-serves g c =
     let given = given_of reads ticks writes lanes c.args.chair c.args.ticker c.args.sink in
     let end = ending_of reads ticks writes c.end_all.result in
     let did = lined-did reads ticks writes set lanes c.args.chair c.args.ticker c.args.sink c.line_up-crew.result line c.work_all.new.workers.items
-    c.work_all.ensures.number c.work_all.ensures.worked in
+    c.work_all.ensures.number c.work_all.ensures.each in
     let known = c.end_all.ensures set given (line.opens.lanes_are ∙ sym (length-map lanes reads)) did in
     let serves = c.workers_make_the_conference.ensures.serves set lock.turns lock.opening given end known.counts known.gathered in
-    subst (λ s. Serves s c.args.turns given end c.end_all.result.tally) c.in-Ok.ensures.settings
-    (subst (λ (k : ℕ). Serves set k given end c.end_all.result.tally) (c.line_up-crew.ensures.turns ∙ c.in-Ok.ensures.turns)
+    subst (λ s. Serves s c.args.turns given end c.end_all.result.tally) c.in-Ok.ensures.reserves.settings
+    (subst (λ (k : ℕ). Serves set k given end c.end_all.result.tally) (c.line_up-crew.ensures.turns ∙ c.in-Ok.ensures.reserves.turns_are)
     (subst (λ tally. Serves set lock.turns given end tally) (sym known.tally_is) serves))
 
 pub returns-in-Ok-clause-complete : goal.returns-in-Ok-clause-complete
 returns-in-Ok-clause-complete g c =
-    let reads = inputs g.S.Source.left g.S.Source.faults in
-    let ticks = inputs g.C.Ticker.steps g.C.Ticker.faults in
-    let writes = outputs g.K.Sink.written g.K.Sink.faults in
+    let reads = g.S.Source.tells in
+    let ticks = g.C.Ticker.tells in
+    let writes = g.K.Sink.tells in
     let line = c.line_up-crew.ensures.lined_up in
     let lock = c.line_up-crew.result.lock in
     let set = c.in-Ok.reserved.writer.settings in
@@ -75,7 +67,7 @@ returns-in-Ok-clause-complete g c =
     let given = given_of reads ticks writes lanes c.args.chair c.args.ticker c.args.sink in
     let end = ending_of reads ticks writes c.end_all.result in
     let did = lined-did reads ticks writes set lanes c.args.chair c.args.ticker c.args.sink c.line_up-crew.result line c.work_all.new.workers.items
-    c.work_all.ensures.number c.work_all.ensures.worked in
+    c.work_all.ensures.number c.work_all.ensures.each in
     let known = c.end_all.ensures set given (line.opens.lanes_are ∙ sym (length-map lanes reads)) did in
-    subst (λ (k : ℕ). IsComplete k given end) (c.line_up-crew.ensures.turns ∙ c.in-Ok.ensures.turns)
+    subst (λ (k : ℕ). IsServedWhole k given end) (c.line_up-crew.ensures.turns ∙ c.in-Ok.ensures.reserves.turns_are)
     (c.workers_make_the_conference.ensures.complete set lock.turns lock.opening given end known.counts known.gathered)

@@ -1,25 +1,20 @@
 -- By how the source ended.
-use Rattle.std.proofs.Common.{Ok, refl}
-use Rattle.hall_core.specs.Hall.{lanes_of}
-use Rattle.bridge_live.specs.declared.ends.LaneStop.TheVariants.{Cut, Fault, Limit}
-use Rattle.bridge_live.proofs.Giving.{posts-nothing, closes-gap}
+use Rattle.std.proofs.Common.{Ok, refl, subst, sym}
+use Rattle.rtp_wire.specs.declared.frames.FrameEnd.{FrameEnd}
+use Rattle.rtp_wire.specs.declared.frames.FrameEnd.TheVariants.{Cut, Fault, Limit}
+use Rattle.bridge_live.specs.declared.ends.LaneStop.TheVariants.{Whole}
+use Rattle.bridge_live.specs.Posting.{ClosesLane}
+use Rattle.bridge_live.proofs.Giving.{closes-none, closes-gap}
 use Rattle.bridge_live.proofs.lane.Lane.close.Goals as goal
 
-pub returns-in-End-clause-closes : goal.returns-in-End-clause-closes
-returns-in-End-clause-closes g c = λ first steps h.
-    rw c.in-End.is (Ok (tt {0}), posts-nothing (lanes_of c.args.lock.now.opening) first steps c.args.self.now (tt {0}) h c.requires.live, refl)
+pub returns-in-End : goal.returns-in-End
+returns-in-End g c = subst (λ (e : FrameEnd). ClosesLane c.args.lock.now e c.args.self.now c.args.self.now Whole) (sym c.in-End.is) (closes-none c.args.lock.now c.args.self.now c.requires)
 
-pub returns-in-Cut-clause-closes : goal.returns-in-Cut-clause-closes
-returns-in-Cut-clause-closes g c = λ first steps h.
-    rw c.in-Cut.is (closes-gap Cut (lanes_of c.args.lock.now.opening) first steps c.gap.new.self _ c.gap.result c.args.self.now.number c.gap.ensures.number
-    (c.gap.ensures.posts first steps h) c.stop_after.ensures)
+pub returns-in-Cut : goal.returns-in-Cut
+returns-in-Cut g c = rw c.in-Cut.is (closes-gap (Cut c.in-Cut.place) c.args.lock.now c.args.self.now c.gap.new.self c.gap.result c.stop_after.result refl c.gap.ensures c.stop_after.ensures)
 
-pub returns-in-Fault-clause-closes : goal.returns-in-Fault-clause-closes
-returns-in-Fault-clause-closes g c = λ first steps h.
-    rw c.in-Fault.is (closes-gap Fault (lanes_of c.args.lock.now.opening) first steps c.gap-in-Fault.new.self _ c.gap-in-Fault.result c.args.self.now.number c.gap-in-Fault.ensures.number
-    (c.gap-in-Fault.ensures.posts first steps h) c.stop_after-in-Fault.ensures)
+pub returns-in-Fault : goal.returns-in-Fault
+returns-in-Fault g c = rw c.in-Fault.is (closes-gap Fault c.args.lock.now c.args.self.now c.gap-in-Fault.new.self c.gap-in-Fault.result c.stop_after-in-Fault.result refl c.gap-in-Fault.ensures c.stop_after-in-Fault.ensures)
 
-pub returns-in-Limit-clause-closes : goal.returns-in-Limit-clause-closes
-returns-in-Limit-clause-closes g c = λ first steps h.
-    rw c.in-Limit.is (closes-gap Limit (lanes_of c.args.lock.now.opening) first steps c.gap-in-Limit.new.self _ c.gap-in-Limit.result c.args.self.now.number c.gap-in-Limit.ensures.number
-    (c.gap-in-Limit.ensures.posts first steps h) c.stop_after-in-Limit.ensures)
+pub returns-in-Limit : goal.returns-in-Limit
+returns-in-Limit g c = rw c.in-Limit.is (closes-gap Limit c.args.lock.now c.args.self.now c.gap-in-Limit.new.self c.gap-in-Limit.result c.stop_after-in-Limit.result refl c.gap-in-Limit.ensures c.stop_after-in-Limit.ensures)

@@ -1,4 +1,0 @@
-pub mod Output
-pub mod Showing
-pub mod Tallies
-pub mod Ticks
