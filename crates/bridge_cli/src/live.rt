@@ -52,8 +52,8 @@ pub fn live<P: Opener, C: Ticker + Send, K: Sink + Send, N: Sink>(
 ) -> LiveEnd<P::Src, C, K>
 where
     P::Src: Send + Drop,
-    ensures lives { Lives P.Src.tells C.tells K.tells (map string_bytes words.now) (P.tells house.old) (P.tells house.new)
-        ticker sink (N.tells notes.old) (N.tells notes.new) result }
+    ensures lives { Lives P.Src.tells C.tells K.tells (map string_bytes words.now)
+        (P.tells house.old) (P.tells house.new) ticker sink (N.tells notes.old) (N.tells notes.new) result }
 {
     let end = obey(rt, alloc, words, house, ticker, sink);
     tell(end, notes)

@@ -29,7 +29,8 @@ where
     P::Src: Drop,
     requires { length names.now ≤ 16 }
     ensures { MatchResult result
-        (λ lanes. ReachesAll (map (λ n. n.now) names.now) (map P.Src.tells lanes.items) (P.tells house.old) (P.tells house.new))
+        (λ lanes. ReachesAll (map (λ n. n.now) names.now) (map P.Src.tells lanes.items)
+        (P.tells house.old) (P.tells house.new))
         (IsUnopened (map (λ n. n.now) names.now) (λ place. place) (P.tells house.old) (P.tells house.new)) }
 {
     let mut lanes = Vec::new(alloc);
@@ -59,9 +60,10 @@ where
     P::Src: Drop,
     requires { length options.now.lanes ≤ 16 }
     ensures { MatchResult result
-        (λ sources. ReachesAll (names_of options.now) (map P.Src.tells sources.lanes.items ++ P.Src.tells sources.chair ∷ [])
-        (P.tells house.old) (P.tells house.new))
-        (IsUnopened (names_of options.now) (number_of_name (length options.now.lanes)) (P.tells house.old) (P.tells house.new)) }
+        (λ sources. ReachesAll (names_of options.now)
+        (map P.Src.tells sources.lanes.items ++ P.Src.tells sources.chair ∷ []) (P.tells house.old) (P.tells house.new))
+        (IsUnopened (names_of options.now) (number_of_name (length options.now.lanes))
+        (P.tells house.old) (P.tells house.new)) }
 {
     match open_lanes(alloc, options.lanes.as_slice(), house) {
         Err(status) => Err(status),

@@ -34,7 +34,9 @@ pub const COMMANDS: [Command; 5] = [
 impl Command {
     /// The command of this name.
     pub fn named(name: &str) -> Option<Command>
-        ensures { MatchOption result ((c : Command) → name.now ≢ name_of_command c) (λ c. name.now ≡ name_of_command c) }
+        ensures { MatchOption result
+            ((c : Command) → name.now ≢ name_of_command c)
+            (λ c. name.now ≡ name_of_command c) }
     {
         match name {
             "replay" => Some(Command::Replay),
