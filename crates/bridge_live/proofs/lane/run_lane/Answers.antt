@@ -1,5 +1,7 @@
 -- Packet by packet.
-use Rattle.std.proofs.Common.{◌∙◌, refl, sym, arith}
+use Rattle.std.proofs.Common.{ℕ, ◌∙◌, refl, subst, arith}
+use Rattle.hall_core.specs.Hall.{lanes_of}
+use Rattle.bridge_live.specs.Lane.{RunsLane}
 use Rattle.bridge_live.proofs.Flowing.{within-reader, lane-begins}
 use Rattle.bridge_live.proofs.lane.run_lane.Goals as goal
 
@@ -28,5 +30,7 @@ returns-in-Err g c =
     record {
       at_lock = e.at_lock;
       number = e.number ∙ i.number;
-      runs = rw sym (e.number ∙ i.number) (e.reads (g.S.Source.tells c.args.source.now) c.args.lane.now.seat i.flowed);
+      runs = subst (λ (n : ℕ). RunsLane (lanes_of c.args.lock.now.opening) n (g.S.Source.tells c.args.source.now) (g.S.Source.tells c.take_packet.new.source) c.args.lane.now.seat
+          c.take_packet.new.lane.seat c.in-Err.stop c.take_packet.new.lane.counts) (e.number ∙ i.number)
+          (e.reads (g.S.Source.tells c.args.source.now) c.args.lane.now.seat i.flowed);
     }
