@@ -3,6 +3,8 @@ use Rattle.std.proofs.Common.{◌≡◌, ◌⊎◌, ℕ, List, [], ◌∷◌, �
 use Rattle.command_words.specs.Asks.{Asks}
 use Rattle.command_words.specs.Options.{Text}
 use Rattle.command_words.proofs.OneJob.{one_job}
+use Rattle.command_words.specs.declared.fault.WordsFault.{WordsFault}
+use Rattle.command_words.specs.declared.fault.WordsFault.TheVariants as words_fault
 use Rattle.command_words.specs.declared.job.Job.{Job}
 use Rattle.command_words.specs.declared.job.Job.TheVariants.{Live}
 use Rattle.command_words.specs.declared.job.LiveOptions.{LiveOptions}
@@ -15,7 +17,7 @@ use Rattle.bridge_live.specs.Serve.{IsServedWhole, Serves}
 use Rattle.bridge_live.specs.declared.ends.ServeEnd.{ServeEnd}
 use Rattle.bridge_cli.specs.Runs.{Notes, settings_of, without_note}
 use Rattle.bridge_cli.specs.Answers.{Retells}
-use Rattle.bridge_cli.specs.Notes.{fault_line, line_for, tally_line}
+use Rattle.bridge_cli.specs.Notes.{fault_line, line_for, status_of_words, tally_line}
 use Rattle.bridge_cli.specs.Opening.{CannotOpen, GivesAll, IsUnopened, Misses, MissesAt, ReachesAll, TakeEntries, number_of_name}
 use Rattle.bridge_cli.proofs.Exact.{none_misses, one_place}
 use Rattle.io_edge.specs.Directory.{NamedOctets, Directory}
@@ -40,6 +42,11 @@ refused_opening words o before after status.Limit asked why = absurd why
 refused_opening words o before after status.NoteFault asked why = absurd why
 
 -- words that ask for another job, or for none, or that were not read
+pub words_unread : (words : List Text) (e : WordsFault) (s : Status) → s ≡ status_of_words e
+    → ((job : Job) → Asks words job → e ≡ words_fault.Usage → ⊥) → (s ≡ status.NoMemory) ⊎ ((s ≡ status.Usage) × AskNoLive words)
+words_unread words words_fault.Usage s is none = inr (is, λ o asked. none (Live o) asked refl)
+words_unread words words_fault.NoMemory s is none = inl is
+
 pub refused_words : (words : List Text) (before : Directory) (s : Status) → (s ≡ status.NoMemory) ⊎ ((s ≡ status.Usage) × AskNoLive words)
     → WhyRefused words before before s
 refused_words words before s (inl is) = subst (WhyRefused words before before) (sym is) refl
