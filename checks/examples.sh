@@ -35,10 +35,24 @@ try_line '"$1" < "$2"' "$examples/h261_of_frames.py" cut.rtp
 ended "h261_of_frames.py of a stream that is cut" 1
 said "after 2 pictures: the stream ends inside a frame"
 try_line '"$1" < "$2"' "$examples/h261_of_frames.py" short.rtp
-ended "h261_of_frames.py of what is no RTP" 1
-said "after 0 pictures: no RTP packet of version 2"
+ended "h261_of_frames.py of what is no RTP" 0
+said "h261_of_frames.py: 0 pictures"
+# of three pictures the first one is not whole
+python3 - > two.h261 << END
+import sys
+sys.path.insert(0, "$top/checks")
+import lanes
+sys.stdout.buffer.write(b"".join(map(lanes.octets_of, lanes.PICTURES[1:])))
+END
+for case in lost unusable; do
+    python3 "$top/checks/lanes.py" $case > $case.rtp
+    try_line '"$1" < "$2"' "$examples/h261_of_frames.py" $case.rtp
+    ended "h261_of_frames.py, a packet $case" 0
+    wrote two.h261
+    said "h261_of_frames.py: 2 pictures"
+done
 try "$examples/h261_of_frames.py" composed.rtp
-ended "h261_of_frames.py with a word" 1
+ended "h261_of_frames.py with a word" 2
 said "h261_of_frames.py < PACKETS > VIDEO.h261"
 
 # from lanes to a conference file, and through the program
@@ -59,7 +73,7 @@ for place in 1 2 3 4; do
 done
 lanes "$bars" "$bars" "$bars" "$bars" "$bars"
 ended "conference_of_lanes.py of five lanes" 0
-said "conference_of_lanes.py: 5 lanes, 79 packets and commands"
+said "conference_of_lanes.py: 5 lanes, 79 packets and commands, 15 ticks, 0.5 seconds"
 cp out five.conf
 try_line '"$1" replay < five.conf' "$program"
 ended "its file" 0
@@ -81,11 +95,32 @@ echo 1 > timed.rtp.times
 lanes timed.rtp
 ended "conference_of_lanes.py of too few times" 1
 said "timed.rtp.times has 1 times, and the lane has 15 packets"
+for case in jumping junk; do
+    python3 "$top/checks/lanes.py" $case > $case.rtp
+done
+lanes --step=31 jumping.rtp
+ended "conference_of_lanes.py of timestamps that jump" 0
+said "jumping.rtp: the timestamp of packet 3 jumps by 10000.0 seconds"
+said "jumping.rtp: another sender begins with packet 5"
+said "1 lanes, 6 packets and commands, 9668 ticks, "
+lanes --step=3 junk.rtp
+ended "conference_of_lanes.py of packets that are no RTP" 0
+said "junk.rtp: 3 packets are no RTP, and are passed over"
+is "its file is the one without them" cmp out many.conf
+printf '0 place 1 0\n\n1.5 speaker 16\n' > chair
+lanes --chair=chair "$bars"
+ended "conference_of_lanes.py of a line that says no command" 1
+wrote_nothing
+said "chair, line 3: no second with a command behind it: 1.5 speaker 16"
+printf 'soon place 1 0\n' > chair
+lanes --chair=chair "$bars"
+ended "conference_of_lanes.py of a second that is none" 1
+said "chair, line 1: soon is no number of seconds"
 lanes nothing.rtp
 ended "conference_of_lanes.py of a lane that is not there" 1
 said "No such file"
 lanes --step=0 "$bars"
-ended "conference_of_lanes.py with a step that is none" 1
+ended "conference_of_lanes.py with a step that is none" 2
 said "conference_of_lanes.py [--step=N] [--chair=FILE] LANE.. > CONFERENCE"
 
 # live, through FIFOs: what it writes is what its replay writes; and two lanes at their own pace
@@ -101,6 +136,31 @@ is "none is lost" grep -q " gaps 0$" "$room/err"
 try "$examples/live.sh" live.rtp
 ended "live.sh without a lane" 2
 said "A live conference of recorded lanes"
+# at a signal the timer and the senders stop, the conference ends in order, and nothing is left
+seq 0 1 14 > slow.rtp.times
+cp "$bars" slow.rtp
+mkdir left
+for signal in HUP TERM; do
+    rm -f live.rtp
+    TMPDIR=$room/left PROGRAM=$program "$examples/live.sh" live.rtp slow.rtp slow.rtp 2> live.notes &
+    process=$!
+    for _ in $(seq 50); do
+        [ ! -s live.rtp ] || break
+        sleep 0.1
+    done
+    kill -s $signal $process
+    is "live.sh at a signal" wait $process
+    is "its line" grep -q "^done ticks " live.notes
+    is "its folder is gone" test -z "$(ls left)"
+    is "its pictures are frames" "$program" check --format=cif < live.rtp
+done
+try "$examples/timer.py" --step=2 --seconds=0.3
+ended "timer.py" 0
+is "four lines of two picture times, or fewer of more" test "$(awk '{ sum += $1 } END { print sum }' out)" -eq 8
+try_line '"$1" | head -n 2' "$examples/timer.py"
+ended "timer.py that nobody reads any more" 0
+try "$examples/timer.py" --step=32
+ended "timer.py with a step that is none" 2
 try "$examples/send_lane.py" "$bars"
 ended "send_lane.py" 0
 wrote "$bars"
@@ -115,11 +175,51 @@ is "it is a PNG" test "$(od -An -c -N8 out | tr -d ' ')" = '211PNG\r\n032\n'
 try_line '"$1" 2 < grey.yuv' "$examples/png_of_planes.py"
 ended "png_of_planes.py of a picture that is not there" 1
 
-# recorded datagrams
-try python3 "$top/checks/lanes.py" recorded
-ended "record_lane.py's frames" 0
-python3 "$top/checks/lanes.py" frames > frames.rtp
+# datagrams: what comes to a port, to the end by a signal
+for case in frames renumbered; do
+    python3 "$top/checks/lanes.py" $case > $case.rtp
+done
+port=$(python3 "$top/checks/lanes.py" port)
+for signal in INT TERM; do
+    "$examples/udp_lane.py" "$port" udp.rtp 2> udp.notes &
+    process=$!
+    for _ in $(seq 100); do
+        ! grep -q "listening on port $port" udp.notes || break
+        sleep 0.1
+    done
+    python3 "$top/checks/lanes.py" sent "$port"
+    for _ in $(seq 100); do
+        ! cmp -s udp.rtp frames.rtp || break
+        sleep 0.1
+    done
+    try "$examples/udp_lane.py" "$port" udp.rtp
+    ended "udp_lane.py at a port that is taken" 1
+    said "in use"
+    kill -s $signal $process
+    is "udp_lane.py at SIG$signal" wait $process
+    is "its frames" cmp udp.rtp frames.rtp
+    is "its line" grep -qx "udp_lane.py: RTP packets: 2; left out: 3; senders: 1" udp.notes
+    is "its times" test "$(wc -l < udp.rtp.times)" -eq 2
+done
+try_line '{ sleep 1; python3 "$2" sent "$3"; } & "$1" --silence=0.5 "$3" -' "$examples/udp_lane.py" "$top/checks/lanes.py" "$port"
+ended "udp_lane.py that ends with the packets" 0
 wrote frames.rtp
-said "recorded: 2; left out: 2; times: 1.000000 3.000000"
+try python3 "$top/checks/lanes.py" numbered
+ended "udp_lane.py's numbers" 0
+wrote renumbered.rtp
+said "packets: 8; left out: 1; senders: 3; times: 0.000000 0.100000 0.200000 0.300000 0.400000 0.600000 1.700000 1.800000"
+for word in 0 65536 port; do
+    try "$examples/udp_lane.py" $word udp.rtp
+    ended "udp_lane.py with the port $word" 2
+done
+
+# each script tells what it is for
+for script in "$examples"/*.sh "$examples"/*.py; do
+    [ -x "$script" ] || continue
+    try "$script" --help
+    ended "$(basename "$script") --help" 0
+    said_nothing
+    is "it says something" test -s out
+done
 
 tell "checks/examples.sh"

@@ -1,12 +1,14 @@
 #!/usr/bin/env python3
-"""Writes streams for checks/examples.sh: lanes.py many|bare|cut|short|recorded|frames."""
+"""Writes streams for checks/examples.sh: lanes.py many|bare|cut|short|lost|unusable|jumping|junk|numbered|renumbered|frames; or tells a
+free UDP port: lanes.py port; or sends datagrams there: lanes.py sent PORT."""
 import io
 import pathlib
+import socket
 import sys
 
 sys.dont_write_bytecode = True
 sys.path.insert(0, str(pathlib.Path(__file__).parent.parent / "examples"))
-import record_lane  # noqa: E402
+import udp_lane  # noqa: E402
 from make_examples import grey_picture, striped_picture  # noqa: E402
 
 PICTURES = [striped_picture(), grey_picture(), striped_picture()]
@@ -39,8 +41,28 @@ def framed(packets):
     return b"".join(len(it).to_bytes(2, "big") + it for it in packets)
 
 
-RTP = [b"\x80\x1f" + bytes(14), b"\x80\x9f" + bytes(20)]
+def rtp(number, source, stamp=0, more=b""):
+    """An RTP packet of a source with nothing that a picture has."""
+    return b"\x80\x1f" + number.to_bytes(2, "big") + stamp.to_bytes(4, "big") + source + more
+
+
+RTP = [rtp(7, b"lane"), rtp(8, b"lane", more=bytes(8))]
 RTCP = [b"\x80\xc8" + bytes(26), b"\x81\xc9" + bytes(6)]
+DATAGRAMS = [RTP[0], RTCP[0], RTP[1], RTCP[1], b"\x80\x1f"]
+
+# What comes of a sender that ends, of another that begins, of the first one again at once, and of it after a silence; each with
+# its second, and the number that it is to have, or None where it is to be left out.
+SENDERS = [
+    (0.0, rtp(65535, b"left"), 65535),
+    (0.1, rtp(0, b"left"), 0),
+    (0.2, rtp(65534, b"left"), 65534),
+    (0.3, rtp(30000, b"next"), 2),
+    (0.4, rtp(30001, b"next"), 3),
+    (0.5, rtp(1, b"left"), None),
+    (0.6, rtp(29999, b"next"), 1),
+    (1.7, rtp(2, b"left"), 5),
+    (1.8, rtp(3, b"left"), 6),
+]
 
 
 def main(name, sink):
@@ -52,10 +74,31 @@ def main(name, sink):
         sink.write(framed(many())[:-1])
     elif name == "short":
         sink.write(framed([bytes(11)]))
-    elif name == "recorded":
+    elif name == "lost":
+        packets = many()
+        sink.write(framed(packets[:4] + packets[5:]))
+    elif name == "unusable":
+        packets = many()
+        sink.write(framed([*packets[:4], b"junk", *packets[4:]]))
+    elif name == "jumping":
+        stamps = [0, 3003, 900000000, 900003003]
+        sink.write(framed([rtp(count, b"lane", stamp) for count, stamp in enumerate(stamps)] + [rtp(9, b"next", 77)]))
+    elif name == "junk":
+        sink.write(framed([b"junk", *RTCP, *many()]))
+    elif name == "numbered":
         times = io.StringIO()
-        counts = record_lane.record(enumerate([RTP[0], RTCP[0], RTP[1], RTCP[1]], 1), sink, times)
-        print("recorded: %d; left out: %d; times:" % counts, *times.getvalue().split(), file=sys.stderr)
+        counts = udp_lane.record(((second, packet) for second, packet, _ in SENDERS), sink, times)
+        print("packets: %d; left out: %d; senders: %d; times:" % counts, *times.getvalue().split(), file=sys.stderr)
+    elif name == "port":
+        with socket.socket(socket.AF_INET, socket.SOCK_DGRAM) as its:
+            its.bind(("", 0))
+            print(its.getsockname()[1])
+    elif name == "sent":
+        with socket.socket(socket.AF_INET, socket.SOCK_DGRAM) as its:
+            for datagram in DATAGRAMS:
+                its.sendto(datagram, ("127.0.0.1", int(sys.argv[2])))
+    elif name == "renumbered":
+        sink.write(framed([packet[:2] + number.to_bytes(2, "big") + packet[4:] for _, packet, number in SENDERS if number is not None]))
     elif name == "frames":
         sink.write(framed(RTP))
 

@@ -19,6 +19,7 @@ import time
 
 from make_examples import END, group_header, header, order, sent, tick
 from rtp_frames import Fault, bits_of, framed, pictures
+from words import told
 
 PLACED = "place 1 0"
 PICTURE_HEADER = 32
@@ -180,8 +181,7 @@ def main(program, name):
 
 
 if __name__ == "__main__":
-    if len(sys.argv) != 3:
-        sys.exit(__doc__)
+    told(__doc__, sys.argv[1:], len(sys.argv) == 3)
     try:
         sys.exit(main(*sys.argv[1:]))
     except (Fault, OSError, subprocess.CalledProcessError) as fault:

@@ -1,6 +1,9 @@
 #!/usr/bin/env python3
 """Writes the conference files of this folder from their descriptions (docs/FORMATS.md says what each octet means)."""
 import pathlib
+import sys
+
+from words import told
 
 # The groups of a QCIF picture.
 NUMBERS = (1, 3, 5)
@@ -217,4 +220,5 @@ def main(folder):
 
 
 if __name__ == "__main__":
+    told(__doc__, sys.argv[1:], len(sys.argv) == 1)
     main(pathlib.Path(__file__).parent)

@@ -7,6 +7,8 @@ import struct
 import sys
 import zlib
 
+from words import told
+
 WIDTH, HEIGHT = 352, 288
 LUMINANCE, COLOUR = WIDTH * HEIGHT, WIDTH * HEIGHT // 4
 SIZE = LUMINANCE + 2 * COLOUR
@@ -62,8 +64,7 @@ def picture_of(stream, number):
 
 if __name__ == "__main__":
     words = sys.argv[1:]
-    if len(words) != 1 or not words[0].isdecimal():
-        sys.exit(__doc__)
+    told(__doc__, words, len(words) == 1 and words[0].isdecimal())
     found = picture_of(sys.stdin.buffer, int(words[0]))
     if found is None:
         sys.exit("png_of_planes.py: there is no such picture")

@@ -26,9 +26,34 @@ def framed(packet):
     return struct.pack(">H", len(packet)) + packet
 
 
+def is_rtcp(octets):
+    """Whether the second octet is the type of an RTCP packet (RFC 5761, section 4)."""
+    return len(octets) > 1 and 192 <= octets[1] <= 223
+
+
+def is_rtp(octets):
+    """Whether the fixed header of an RTP packet of version 2 is there."""
+    return len(octets) >= 12 and octets[0] >> 6 == 2
+
+
+def number_of(octets):
+    """The sequence number of an RTP packet."""
+    return int.from_bytes(octets[2:4], "big")
+
+
+def stamp_of(octets):
+    """The timestamp of an RTP packet."""
+    return int.from_bytes(octets[4:8], "big")
+
+
+def ssrc_of(octets):
+    """The synchronization source of an RTP packet."""
+    return int.from_bytes(octets[8:12], "big")
+
+
 def payload_of(octets):
     """What stands between the headers of an RTP packet and its padding."""
-    if len(octets) < 12 or octets[0] >> 6 != 2:
+    if not is_rtp(octets):
         raise Fault("no RTP packet of version 2")
     begin, end = 12 + 4 * (octets[0] & 15), len(octets)
     if octets[0] & 0x10:
@@ -52,16 +77,23 @@ def packet_of(octets):
 
 
 def pictures(stream):
-    """The packets of each picture of a stream, in its order. What stands before the first picture start is passed over."""
-    packets = []
+    """The packets of each picture of a stream that is there whole, in its order. A packet that is missing or not usable costs
+    the picture around it, and no more; what stands before a picture start is passed over."""
+    packets, due = [], None
     for octets in frames(stream):
-        packet = packet_of(octets)
-        if packet.bits.startswith(PICTURE_START):
-            packets = []
-        elif not packets:
+        try:
+            packet = packet_of(octets)
+        except Fault:
+            packets, due = [], None
             continue
-        packets.append(packet)
-        if packet.marker:
+        if packet.bits.startswith(PICTURE_START):
+            packets = [packet]
+        elif packets and number_of(octets) == due:
+            packets.append(packet)
+        else:
+            packets = []
+        due = (number_of(octets) + 1) % (1 << 16)
+        if packets and packet.marker:
             yield packets
             packets = []
 

@@ -2,13 +2,14 @@
 """Sends the packets of recorded lanes as if they came now: send_lane.py LANE > FIFO
 
 LANE holds framed RTP packets with QCIF video, and LANE.times beside it, where it is there, the second at which each came
-(record_lane.py writes both); else the packets' timestamps say it. Each packet is written at once when its time has come,
+(udp_lane.py writes both); else the packets' timestamps say it. Each packet is written at once when its time has come,
 counted from the first one."""
 import sys
 import time
 
 from conference_of_lanes import read_lanes
 from rtp_frames import Fault, framed
+from words import told
 
 
 def send(packets, out):
@@ -21,8 +22,7 @@ def send(packets, out):
 
 
 if __name__ == "__main__":
-    if len(sys.argv) != 2:
-        sys.exit(__doc__)
+    told(__doc__, sys.argv[1:], len(sys.argv) == 2)
     try:
         send(next(read_lanes(sys.argv[1:])), sys.stdout.buffer)
     except BrokenPipeError:
