@@ -55,6 +55,69 @@ try "$examples/h261_of_frames.py" composed.rtp
 ended "h261_of_frames.py with a word" 2
 said "h261_of_frames.py < PACKETS > VIDEO.h261"
 
+# from bare video to a lane, cut before groups where a picture is longer than a packet
+for case in bare noisy; do
+    python3 "$top/checks/lanes.py" $case > $case.h261
+    try_line '"$1" --mtu=1000 < "$2"' "$examples/lane_of_h261.py" $case.h261
+    ended "lane_of_h261.py of $case video" 0
+    cp out $case.rtp
+    try_line '"$1" < "$2"' "$examples/h261_of_frames.py" $case.rtp
+    wrote $case.h261
+    try_line '"$1" check < "$2"' "$program" $case.rtp
+    ended "its lane" 0
+done
+said "done pictures 4 gaps 0"
+is "a group has a packet" test "$(python3 -c 'import sys
+sys.path.insert(0, sys.argv[1])
+from rtp_frames import frames
+print(len(list(frames(open("noisy.rtp", "rb")))))' "$examples")" -eq 12
+is "TR says the time" test "$(python3 -c 'import sys
+sys.path.insert(0, sys.argv[1])
+from rtp_frames import frames, stamp_of
+print(*sorted({stamp_of(it) for it in frames(open("noisy.rtp", "rb"))}))' "$examples")" = "0 3003 15015 108108"
+python3 "$top/checks/lanes.py" cif > cif.h261
+try_line '"$1" < "$2"' "$examples/lane_of_h261.py" cif.h261
+ended "lane_of_h261.py of CIF" 1
+said "picture 1 is CIF, and a lane has QCIF"
+try "$examples/lane_of_h261.py"
+ended "lane_of_h261.py of nothing" 1
+said "there is no picture"
+try "$examples/lane_of_h261.py" --mtu=999
+ended "lane_of_h261.py with packets that are too short" 2
+
+# from lanes to a capture and back, and from a capture of another kind
+try "$examples/pcap_of_frames.py" --port=5010 "$examples/bars_lane.rtp"
+ended "pcap_of_frames.py" 0
+cp out bars.pcap
+try "$examples/lanes_of_pcap.py" bars.pcap bars
+ended "lanes_of_pcap.py" 0
+wrote_nothing
+said "lanes_of_pcap.py: bars-5010-043f65b3.rtp: 15 packets, 0.5 seconds"
+is "its lane" cmp bars-5010-043f65b3.rtp "$examples/bars_lane.rtp"
+is "its times" test "$(sed -n 2p bars-5010-043f65b3.rtp.times)" = 0.033367
+try "$examples/pcap_of_frames.py" --port=5010 bars-5010-043f65b3.rtp
+ended "pcap_of_frames.py by times" 0
+wrote bars.pcap
+python3 "$top/checks/lanes.py" pcapng > two.pcapng
+python3 "$top/checks/lanes.py" frames > frames.rtp
+try "$examples/lanes_of_pcap.py" two.pcapng two
+ended "lanes_of_pcap.py of a pcapng file" 0
+said "two-5004-6c616e65.rtp: 2 packets, 1.0 seconds"
+said "two-5006-6c616e65.rtp: 1 packets, 0.0 seconds"
+is "its packets" cmp two-5004-6c616e65.rtp frames.rtp
+is "its times, to a microsecond" test "$(tr '\n' ' ' < two-5004-6c616e65.rtp.times)" = "1500000000.000000 1500000001.000002 "
+is "the times of the other one" test "$(cat two-5006-6c616e65.rtp.times)" = 1500000000.250000
+head -c 200 two.pcapng > cut.pcapng
+try "$examples/lanes_of_pcap.py" cut.pcapng cut
+ended "lanes_of_pcap.py of a capture that is cut" 1
+said " is not whole"
+try "$examples/lanes_of_pcap.py" "$examples/bars_lane.rtp" none
+ended "lanes_of_pcap.py of what is no capture" 1
+said "this is no capture"
+try "$examples/lanes_of_pcap.py" --type=96 two.pcapng none
+ended "lanes_of_pcap.py of a type that is not there" 1
+said "no RTP packet has payload type 96"
+
 # from lanes to a conference file, and through the program
 lanes() {
     try "$examples/conference_of_lanes.py" "$@"

@@ -1,15 +1,17 @@
 #!/usr/bin/env python3
-"""Writes streams for checks/examples.sh: lanes.py many|bare|cut|short|lost|unusable|jumping|junk|numbered|renumbered|frames; or tells a
-free UDP port: lanes.py port; or sends datagrams there: lanes.py sent PORT."""
+"""Writes streams for checks/examples.sh: lanes.py many|bare|cut|short|lost|unusable|jumping|junk|numbered|renumbered|frames|noisy|
+cif|pcapng; or tells a free UDP port: lanes.py port; or sends datagrams there: lanes.py sent PORT."""
 import io
 import pathlib
+import random
 import socket
+import struct
 import sys
 
 sys.dont_write_bytecode = True
 sys.path.insert(0, str(pathlib.Path(__file__).parent.parent / "examples"))
 import udp_lane  # noqa: E402
-from make_examples import grey_picture, striped_picture  # noqa: E402
+from make_examples import group_header, intra, grey_picture, picture_header, striped_picture  # noqa: E402
 
 PICTURES = [striped_picture(), grey_picture(), striped_picture()]
 
@@ -65,6 +67,57 @@ SENDERS = [
 ]
 
 
+def noisy(tr):
+    """A picture whose groups are longer than the shortest packet, with coefficients that are drawn."""
+    chosen = random.Random(tr)
+    groups = []
+    for number in (1, 3, 5):
+        macroblocks = (intra("01000000" + "".join(escape(chosen) for _ in range(3)), "01000000") for _ in range(33))
+        groups.append(group_header(number, 8) + "".join(macroblocks))
+    return picture_header(tr, "000011") + "".join(groups)
+
+
+def escape(chosen):
+    """A coefficient behind an escape, with a run and a level that are drawn."""
+    return "000001" + format(chosen.randrange(1, 4), "06b") + format(chosen.randrange(1, 100), "08b")
+
+
+def udp(packet, port):
+    return struct.pack(">HHHH", 9, port, 8 + len(packet), 0) + packet
+
+
+def ip(datagram, fragment=0x4000):
+    return struct.pack(">BBHHHBBH8x", 0x46, 0, 24 + len(datagram), 0, fragment, 9, 17, 0) + bytes(4) + datagram
+
+
+def ip6(datagram):
+    return struct.pack(">IHBB32x", 6 << 28, len(datagram), 17, 9) + datagram
+
+
+def block(kind, body):
+    body += bytes(-len(body) % 4)
+    return struct.pack(">II", kind, 12 + len(body)) + body + struct.pack(">I", 12 + len(body))
+
+
+def pcapng():
+    """A capture of two interfaces, one that counts in nanoseconds, with two streams and what is passed over."""
+    ethernet = bytes(12) + b"\x81\0\0\7\x08\0"
+    cooked = b"\x86\xdd" + bytes(18)
+    frames = [
+        (0, 1500000000 * 10**9, ethernet + ip(udp(RTP[0], 5004))),
+        (1, 1500000000 * 10**6 + 250000, cooked + ip6(udp(RTP[0], 5006))),
+        (0, 1500000000 * 10**9 + 500, ethernet + ip(udp(RTCP[0], 5004))),
+        (0, 1500000000 * 10**9 + 600, ethernet + ip(udp(RTP[1], 5004), 0x2000)),
+        (0, 1500000000 * 10**9 + 700, bytes(12) + b"\x08\x06" + bytes(28)),
+        (0, 1500000001 * 10**9 + 1600, ethernet + ip(udp(RTP[1], 5004))),
+    ]
+    yield block(0x0A0D0D0A, struct.pack(">IHHq", 0x1A2B3C4D, 1, 0, -1))
+    yield block(1, struct.pack(">HHIHHB3x", 1, 0, 65535, 9, 1, 9) + bytes(4))
+    yield block(1, struct.pack(">HHI", 276, 0, 65535))
+    for interface, time, frame in frames:
+        yield block(6, struct.pack(">IIIII", interface, time >> 32, time & 0xFFFFFFFF, len(frame), len(frame)) + frame)
+
+
 def main(name, sink):
     if name == "many":
         sink.write(framed(many()))
@@ -89,6 +142,12 @@ def main(name, sink):
         times = io.StringIO()
         counts = udp_lane.record(((second, packet) for second, packet, _ in SENDERS), sink, times)
         print("packets: %d; left out: %d; senders: %d; times:" % counts, *times.getvalue().split(), file=sys.stderr)
+    elif name == "noisy":
+        sink.write(b"".join(octets_of(noisy(tr)) for tr in (3, 4, 8, 7)))
+    elif name == "cif":
+        sink.write(octets_of(picture_header(0, "000111") + group_header(1, 8)))
+    elif name == "pcapng":
+        sink.writelines(pcapng())
     elif name == "port":
         with socket.socket(socket.AF_INET, socket.SOCK_DGRAM) as its:
             its.bind(("", 0))

@@ -28,7 +28,14 @@ JUMP = 10
 
 # The commands of the chair, each with the ranges of its numbers: a place, or a lane.
 PLACE, LANE = range(1, 5), range(16)
-COMMANDS = {"place": (PLACE, LANE), "clear": (PLACE,), "swap": (PLACE, PLACE), "speaker": (LANE,), "pin": (PLACE,), "unpin": (PLACE,)}
+COMMANDS = {
+    "place": (PLACE, LANE),
+    "clear": (PLACE,),
+    "swap": (PLACE, PLACE),
+    "speaker": (LANE,),
+    "pin": (PLACE,),
+    "unpin": (PLACE,),
+}
 
 # What comes first where two come at the same time.
 COMMAND, PACKET = 0, 1
