@@ -1,5 +1,5 @@
 -- The first name that finds no entry is one.
-use Rattle.std.proofs.Common.{◌≡◌, ◌≢◌, ℕ, List, [], ◌∷◌, ◌++◌, Option, Some, length, refl, sym, ap, ap₂, subst, ◌∙◌, suc, inl, inr, ◌⊎◌}
+use Rattle.std.proofs.Common.{◌≡◌, ◌≢◌, ℕ, List, [], ◌∷◌, ◌++◌, length, refl, sym, ap, ap₂, subst, ◌∙◌, suc}
 use Rattle.std.proofs.lemmas.List.Elements.{All-head, All-tail}
 use Rattle.command_words.specs.Options.{Text}
 use Rattle.io_edge.specs.Directory.{NamedOctets, TakesEntry, HasNone}

@@ -1,5 +1,5 @@
 -- What a call of `live` comes to, by its end and by what told of it.
-use Rattle.std.proofs.Common.{◌≡◌, ◌⊎◌, ℕ, List, [], ◌∷◌, ◌++◌, Option, Some, length, map, refl, sym, ap, subst, ◌∙◌, inl, inr}
+use Rattle.std.proofs.Common.{◌≡◌, ◌⊎◌, ℕ, List, [], ◌∷◌, ◌++◌, Some, length, map, refl, sym, ap, subst, ◌∙◌, inl, inr}
 use Rattle.command_words.specs.Asks.{Asks}
 use Rattle.command_words.specs.Options.{Text}
 use Rattle.command_words.proofs.OneJob.{one_job}
@@ -10,7 +10,6 @@ use Rattle.command_words.specs.declared.job.Job.TheVariants.{Live}
 use Rattle.command_words.specs.declared.job.LiveOptions.{LiveOptions}
 use Rattle.io_edge.specs.Causes.{Rose}
 use Rattle.cif_pack.specs.declared.packer.Settings.{Settings}
-use Rattle.bridge_live.specs.Endings.{HandedIn}
 use Rattle.bridge_live.specs.Handed.{ending_of, given_of}
 use Rattle.io_edge.specs.Outside.{Input, Output}
 use Rattle.bridge_live.specs.Serve.{IsServedWhole, Serves}

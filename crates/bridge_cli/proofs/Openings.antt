@@ -1,13 +1,12 @@
 -- Names that are opened one after the other.
-use Rattle.std.proofs.Common.{◌≡◌, ◌≢◌, ℕ, ◌+◌, ◌<◌, ◌≤◌, List, [], ◌∷◌, ◌++◌, Option, None, Some, Result, Ok, Err, Bool, true, false, length, map, take, cond, nat_lt, refl, sym, ap, subst, ◌∙◌, arith, append_assoc, get_or, suc, drop, drop-cons}
-use Rattle.std.specs.Bool.{⊤}
+use Rattle.std.proofs.Common.{◌≡◌, ℕ, ◌+◌, ◌<◌, List, [], ◌∷◌, ◌++◌, Option, None, Some, Ok, Err, true, false, length, map, take, cond, nat_lt, refl, sym, ap, subst, ◌∙◌, arith, append_assoc, get_or, suc, drop, drop-cons}
 use Rattle.std.proofs.lemmas.Bool.Decides.{nat_tests}
 use Rattle.std.proofs.lemmas.List.{length-append, length-map, length-take-le, map-append, length_push, map_push, map_more, take-append-drop}
 use Rattle.std.specs.Borrow.{Bor}
 use Rattle.command_words.specs.Options.{Text}
 use Rattle.io_edge.specs.Causes.{Rose}
 use Rattle.io_edge.specs.declared.edges.Failed.{Failed}
-use Rattle.io_edge.specs.Directory.{NamedOctets, Directory, TakesEntry, HasNone, Reaches}
+use Rattle.io_edge.specs.Directory.{NamedOctets, Directory, TakesEntry, Reaches}
 use Rattle.io_edge.specs.Outside.{Input}
 use Rattle.bridge_cli.specs.Opening.{TakeEntries, GivesAll, ReachesAll, Misses, CannotOpen, IsUnopened, number_of_name}
 use Rattle.bridge_cli.specs.declared.status.Status.{Status}

@@ -1,5 +1,5 @@
 -- What words made the call `run` do, by the job that they ask for.
-use Rattle.std.proofs.Common.{◌≡◌, ◌⊎◌, ℕ, ◌≤◌, List, ◌++◌, Some, Result, Ok, Err, length, refl, sym, ap, subst, ◌∙◌, inl, inr}
+use Rattle.std.proofs.Common.{◌≡◌, ◌⊎◌, ℕ, ◌≤◌, List, length, refl, sym, ap, subst, ◌∙◌, inl, inr}
 use Rattle.command_words.specs.Asks.{Asks}
 use Rattle.command_words.specs.Options.{Text}
 use Rattle.command_words.proofs.OneJob.{one_job}
@@ -18,9 +18,11 @@ use Rattle.bridge_replay.specs.Replays.{ReplayEnds, DoneOnWholeFile, IsReadBack}
 use Rattle.bridge_replay.specs.declared.ends.ReplayEnd.{ReplayEnd}
 use Rattle.rtp_h261.specs.UnitEnds.{ReadsUnits}
 use Rattle.rtp_h261.specs.declared.unit_end.UnitEnd.{UnitEnd}
-use Rattle.conf_make.specs.Ends.{IsMakeRun}
+use Rattle.conf_make.specs.Ends.{IsMakeRun, MakeStopsBy}
 use Rattle.conf_make.specs.declared.maker.MakeEnd.{MakeEnd}
+use Rattle.conf_make.specs.declared.maker.MakeStop.{MakeStop}
 use Rattle.conf_make.specs.declared.maker.MakeStop.TheVariants as made
+use Rattle.conf_make.specs.declared.output.MakeTally.{MakeTally}
 use Rattle.pic_report.specs.Report.{lines}
 use Rattle.ref_decode.specs.Planes.{planes_shown}
 use Rattle.bridge_cli.specs.Answers.{DoesAsked}
@@ -133,22 +135,23 @@ decoded words o budget before after end status stop line done asked budget_is re
       | inr wants ↦ inr (told ∙ ap status_of_units wants)
     ])
 
-made_whole : (o : MakeOptions) (before after : Output) (end : MakeEnd) → IsMakeRun o.seed o.ticks o.lanes before after end
-    → (Rose before.faults after.faults → ⊥) → (status_of_make end.stop ≡ Done) ⊎ (status_of_make end.stop ≡ NoMemory)
-made_whole o before after (record { stop = made.Done; tally = t }) run silent = inl refl
-made_whole o before after (record { stop = made.WriteFault; tally = t }) run silent = absurd (silent run.1)
-made_whole o before after (record { stop = made.NoMemory; tally = t }) run silent = inr refl
+made_by : (seed ticks lanes : ℕ) (before after : Output) (stop : MakeStop) (tally : MakeTally) → MakeStopsBy stop seed ticks lanes before after tally
+    → (Rose before.faults after.faults → ⊥) → (status_of_make stop ≡ Done) ⊎ (status_of_make stop ≡ NoMemory)
+made_by seed ticks lanes before after made.Done tally run silent = inl refl
+made_by seed ticks lanes before after made.WriteFault tally run silent = absurd (silent run.1)
+made_by seed ticks lanes before after made.NoMemory tally run silent = inr refl
 
-pub made_file : (words : List Text) (o : MakeOptions) (source : Input) (before after : Output) (end : MakeEnd) (status stop : Status)
-    (line done : List ℕ) → Asks words (Make o) → IsMakeRun o.seed o.ticks o.lanes before after end
+pub made_file : (words : List Text) (o : MakeOptions) (seed : ℕ) (source : Input) (before after : Output) (end : MakeEnd) (status stop : Status)
+    (line done : List ℕ) → Asks words (Make o) → seed ≡ o.seed → IsMakeRun seed o.ticks o.lanes before after end
     → stop ≡ status_of_make end.stop → done ≡ made_line o.ticks end.tally → IsEnd status line stop done
     → DoesAsked words (outside source before) (outside source after) status line
-made_file words o source before after end status stop line done asked run stop_is done_is is =
+made_file words o seed source before after end status stop line done asked same makes stop_is done_is is =
+    let run : IsMakeRun o.seed o.ticks o.lanes before after end = subst (λ (s : ℕ). IsMakeRun s o.ticks o.lanes before after end) same makes in
     let told : status ≡ status_of_make end.stop = is.0 ∙ stop_is in
     does words (Make o) (outside source before) (outside source after) status line asked
     (end, run, refl, told, line_is status stop line done is ∙ ap (λ d. line_for d status) done_is)
     (λ has quiet silent.
-    elim (made_whole o before after end run silent) [
+    elim (made_by o.seed o.ticks o.lanes before after end.stop end.tally run silent) [
       | inl at_end ↦ inl (told ∙ at_end)
       | inr wants ↦ inr (told ∙ wants)
     ])

@@ -1,5 +1,5 @@
 -- What a call of `live` did: what it opened, the conference that it held, and how it tells of it.
-use Rattle.std.specs.Prelude.{⊤, ◌≡◌, ◌⊎◌, ℕ, ◌+◌, ◌*◌, ◌≤◌, List, [], ◌∷◌, ◌++◌, length, map, sum, Option, Some}
+use Rattle.std.specs.Prelude.{◌≡◌, ◌⊎◌, ℕ, ◌+◌, ◌*◌, ◌≤◌, List, [], ◌∷◌, ◌++◌, length, sum, Some}
 use Rattle.command_words.specs.Asks.{Asks}
 use Rattle.command_words.specs.Options.{Text}
 use Rattle.command_words.specs.declared.job.Job.TheVariants.{Live}

@@ -9,6 +9,6 @@ returns-in-Ok-open_all g c = c.hold.ensures (map string_bytes c.args.words.now) 
 pub returns-in-Err : goal.returns-in-Err
 returns-in-Err g c = (refused_words (map string_bytes c.args.words.now) _ c.in-Err.status c.in-Err.ensures, refl, refl)
 
-pub returns-in-Err-open_all : goal.returns-in-Err-open_all
-returns-in-Err-open_all g c =
+pub returns : goal.returns
+returns g c =
     (refused_opening (map string_bytes c.args.words.now) _ _ _ c.in-Err-open_all.status c.in-Ok.ensures.0 c.in-Err-open_all.ensures, refl, refl)

@@ -1,5 +1,5 @@
 -- The lanes are opened, and then the chair.
-use Rattle.std.proofs.Common.{◌≡◌, ◌∷◌, [], ◌++◌, length, map, refl, subst, sym}
+use Rattle.std.proofs.Common.{◌∷◌, [], ◌++◌, length, map, refl, subst}
 use Rattle.io_edge.specs.Directory.{Directory}
 use Rattle.bridge_cli.specs.Opening.{IsUnopened, ReachesAll, number_of_name}
 use Rattle.bridge_cli.specs.declared.status.Status.TheVariants.{OpenFault}
