@@ -219,7 +219,7 @@ for signal in HUP TERM; do
 done
 try "$examples/timer.py" --step=2 --seconds=0.3
 ended "timer.py" 0
-is "four lines of two picture times, or fewer of more" test "$(awk '{ sum += $1 } END { print sum }' out)" -eq 8
+is "lines that tell of eight picture times or more" test "$(awk '{ sum += $1 } END { print sum }' out)" -ge 8
 try_line '"$1" | head -n 2' "$examples/timer.py"
 ended "timer.py that nobody reads any more" 0
 try "$examples/timer.py" --step=32
