@@ -3,7 +3,7 @@
 use crate::run::run;
 use crate::status::Status;
 use io_edge::{MemSink, MemSource};
-use std::alloc::{AllocError, Global};
+use std::alloc::Global;
 use std::test::Fail;
 
 /// A conference of one lane with one tick of one step.
@@ -28,7 +28,7 @@ struct Run {
 }
 
 // Runs words over an input.
-fn run_in_memory(alloc: Global, line: &str, input: &[u8]) -> Result<Run, AllocError> {
+fn run_in_memory(alloc: Global, line: &str, input: &[u8]) -> Result<Run, Fail> {
     let mut words = Vec::new(alloc);
     for word in line.split_whitespace() {
         words.push(String::from_str(alloc, word)?)?;
