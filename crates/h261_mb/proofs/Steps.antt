@@ -1,8 +1,10 @@
 -- Walks of several parts, to their end or to a fault.
 use Rattle.std.proofs.Common.{◌≡◌, ℕ, ◌≤◌, List, [], ◌∷◌, ◌++◌, Result, Ok, Err, sym, ◌∙◌, subst, ap, arith}
 use Rattle.pel_model.specs.declared.Fault.{Fault}
+use Rattle.pel_model.specs.declared.Why.{Why}
 use Rattle.pel_model.specs.Walk.{Reading, Standing, Good, Bad, skipped, after, Goes, FailsBehind, Walked}
-use Rattle.pel_model.specs.Grammar.{Element}
+use Rattle.pel_model.specs.Grammar.{Element, Mba, Stuffing}
+use Rattle.h261_mb.specs.State.{FailsThere}
 use Rattle.pel_model.proofs.Walks.{goes-append, after-append}
 
 module _ (next : List Element → Reading → Standing Element) (before : List Element) where
@@ -35,3 +37,27 @@ pub goes_onward : (next : List Element → Reading → Standing Element) (before
 goes_onward next before r end [] walk = omega (arith, ap (λ (r : Reading). r.1) walk)
 goes_onward next before r end (e ∷ es) walk =
     omega (arith, goes_onward next (e ∷ before) (skipped walk.0 r) end es walk.2)
+
+-- what was taken did not fail
+pub not_there : {X : Type 0} (x : X) (f : Fault) → ◌≡◌ {A = Result X Fault} (Ok x) (Err f) → ⊥
+not_there x f is = cc
+
+same_fault : {X : Type 0} (f g : Fault) → ◌≡◌ {A = Result X Fault} (Err f) (Err g) → f ≡ g
+same_fault f g is = cc
+
+-- a fault that was met first is that of the whole
+pub still_fails : {X Y : Type 0} (why : Why) (f : Fault) (old new : Reading) → FailsThere {X = X} why (Err f) old new → FailsThere {X = Y} why (Err f) old new
+still_fails why f old new told = (ap Err (same_fault f _ told.0), told.1)
+
+-- where a word stands, none other does, nor a fault
+pub not_bad : (why : Why) (e : Element) (n : ℕ) (here : Standing Element) → here ≡ Good e n → here ≡ Bad why → ⊥
+not_bad why e n here good bad = clash (sym bad ∙ good)
+  where
+    clash : Bad why ≡ Good e n → ⊥
+    clash h = cc
+
+pub not_stuffing : (d m n : ℕ) (here : Standing Element) → here ≡ Good (Mba d) n → here ≡ Good Stuffing m → ⊥
+not_stuffing d m n here good stuffing = clash (sym stuffing ∙ good)
+  where
+    clash : Good Stuffing m ≡ Good (Mba d) n → ⊥
+    clash h = cc

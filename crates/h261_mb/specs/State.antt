@@ -1,14 +1,19 @@
 -- What the state of a group's macroblocks is to the elements before, and what a macroblock adds to both.
-use Rattle.std.specs.Prelude.{◌≡◌, ℕ, ◌-◌, ◌<◌, ◌≤◌, Bool, ℤ, pos, negsuc, ◌≤ℤ◌, List, ◌∷◌, ◌++◌, length, Option, MatchBool}
+use Rattle.std.specs.Prelude.{◌≡◌, ℕ, ◌-◌, ◌<◌, ◌≤◌, Bool, ℤ, pos, negsuc, ◌≤ℤ◌, List, ◌∷◌, ◌++◌, length, Option, MatchBool, Result, Err, IfOk, IfErr}
+use Rattle.pel_model.specs.declared.Fault.{Fault}
+use Rattle.pel_model.specs.declared.Format.{Format}
 use Rattle.pel_model.specs.declared.Mark.{Mark}
 use Rattle.pel_model.specs.declared.MbKind.{MbKind}
+use Rattle.pel_model.specs.declared.Why.{Why}
+use Rattle.pel_model.specs.declared.Why.TheVariants.{NoCode}
 use Rattle.pel_model.specs.Codes.{is_intra, has_cbp}
 use Rattle.pel_model.specs.Records.{Across, Down, Macroblock}
-use Rattle.pel_model.specs.Walk.{after}
-use Rattle.pel_model.specs.Grammar.{Element, Mba, Mtype, slot, AtMacroblock, block_slot, kind, ones, blocks, group, address, quantiser, vector_component}
+use Rattle.pel_model.specs.Walk.{Reading, Good, Bad, read, after, Walked}
+use Rattle.pel_model.specs.Grammar.{Element, Mba, Mtype, Stuffing, mba_rows, slot, AtMacroblock, block_slot, kind, ones, blocks, group, address, quantiser, vector_component, next}
 use Rattle.pel_model.specs.Elements.{mquant_elements, vector_elements, cbp_elements, macroblock_elements}
 use Rattle.h261_mb.specs.declared.state.MbState.{MbState}
 use Rattle.h261_mb.specs.declared.header.Header.{Header}
+use Rattle.h261_mb.specs.Inside.{IsMacroblockSoFar}
 
 -- ---- what the code asks of a state
 
@@ -80,3 +85,30 @@ pub record IsRead (number from : ℕ) (before : List Element) (state : MbState) 
   pub down_is : macroblock.down ≡ state.v
   pub six : length macroblock.blocks ≡ 6
   pub mark_is : mark ≡ record { at = from; len = new.1 - from; group = number; address = state.address; quant_after = state.quant; h_after = state.h; v_after = state.v; intra = is_intra macroblock.kind }
+
+-- ---- what readers answer
+
+-- nothing was taken, and the fault is where the reader stands
+abbrev pub FailsThere : {X : Type 0} → Why → Result X Fault → (old new : Reading) → Type 0
+FailsThere why result old new = (result ≡ Err (record { place = old.1; why = why })) × (new ≡ old)
+
+-- a header is read behind the elements that the state stands for, or the first fault in it is met; where no word is, or
+-- stuffing, nothing is taken
+pub record ReadsHeader (format : Format) (number : ℕ) (state : MbState) (result : Result Header Fault) (old new : Reading) : Type 0 where
+  pub walk :
+      (before : List Element) (d n : ℕ) → Stands number state before → read mba_rows old.0 ≡ Good (Mba d) n
+      → Walked (next format) before (IsHeader number before) (IsMacroblockSoFar before) result old new
+  pub no_word : (why : Why) → read mba_rows old.0 ≡ Bad why → FailsThere why result old new
+  pub stuffing : (n : ℕ) → read mba_rows old.0 ≡ Good Stuffing n → FailsThere NoCode result old new
+  pub ready : IfOk result (λ header. IsReady (state_behind header))
+  pub onward : IfOk result (λ _. old.1 ≤ new.1)
+
+-- the same of a whole macroblock, whose state is `now` then; after a fault it is as it was
+pub record ScansMacroblock (format : Format) (number : ℕ) (state now : MbState) (result : Result Mark Fault) (old new : Reading) : Type 0 where
+  pub walk :
+      (before : List Element) (d n : ℕ) → Stands number state before → read mba_rows old.0 ≡ Good (Mba d) n
+      → Walked (next format) before (IsRead number old.1 before now) (IsMacroblockSoFar before) result old new
+  pub no_word : (why : Why) → read mba_rows old.0 ≡ Bad why → FailsThere why result old new
+  pub stuffing : (n : ℕ) → read mba_rows old.0 ≡ Good Stuffing n → FailsThere NoCode result old new
+  pub kept : IfErr result (λ _. now ≡ state)
+  pub ready : IfOk result (λ _. IsReady now)

@@ -1,15 +1,12 @@
 //! The header of a macroblock from a window of bits (H.261, 4.2.3). Where an element is not whole in the window or is at fault
 //! there is no answer.
 
-ghost use Rattle.std.specs.Prelude.{◌≡◌, ℕ, ◌-◌, ◌<◌, ◌≤◌, cond, true, List, ◌∷◌, IfSome};
+ghost use Rattle.std.specs.Prelude.{ℕ, List, ◌∷◌, IfSome};
 ghost use Rattle.pel_model.specs.declared.Format.{Format as PictureFormat};
-ghost use Rattle.pel_model.specs.declared.Format.TheVariants.{Cif};
-ghost use Rattle.pel_model.specs.Codes.{is_intra};
-ghost use Rattle.pel_model.specs.Records.{Axis, Across, Down};
-ghost use Rattle.pel_model.specs.Valid.{side as side_of, corner};
+ghost use Rattle.pel_model.specs.Records.{Axis};
 ghost use Rattle.pel_model.specs.Walk.{AreTaken};
-ghost use Rattle.pel_model.specs.Grammar.{Element, Mtype, slot, AtMvd, cbp_slot, kind as kind_before, blocks as blocks_before, group as group_before, address as address_before, vector_component, is_group, next};
-ghost use Rattle.h261_mb.specs.Parts.{IsBegun, IsFront, IsMquant, IsMvd, AreComponents, IsVector, IsPattern, BeginsWithMba};
+ghost use Rattle.pel_model.specs.Grammar.{Element, Mtype, next};
+ghost use Rattle.h261_mb.specs.Parts.{HeaderMayCome, VectorMayCome, MvdMayCome, MvdIsDue, PatternIsDue, IsPlaced, IsNearVector, IsBegun, IsFront, IsMquant, IsMvd, IsVector, IsPattern, BeginsWithMba};
 ghost use Rattle.h261_mb.specs.State.{IsReady, IsNear, Stands, IsHeader, state_behind};
 
 use crate::front::{LAST_ADDRESS, predictor};
@@ -24,8 +21,7 @@ use pel_model::{Format, MbKind};
 /// Takes the header of a macroblock, from MBA to CBP, as `read_header` does.
 #[inline(always)]
 pub fn take_header(w: &mut Window, format: Format, group: u8, state: &MbState) -> Option<Header>
-    requires group { is_group format group ≡ true }
-    requires ready { IsReady state.now }
+    requires { HeaderMayCome format group state.now }
     ensures walk { IfSome result (λ header. (before : List Element) → Stands group state.now before →
         AreTaken (next format) before (IsHeader group before header) w.old w.new) }
     ensures begins { IfSome result (λ _. BeginsWithMba w.old.0) }
@@ -52,8 +48,7 @@ fn take_front(w: &mut Window, state: &MbState) -> Option<Front>
         Stands number state.now before →
         AreTaken (next format) before (IsFront number state.now.address before front) w.old w.new) }
     ensures begins { IfSome result (λ _. BeginsWithMba w.old.0) }
-    ensures within { IfSome result (λ front.
-        (0 < front.address) × (front.address ≤ 33) × IsNear front.h × IsNear front.v) }
+    ensures within { IfSome result IsPlaced }
 {
     let difference = w.mba()?;
     if difference > LAST_ADDRESS - state.address {
@@ -88,32 +83,14 @@ fn take_mquant(w: &mut Window, kind: MbKind, last: u8) -> Option<u8>
 // The vector where the kind has one; else it is its predictor, (0, 0).
 #[inline(always)]
 fn take_vector(w: &mut Window, format: Format, group: u8, front: &Front) -> Option<(i8, i8)>
-    requires group { is_group format group ≡ true }
-    requires address { (0 < front.now.address) × (front.now.address ≤ 33) }
-    requires near { IsNear front.now.h × IsNear front.now.v }
+    requires { VectorMayCome format group front.now }
     ensures walk { IfSome result (λ vector. (before : List Element) → IsBegun group front.now before →
         AreTaken (next format) before (IsVector group front.now before vector) w.old w.new) }
-    ensures near { IfSome result (λ vector. IsNear vector.0 × IsNear vector.1) }
+    ensures near { IfSome result IsNearVector }
 {
-    if has_vector(front.kind) {
-        take_components(w, format, group, front)
-    } else {
-        Some((front.h, front.v))
+    if !has_vector(front.kind) {
+        return Some((front.h, front.v));
     }
-}
-
-// Both components of the vector; `front` has their predictor.
-#[inline(always)]
-fn take_components(w: &mut Window, format: Format, group: u8, front: &Front) -> Option<(i8, i8)>
-    requires group { is_group format group ≡ true }
-    requires address { (0 < front.now.address) × (front.now.address ≤ 33) }
-    requires near { IsNear front.now.h × IsNear front.now.v }
-    ensures walk { IfSome result (λ vector. (before : List Element) → slot before ≡ AtMvd Across →
-        group_before before ≡ group → address_before before ≡ front.now.address →
-        vector_component Across before ≡ front.now.h → vector_component Down before ≡ front.now.v →
-        AreTaken (next format) before (AreComponents front.now vector) w.old w.new) }
-    ensures near { IfSome result (λ vector. IsNear vector.0 × IsNear vector.1) }
-{
     let h = take_mvd(w, front.h, left_edge(group, front.address), width(format))?;
     let v = take_mvd(w, front.v, top_edge(group, front.address), height(format))?;
     Some((h, v))
@@ -122,13 +99,11 @@ fn take_components(w: &mut Window, format: Format, group: u8, front: &Front) -> 
 // One MVD and its component, whose macroblock has its first sample at `first` on this axis.
 #[inline(always)]
 fn take_mvd(w: &mut Window, last: i8, first: u32, side: u32) -> Option<i8>
-    requires near { IsNear last }
-    requires first { first ≤ side_of Cif Across }
+    requires { MvdMayCome last first }
     ensures walk { IfSome result (λ component. (format : PictureFormat) (before : List Element) (axis : Axis) →
-        slot before ≡ AtMvd axis → vector_component axis before ≡ last → side_of format axis ≡ side →
-        corner axis (group_before before) (address_before before) ≡ first →
+        MvdIsDue format axis last first side before →
         AreTaken (next format) before (IsMvd axis last component) w.old w.new) }
-    ensures near { IfSome result (λ component. IsNear component) }
+    ensures near { IfSome result IsNear }
 {
     let values = w.mvd()?;
     let component = component(last, values)?;
@@ -142,8 +117,7 @@ fn take_mvd(w: &mut Window, last: i8, first: u32, side: u32) -> Option<i8>
 // CBP where the kind has it, and the pattern.
 #[inline(always)]
 fn take_pattern(w: &mut Window, kind: MbKind) -> Option<u8>
-    ensures { IfSome result (λ pattern. (format : PictureFormat) (before : List Element) →
-        slot before ≡ cbp_slot kind → kind_before before ≡ kind → blocks_before before ≡ cond (is_intra kind) 6 0 →
+    ensures { IfSome result (λ pattern. (format : PictureFormat) (before : List Element) → PatternIsDue kind before →
         AreTaken (next format) before (IsPattern kind before pattern) w.old w.new) }
 {
     if is_intra(kind) {

@@ -1,15 +1,13 @@
 //! The front of a macroblock header: MBA, MTYPE and MQUANT (H.261, 4.2.3), and the predictor of its vector.
 
-ghost use Rattle.std.specs.Prelude.{◌≡◌, ℕ, ◌-◌, ◌<◌, ◌≤◌, List, ◌∷◌, IfOk};
+ghost use Rattle.std.specs.Prelude.{◌≡◌, ◌-◌, ◌≤◌, List, ◌∷◌, IfOk};
 ghost use Rattle.pel_model.specs.declared.Format.{Format};
-ghost use Rattle.pel_model.specs.declared.Why.{Why as Reason};
-ghost use Rattle.pel_model.specs.declared.Why.TheVariants.{NoCode};
-ghost use Rattle.pel_model.specs.Grammar.{Element, Mba, Mtype, Mquant, Stuffing, mba_rows, slot, AtMacroblock, AtMtype, AtMquant, address as address_before, next};
+ghost use Rattle.pel_model.specs.Grammar.{Element, Mtype, Mquant, AtMtype, AtMquant, next};
 ghost use Rattle.pel_model.specs.Text.{resets_predictor};
-ghost use Rattle.pel_model.specs.Walk.{Good, Bad, read, Takes, Walked};
-ghost use Rattle.h261_mb.specs.Inside.{StaysInside, IsMacroblockSoFar};
-ghost use Rattle.h261_mb.specs.Parts.{IsFront, IsMquant, predicted};
-ghost use Rattle.h261_mb.specs.State.{IsReady, IsNear, Stands};
+ghost use Rattle.pel_model.specs.Walk.{Walked};
+ghost use Rattle.h261_mb.specs.Inside.{StaysInside};
+ghost use Rattle.h261_mb.specs.Parts.{IsMquant, TakesAt, TakesAddress, ReadsFront, predicted};
+ghost use Rattle.h261_mb.specs.State.{IsReady, IsNear};
 
 use crate::kinds::{has_mquant, has_vector};
 use crate::state::{Front, MbState};
@@ -23,17 +21,7 @@ pub const LAST_ADDRESS: u8 = 33;
 /// Takes MBA, MTYPE and, where the kind has it, MQUANT, and gives with them the predictor of the vector.
 pub fn read_front(r: &mut Reader<'_>, state: &MbState) -> Result<Front, Fault>
     requires { IsReady state.now }
-    ensures walk { (format : Format) (before : List Element) (number d n : ℕ) →
-        Stands number state.now before → read mba_rows r.old.0 ≡ Good (Mba d) n →
-        Walked (next format) before (IsFront number state.now.address before)
-        (IsMacroblockSoFar before) result r.old r.new }
-    ensures no_word { (why : Reason) → read mba_rows r.old.0 ≡ Bad why →
-        (result ≡ Err (record { place = r.old.1; why = why })) × (r.new ≡ r.old) }
-    ensures stuffing { (n : ℕ) → read mba_rows r.old.0 ≡ Good Stuffing n →
-        (result ≡ Err (record { place = r.old.1; why = NoCode })) × (r.new ≡ r.old) }
-    ensures within { IfOk result (λ front.
-        (0 < front.address) × (front.address ≤ 33) × IsNear front.h × IsNear front.v) }
-    ensures onward { IfOk result (λ _. r.old.1 ≤ r.new.1) }
+    ensures { ReadsFront state.now result r.old r.new }
 {
     let address = take_mba(r, state.address)?;
     let kind = take_mtype(r)?;
@@ -68,16 +56,7 @@ pub fn predictor(state: &MbState, kind: MbKind, address: u8) -> (i8, i8)
 #[inline]
 fn take_mba(r: &mut Reader<'_>, last: u8) -> Result<u8, Fault>
     requires { last ≤ 33 }
-    ensures taken { (format : Format) (before : List Element) (d n : ℕ) →
-        slot before ≡ AtMacroblock → address_before before ≡ last →
-        read mba_rows r.old.0 ≡ Good (Mba d) n →
-        Takes (λ address. Mba (address - last)) (next format before r.old) result r.old r.new }
-    ensures no_word { (why : Reason) → read mba_rows r.old.0 ≡ Bad why →
-        (result ≡ Err (record { place = r.old.1; why = why })) × (r.new ≡ r.old) }
-    ensures stuffing { (n : ℕ) → read mba_rows r.old.0 ≡ Good Stuffing n →
-        (result ≡ Err (record { place = r.old.1; why = NoCode })) × (r.new ≡ r.old) }
-    ensures within { IfOk result (λ address. (last < address) × (address ≤ 33)) }
-    ensures onward { IfOk result (λ _. r.old.1 ≤ r.new.1) }
+    ensures { TakesAddress last result r.old r.new }
 {
     let place = r.place();
     let mut ahead = r.copy();
@@ -103,9 +82,7 @@ fn take_mba(r: &mut Reader<'_>, last: u8) -> Result<u8, Fault>
 // Takes MTYPE (H.261, 4.2.3.2).
 #[inline]
 fn take_mtype(r: &mut Reader<'_>) -> Result<MbKind, Fault>
-    ensures taken { (format : Format) (before : List Element) → slot before ≡ AtMtype →
-        Takes Mtype (next format before r.old) result r.old r.new }
-    ensures onward { IfOk result (λ _. r.old.1 ≤ r.new.1) }
+    ensures { TakesAt AtMtype Mtype result r.old r.new }
 {
     let place = r.place();
     match mtype(r) {
@@ -132,9 +109,7 @@ fn read_mquant(r: &mut Reader<'_>, kind: MbKind, last: u8) -> Result<u8, Fault>
 // Takes MQUANT, 5 bits that are not 0 (H.261, 4.2.3.3).
 #[inline]
 fn take_mquant(r: &mut Reader<'_>) -> Result<u8, Fault>
-    ensures taken { (format : Format) (before : List Element) → slot before ≡ AtMquant →
-        Takes Mquant (next format before r.old) result r.old r.new }
-    ensures onward { IfOk result (λ _. r.old.1 ≤ r.new.1) }
+    ensures { TakesAt AtMquant Mquant result r.old r.new }
 {
     let place = r.place();
     if r.left() < 5 {

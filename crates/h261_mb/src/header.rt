@@ -1,14 +1,11 @@
 //! The header of a macroblock: its elements before its blocks (H.261, 4.2.3).
 
-ghost use Rattle.std.specs.Prelude.{◌≡◌, ℕ, ◌<◌, ◌≤◌, true, List, IfOk, slice_get};
-ghost use Rattle.pel_model.specs.declared.Why.{Why};
-ghost use Rattle.pel_model.specs.declared.Why.TheVariants.{NoCode};
+ghost use Rattle.std.specs.Prelude.{◌≡◌, ◌<◌, true, slice_get};
 ghost use Rattle.pel_model.specs.Bits.{field};
 ghost use Rattle.pel_model.specs.Codes.{is_intra};
-ghost use Rattle.pel_model.specs.Grammar.{Element, Mba, Stuffing, mba_rows, is_group, next};
-ghost use Rattle.pel_model.specs.Walk.{Good, Bad, read, Walked};
-ghost use Rattle.h261_mb.specs.Inside.{IsMacroblockSoFar};
-ghost use Rattle.h261_mb.specs.State.{IsReady, Stands, IsHeader, state_behind};
+ghost use Rattle.pel_model.specs.Grammar.{is_group};
+ghost use Rattle.h261_mb.specs.Parts.{HeaderMayCome};
+ghost use Rattle.h261_mb.specs.State.{IsReady, ReadsHeader, state_behind};
 
 use crate::ahead::take_header;
 use crate::front::read_front;
@@ -84,16 +81,7 @@ pub fn read_header(
 ) -> Result<Header, Fault>
     requires group { is_group format group ≡ true }
     requires ready { IsReady state.now }
-    ensures walk { (before : List Element) (d n : ℕ) →
-        Stands group state.now before → read mba_rows r.old.0 ≡ Good (Mba d) n →
-        Walked (next format) before (IsHeader group before)
-        (IsMacroblockSoFar before) result r.old r.new }
-    ensures no_word { (why : Why) → read mba_rows r.old.0 ≡ Bad why →
-        (result ≡ Err (record { place = r.old.1; why = why })) × (r.new ≡ r.old) }
-    ensures stuffing { (n : ℕ) → read mba_rows r.old.0 ≡ Good Stuffing n →
-        (result ≡ Err (record { place = r.old.1; why = NoCode })) × (r.new ≡ r.old) }
-    ensures ready { IfOk result (λ header. IsReady (state_behind header)) }
-    ensures onward { IfOk result (λ _. r.old.1 ≤ r.new.1) }
+    ensures { ReadsHeader format group state.now result r.old r.new }
 {
     if r.left() >= 56 {
         let mut window = Window::of(r);
@@ -114,18 +102,8 @@ fn read_by_elements(
     group: u8,
     state: &MbState,
 ) -> Result<Header, Fault>
-    requires group { is_group format group ≡ true }
-    requires ready { IsReady state.now }
-    ensures walk { (before : List Element) (d n : ℕ) →
-        Stands group state.now before → read mba_rows r.old.0 ≡ Good (Mba d) n →
-        Walked (next format) before (IsHeader group before)
-        (IsMacroblockSoFar before) result r.old r.new }
-    ensures no_word { (why : Why) → read mba_rows r.old.0 ≡ Bad why →
-        (result ≡ Err (record { place = r.old.1; why = why })) × (r.new ≡ r.old) }
-    ensures stuffing { (n : ℕ) → read mba_rows r.old.0 ≡ Good Stuffing n →
-        (result ≡ Err (record { place = r.old.1; why = NoCode })) × (r.new ≡ r.old) }
-    ensures ready { IfOk result (λ header. IsReady (state_behind header)) }
-    ensures onward { IfOk result (λ _. r.old.1 ≤ r.new.1) }
+    requires { HeaderMayCome format group state.now }
+    ensures { ReadsHeader format group state.now result r.old r.new }
 {
     let front = read_front(r, state)?;
     let (h, v) = read_vector(r, format, group, &front)?;

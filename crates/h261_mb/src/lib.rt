@@ -12,13 +12,9 @@ mod state;
 mod vector;
 mod window;
 
-ghost use Rattle.std.specs.Prelude.{◌≡◌, ℕ, true, List, IfOk, IfErr};
-ghost use Rattle.pel_model.specs.declared.Why.{Why};
-ghost use Rattle.pel_model.specs.declared.Why.TheVariants.{NoCode};
-ghost use Rattle.pel_model.specs.Grammar.{Element, Mba, Stuffing, mba_rows, is_group, next};
-ghost use Rattle.pel_model.specs.Walk.{Good, Bad, read, Walked};
-ghost use Rattle.h261_mb.specs.Inside.{IsMacroblockSoFar};
-ghost use Rattle.h261_mb.specs.State.{IsReady, Stands, IsRead};
+ghost use Rattle.std.specs.Prelude.{◌≡◌, true};
+ghost use Rattle.pel_model.specs.Grammar.{is_group};
+ghost use Rattle.h261_mb.specs.State.{IsReady, ScansMacroblock};
 
 use blocks::skip_blocks;
 pub use header::{Header, read_header};
@@ -41,16 +37,7 @@ pub fn scan_mb(
 ) -> Result<Mark, Fault>
     requires group { is_group format group ≡ true }
     requires ready { IsReady state.old }
-    ensures walk { (before : List Element) (d n : ℕ) →
-        Stands group state.old before → read mba_rows r.old.0 ≡ Good (Mba d) n →
-        Walked (next format) before (IsRead group r.old.1 before state.new)
-        (IsMacroblockSoFar before) result r.old r.new }
-    ensures no_word { (why : Why) → read mba_rows r.old.0 ≡ Bad why →
-        (result ≡ Err (record { place = r.old.1; why = why })) × (r.new ≡ r.old) }
-    ensures stuffing { (n : ℕ) → read mba_rows r.old.0 ≡ Good Stuffing n →
-        (result ≡ Err (record { place = r.old.1; why = NoCode })) × (r.new ≡ r.old) }
-    ensures kept { IfErr result (λ _. state.new ≡ state.old) }
-    ensures ready { IfOk result (λ _. IsReady state.new) }
+    ensures { ScansMacroblock format group state.old state.new result r.old r.new }
 {
     let at = r.place();
     let header = read_header(r, format, group, state)?;

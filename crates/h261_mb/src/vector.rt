@@ -1,14 +1,11 @@
 //! The vector of a macroblock: MVD, horizontal then vertical (H.261, 4.2.3.4), and the picture area (3.2.2).
 
-ghost use Rattle.std.specs.Prelude.{◌≡◌, ℕ, ◌<◌, ◌≤◌, ℤ, negsuc, pos, ◌≤ℤ◌, cond, true, List, [], ◌∷◌, IfOk, IfSome};
-ghost use Rattle.pel_model.specs.declared.Format.{Format as PictureFormat};
+ghost use Rattle.std.specs.Prelude.{◌≡◌, ◌<◌, ◌≤◌, negsuc, pos, ◌≤ℤ◌, cond, Some, None, IfSome};
 ghost use Rattle.pel_model.specs.declared.Format.TheVariants.{Cif};
 ghost use Rattle.pel_model.specs.Valid.{side as side_of, corner, stays_within as stays};
-ghost use Rattle.pel_model.specs.Records.{Axis, Across, Down};
-ghost use Rattle.pel_model.specs.Grammar.{Element, Mvd, slot, AtMvd, group as group_before, address as address_before, vector_component, component_from, in_range as is_in_range, is_group, next};
-ghost use Rattle.pel_model.specs.Walk.{Walked};
-ghost use Rattle.h261_mb.specs.Inside.{StaysInside};
-ghost use Rattle.h261_mb.specs.Parts.{IsBegun, AreComponents, IsVector, IsMvd};
+ghost use Rattle.pel_model.specs.Records.{Across, Down};
+ghost use Rattle.pel_model.specs.Grammar.{component_from, in_range as is_in_range};
+ghost use Rattle.h261_mb.specs.Parts.{VectorMayCome, ReadsVector, MvdMayCome, ReadsMvd};
 ghost use Rattle.h261_mb.specs.State.{IsNear};
 
 use crate::kinds::has_vector;
@@ -24,40 +21,12 @@ pub fn read_vector(
     group: u8,
     front: &Front,
 ) -> Result<(i8, i8), Fault>
-    requires group { is_group format group ≡ true }
-    requires address { (0 < front.now.address) × (front.now.address ≤ 33) }
-    requires near { IsNear front.now.h × IsNear front.now.v }
-    ensures walk { (before : List Element) → IsBegun group front.now before →
-        Walked (next format) before (IsVector group front.now before)
-        (StaysInside before) result r.old r.new }
-    ensures near { IfOk result (λ vector. IsNear vector.0 × IsNear vector.1) }
-    ensures onward { IfOk result (λ _. r.old.1 ≤ r.new.1) }
+    requires { VectorMayCome format group front.now }
+    ensures { ReadsVector format group front.now result r.old r.new }
 {
-    if has_vector(front.kind) {
-        take_components(r, format, group, front)
-    } else {
-        Ok((front.h, front.v))
+    if !has_vector(front.kind) {
+        return Ok((front.h, front.v));
     }
-}
-
-// Takes both components of the vector; `front` has their predictor.
-fn take_components(
-    r: &mut Reader<'_>,
-    format: Format,
-    group: u8,
-    front: &Front,
-) -> Result<(i8, i8), Fault>
-    requires group { is_group format group ≡ true }
-    requires address { (0 < front.now.address) × (front.now.address ≤ 33) }
-    requires near { IsNear front.now.h × IsNear front.now.v }
-    ensures walk { (before : List Element) → slot before ≡ AtMvd Across →
-        group_before before ≡ group → address_before before ≡ front.now.address →
-        vector_component Across before ≡ front.now.h → vector_component Down before ≡ front.now.v →
-        Walked (next format) before (AreComponents front.now)
-        (StaysInside before) result r.old r.new }
-    ensures near { IfOk result (λ vector. IsNear vector.0 × IsNear vector.1) }
-    ensures onward { IfOk result (λ _. r.old.1 ≤ r.new.1) }
-{
     let h = take_mvd(r, front.h, left_edge(group, front.address), width(format))?;
     let v = take_mvd(r, front.v, top_edge(group, front.address), height(format))?;
     Ok((h, v))
@@ -65,15 +34,8 @@ fn take_components(
 
 // Takes one MVD and gives the component, whose macroblock has its first sample at `first` on this axis.
 fn take_mvd(r: &mut Reader<'_>, last: i8, first: u32, side: u32) -> Result<i8, Fault>
-    requires near { IsNear last }
-    requires first { first ≤ side_of Cif Across }
-    ensures walk { (format : PictureFormat) (before : List Element) (axis : Axis) →
-        slot before ≡ AtMvd axis → vector_component axis before ≡ last → side_of format axis ≡ side →
-        corner axis (group_before before) (address_before before) ≡ first →
-        Walked (next format) before (IsMvd axis last)
-        (StaysInside before) result r.old r.new }
-    ensures near { IfOk result (λ component. IsNear component) }
-    ensures onward { IfOk result (λ _. r.old.1 ≤ r.new.1) }
+    requires { MvdMayCome last first }
+    ensures { ReadsMvd last first side result r.old r.new }
 {
     let place = r.place();
     let mut ahead = r.copy();

@@ -26,4 +26,4 @@ returns-clause-within c =
     let above : 0 < c.in_ok-difference.difference = mba_above c.args.w.now.0 c.in_ok-difference.difference word.len word.good in
     let h_is = to_z-of_z w8 c.predictor-h.result.0 (search rules) in
     let v_is = to_z-of_z w8 c.predictor-h.result.1 (search rules) in
-    (omega (arith, above), omega arith, subst IsNear (sym h_is) c.predictor-h.ensures.near.0, subst IsNear (sym v_is) c.predictor-h.ensures.near.1)
+    record { some = omega (arith, above); within = omega arith; across = subst IsNear (sym h_is) c.predictor-h.ensures.near.0; down = subst IsNear (sym v_is) c.predictor-h.ensures.near.1 }

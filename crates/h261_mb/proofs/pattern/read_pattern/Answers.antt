@@ -1,4 +1,4 @@
-use Rattle.std.proofs.Common.{◌≡◌, ℕ, ◌<◌, Bool, true, false, cond, List, [], ◌∷◌, MatchBool, Result, Ok, Err, IfOk, refl, sym, ◌∙◌, ap}
+use Rattle.std.proofs.Common.{◌≡◌, ℕ, ◌<◌, Bool, true, false, cond, List, [], ◌∷◌, MatchBool, Result, Ok, Err, IfOk, refl, sym, ◌∙◌, ap, arith}
 use Rattle.pel_model.specs.declared.Fault.{Fault}
 use Rattle.pel_model.specs.declared.Format.{Format}
 use Rattle.pel_model.specs.declared.MbKind.{MbKind}
@@ -30,38 +30,47 @@ taken format before k old new (Ok n) took here kind_is other coded six = some_cb
 taken format before k old new (Err f) took here kind_is other coded six =
     fails_here (next format) before (StaysInside before) old old new [] f refl (tt, ap may_end here) took.bad took.place took.kept
 
-pub returns-then-is_intra-clause-walk : goal.returns-then-is_intra-clause-walk
-returns-then-is_intra-clause-walk c = λ format before due kind_is to_come.
-    let intra = sym c.is_intra.ensures ∙ c.if-is_intra.true in
-    let no_cbp = intra_has_no_cbp c.args.kind intra in record {
-      elements = [];
-      walk = refl;
-      wanted = record {
-        fits = all_by (is_intra c.args.kind) 63 _ intra refl;
-        elements = none c.args.kind 63 no_cbp;
-        due = due ∙ (slot-no-cbp c.args.kind no_cbp ∙ ap (λ (b : Bool). block_slot c.args.kind (cond b 6 0)) intra);
-        to_come = to_come ∙ ap (λ (b : Bool). cond b 6 0) intra;
+pub returns-then-is_intra : goal.returns-then-is_intra
+returns-then-is_intra c = record {
+  onward = omega arith;
+  walk = λ format before is.
+      let intra = sym c.is_intra.ensures ∙ c.if-is_intra.true in
+      let no_cbp = intra_has_no_cbp c.args.kind intra in record {
+        elements = [];
+        walk = refl;
+        wanted = record {
+          fits = all_by (is_intra c.args.kind) 63 _ intra refl;
+          elements = none c.args.kind 63 no_cbp;
+          due = is.due ∙ (slot-no-cbp c.args.kind no_cbp ∙ ap (λ (b : Bool). block_slot c.args.kind (cond b 6 0)) intra);
+          to_come = is.to_come ∙ ap (λ (b : Bool). cond b 6 0) intra;
+        };
       };
-    }
+}
 
-pub returns-then-has_cbp-clause-walk : goal.returns-then-has_cbp-clause-walk
-returns-then-has_cbp-clause-walk c = λ format before due kind_is to_come.
-    let other = sym c.is_intra.ensures ∙ c.if-is_intra.false in
-    let coded = sym c.has_cbp.ensures ∙ c.if-has_cbp.true in
-    let here = cbp_due format before c.args.kind coded due in
-    taken format before c.args.kind c.args.r.now c.take_cbp.new.r c.take_cbp.result (c.take_cbp.ensures.taken format before here) here kind_is other coded
-    c.take_cbp.ensures.six
+pub returns-then-has_cbp : goal.returns-then-has_cbp
+returns-then-has_cbp c = record {
+  onward = c.take_cbp.ensures.read.onward;
+  walk = λ format before is.
+      let other = sym c.is_intra.ensures ∙ c.if-is_intra.false in
+      let coded = sym c.has_cbp.ensures ∙ c.if-has_cbp.true in
+      let here = cbp_due format before c.args.kind coded is.due in
+      taken format before c.args.kind c.args.r.now c.take_cbp.new.r c.take_cbp.result (c.take_cbp.ensures.read.taken format before here) here is.kind_is other coded
+      c.take_cbp.ensures.six;
+}
 
-pub returns-else-has_cbp-clause-walk : goal.returns-else-has_cbp-clause-walk
-returns-else-has_cbp-clause-walk c = λ format before due kind_is to_come.
-    let other = sym c.is_intra.ensures ∙ c.if-is_intra.false in
-    let no_cbp = sym c.has_cbp.ensures ∙ c.if-has_cbp.false in record {
-      elements = [];
-      walk = refl;
-      wanted = record {
-        fits = none_by (is_intra c.args.kind) (has_cbp c.args.kind) 0 other no_cbp refl;
-        elements = none c.args.kind 0 no_cbp;
-        due = due ∙ (slot-no-cbp c.args.kind no_cbp ∙ ap (λ (b : Bool). block_slot c.args.kind (cond b 6 0)) other);
-        to_come = to_come ∙ ap (λ (b : Bool). cond b 6 0) other;
+pub returns-else-has_cbp : goal.returns-else-has_cbp
+returns-else-has_cbp c = record {
+  onward = omega arith;
+  walk = λ format before is.
+      let other = sym c.is_intra.ensures ∙ c.if-is_intra.false in
+      let no_cbp = sym c.has_cbp.ensures ∙ c.if-has_cbp.false in record {
+        elements = [];
+        walk = refl;
+        wanted = record {
+          fits = none_by (is_intra c.args.kind) (has_cbp c.args.kind) 0 other no_cbp refl;
+          elements = none c.args.kind 0 no_cbp;
+          due = is.due ∙ (slot-no-cbp c.args.kind no_cbp ∙ ap (λ (b : Bool). block_slot c.args.kind (cond b 6 0)) other);
+          to_come = is.to_come ∙ ap (λ (b : Bool). cond b 6 0) other;
+        };
       };
-    }
+}
