@@ -2,6 +2,7 @@
 use Rattle.std.proofs.Common.{◌≡◌, ℕ, ◌+◌, ◌<◌, List, [], ◌∷◌, ◌++◌, Option, None, Some, Ok, Err, true, false, length, map, take, cond, nat_lt, refl, sym, ap, subst, ◌∙◌, arith, append_assoc, get_or, suc, drop, drop-cons}
 use Rattle.std.proofs.lemmas.Bool.Decides.{nat_tests}
 use Rattle.std.proofs.lemmas.List.{length-append, length-map, length-take-le, map-append, length_push, map_push, map_more, take-append-drop}
+use Rattle.std.proofs.lemmas.List.Elements.{All-push}
 use Rattle.std.specs.Borrow.{Bor}
 use Rattle.command_words.specs.Options.{Text}
 use Rattle.io_edge.specs.Causes.{Rose}
@@ -45,16 +46,17 @@ gives_more {S} tells names name opened src (Some house) m n (octets, rest, takes
 -- one name more was reached
 pub reaches_more : {S : Type 0} (tells : S → Input) (names : List Text) (name : Text) (opened : List Input) (src : S)
     (before mid after : Directory) → ReachesAll names opened before mid
-    → Reaches {E = Failed} tells mid.names after.names name (Ok src) → after.faults ≡ mid.faults
+    → Reaches {E = Failed} tells mid.names after.names name (Ok src) → (tells src).faults ≡ 0 → after.faults ≡ mid.faults
     → ReachesAll (names ++ name ∷ []) (opened ++ tells src ∷ []) before after
-reaches_more {S} tells names name opened src before mid after all one kept = record {
+reaches_more {S} tells names name opened src before mid after all one anew kept = record {
   number = length_push opened (tells src) ∙ (ap (λ n. n + 1) all.number ∙ sym (length_push names name));
   gives = gives_more tells names name opened src before.names mid.names after.names all.gives one;
+  anew = All-push (λ (input : Input). input.faults ≡ 0) opened (tells src) all.anew anew;
   kept = kept ∙ all.kept;
 }
 
 pub reaches_none : (before : Directory) → ReachesAll [] [] before before
-reaches_none before = record { number = refl; gives = none before.names; kept = refl }
+reaches_none before = record { number = refl; gives = none before.names; anew = tt; kept = refl }
   where
     none : (o : Option (List NamedOctets)) → GivesAll [] [] o o
     none None = tt
@@ -137,14 +139,15 @@ chair_unopened names chair before after lane is fails = (length names, is ∙ sy
 -- one name more of a list that is gone through was reached
 pub reaches_next : {S : Type 0} (tells : S → Input) (names : List (Bor Text)) (i : ℕ) (d : Bor Text) (lanes new : List S) (src : S)
     (before mid after : Directory) → i < length names → ReachesAll (map (λ n. n.now) (take i names)) (map tells lanes) before mid
-    → Reaches {E = Failed} tells mid.names after.names (get_or names i d).now (Ok src) → after.faults ≡ mid.faults
+    → Reaches {E = Failed} tells mid.names after.names (get_or names i d).now (Ok src) → (tells src).faults ≡ 0
+    → after.faults ≡ mid.faults
     → new ≡ lanes ++ src ∷ [] → ReachesAll (map (λ n. n.now) (take (i + 1) names)) (map tells new) before after
-reaches_next {S} tells names i d lanes new src before mid after inside all one kept is =
+reaches_next {S} tells names i d lanes new src before mid after inside all one anew kept is =
     let text : Bor Text → Text = λ n. n.now in
     subst (λ ns. ReachesAll ns (map tells new) before after) (sym (map_more text names i d inside))
     (subst (λ l. ReachesAll (map text (take i names) ++ (get_or names i d).now ∷ []) l before after)
     (sym (ap (map tells) is ∙ map_push tells lanes src))
-    (reaches_more tells (map text (take i names)) (get_or names i d).now (map tells lanes) src before mid after all one kept))
+    (reaches_more tells (map text (take i names)) (get_or names i d).now (map tells lanes) src before mid after all one anew kept))
 
 -- the next name could not be
 pub fails_next : {S : Type 0} (e : Failed) (tells : S → Input) (names : List (Bor Text)) (i : ℕ) (d : Bor Text) (lanes : List S)

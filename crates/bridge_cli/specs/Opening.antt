@@ -1,5 +1,5 @@
 -- Names that are opened one after the other: what an opener that tells its entries has for them.
-use Rattle.std.specs.Prelude.{⊤, ◌≡◌, ℕ, List, [], ◌∷◌, ◌++◌, length, map, nat_lt, if◌then◌else◌, Option, Some, None}
+use Rattle.std.specs.Prelude.{⊤, All, ◌≡◌, ℕ, List, [], ◌∷◌, ◌++◌, length, map, nat_lt, if◌then◌else◌, Option, Some, None}
 use Rattle.command_words.specs.Options.{Text}
 use Rattle.io_edge.specs.Causes.{Rose}
 use Rattle.io_edge.specs.Directory.{NamedOctets, Directory, TakesEntry, HasNone}
@@ -21,10 +21,11 @@ GivesAll names opened (Some house) new =
     (octets : List (List ℕ)) × (rest : List NamedOctets) × TakeEntries names house rest octets
     × (map (λ (input : Input). input.left) opened ≡ map Some octets) × (new ≡ Some rest)
 
--- all names were reached, and this is what their sources tell
+-- all names were reached, and this is what their sources tell; none of their calls had failed
 pub record ReachesAll (names : List Text) (opened : List Input) (before after : Directory) : Type 0 where
   pub number : length opened ≡ length names
   pub gives : GivesAll names opened before.names after.names
+  pub anew : All (λ (input : Input). input.faults ≡ 0) opened
   pub kept : after.faults ≡ before.faults
 
 -- these names took their entries, and then no entry has this name

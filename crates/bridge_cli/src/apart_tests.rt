@@ -195,7 +195,8 @@ impl<'a> Opener for PartedHouse<'a> {
             self.faults = self.faults.saturating_add(1);
             return Err(Failed);
         };
-        let (_name, source) = self.sources.remove(at);
+        let (_name, mut source) = self.sources.remove(at);
+        source.faults = 0;
         Ok(source)
     }
 }

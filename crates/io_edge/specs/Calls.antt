@@ -1,5 +1,5 @@
 -- What one call of a source, a sink, a ticker or an opener does.
-use Rattle.std.specs.Prelude.{ℕ, ◌<◌, ◌≤◌, List, Option, length, Result, IfOk, IfSome}
+use Rattle.std.specs.Prelude.{◌≡◌, ℕ, ◌<◌, ◌≤◌, List, Option, length, Result, IfOk, IfSome}
 use Rattle.std.specs.Io.{ReadsAtMost}
 use Rattle.std.specs.Io.KnownBytes.{ReadConsumes, WriteAppends}
 use Rattle.io_edge.specs.Causes.{HasCause}
@@ -25,8 +25,10 @@ pub record GivesNextStep {E : Type 0} (old new : Input) (result : Result (Option
   pub step : GivesStep old.left new.left result
   pub cause : HasCause old.faults new.faults result
 
--- the source of the first entry of a name was given, and the entry left the directory; a call that fails leaves it
+-- the source of the first entry of a name was given, none of whose calls has failed, and the entry left the directory; a call
+-- that fails leaves it
 pub record OpensSource {S E : Type 0} (tells : S → Input) (old new : Directory) (name : List ℕ) (result : Result S E)
     : Type 0 where
   pub entry : Reaches tells old.names new.names name result
+  pub anew : IfOk result (λ source. (tells source).faults ≡ 0)
   pub cause : HasCause old.faults new.faults result

@@ -59,6 +59,15 @@ impl MemSource {
         }
     }
 
+    // The same source with no faults counted.
+    pub(crate) fn anew(self) -> MemSource
+        ensures { result ≡ record self { faults = 0 } }
+    {
+        let mut source = self;
+        source.faults = 0;
+        source
+    }
+
     /// The octets that it has not given yet.
     pub fn left(&self) -> &[u8]
         ensures { result.now ≡ self.now.left }

@@ -18,8 +18,8 @@ pub trait Opener {
     // count stays at its last value, 2 ^ 64 - 1.
     ghost tells: { Self → Directory };
 
-    /// The source of the first entry of this name, which leaves the directory. A call that fails leaves the directory, and
-    /// raises the count of faults; no other call changes it.
+    /// The source of the first entry of this name, none of whose calls has failed; the entry leaves the directory. A call that
+    /// fails leaves the directory, and raises the count of faults; no other call changes it.
     fn reach(&mut self, name: &str) -> Result<Self::Src, Failed>
         ensures { OpensSource Self.Src.tells (tells self.old) (tells self.new) name.now result };
 }
@@ -68,7 +68,7 @@ impl Opener for MemHouse {
 
     ghost tells = { house_tells };
 
-    /// Fails exactly where it has no source of this name.
+    /// Fails exactly where it has no source of this name. The count of faults of a source that is given begins at 0.
     fn reach(&mut self, name: &str) -> Result<MemSource, Failed>
         ensures opened { OpensSource source_tells (house_tells self.old) (house_tells self.new)
             name.now result }
@@ -80,7 +80,7 @@ impl Opener for MemHouse {
             return Err(Failed);
         };
         let (_name, source) = self.sources.remove(at);
-        Ok(source)
+        Ok(source.anew())
     }
 }
 

@@ -24,7 +24,7 @@ returns-in-Ok-reach g c =
     subst (λ n. ReachesAll (c.args.options.now.lanes ++ n ∷ []) (opened ++ g.P.Src.Source.tells c.in-Ok-reach.chair ∷ []) before after)
     c.as_str.ensures
     (reaches_more g.P.Src.Source.tells c.args.options.now.lanes c.as_str.result.now opened c.in-Ok-reach.chair before mid after all
-    c.in-Ok-reach.ensures.entry c.in-Ok-reach.ensures.cause.kept)
+    c.in-Ok-reach.ensures.entry c.in-Ok-reach.ensures.anew c.in-Ok-reach.ensures.cause.kept)
 
 pub returns-in-Err-reach : goal.returns-in-Err-reach
 returns-in-Err-reach g c =

@@ -30,7 +30,7 @@ loop-name-preserved g c = (
   reaches_next g.P.Src.Source.tells c.args.names.now c.loop-name.name-index _ c.loop-name.lanes.items _ c.in-Ok.source _
       (g.P.Opener.tells c.loop-name.house)
       (g.P.Opener.tells c.reach.new.self)
-      c.loop-name-test.true c.loop-name.invariant.1 c.in-Ok.ensures.entry c.in-Ok.ensures.cause.kept c.in-Ok-push.ensures.items,
+      c.loop-name-test.true c.loop-name.invariant.1 c.in-Ok.ensures.entry c.in-Ok.ensures.anew c.in-Ok.ensures.cause.kept c.in-Ok-push.ensures.items,
 )
 
 pub returns : goal.returns

@@ -1,5 +1,5 @@
 -- The source that is removed is the first of its name.
-use Rattle.std.proofs.Common.{rules, ◌≡◌, ◌+◌, ◌++◌, get_or, take, drop, ap, sym, subst, refl}
+use Rattle.std.proofs.Common.{Some, rules, ◌≡◌, ◌+◌, ◌++◌, get_or, take, drop, ap, sym, subst, refl}
 use Rattle.io_edge.specs.Directory.{TakesEntry}
 use Rattle.io_edge.specs.Memory.{entries_of}
 use Rattle.io_edge.proofs.DirectoryLemmas.{takes_entry}
@@ -20,4 +20,4 @@ returns-clause-opened c =
     let taken : TakesEntry name (entries_of xs) (entries_of c.remove-name.new.self.items) c.remove-name.result.1.left =
     subst (λ ys. TakesEntry name (entries_of xs) (entries_of ys) c.remove-name.result.1.left) (sym leaves)
     (subst (λ e. TakesEntry name (entries_of xs) (entries_of (take at xs ++ drop (at + 1) xs)) e.1.left) (sym gives) first) in
-    record { entry = (c.remove-name.result.1.left, entries_of c.remove-name.new.self.items, taken, refl, refl); cause = search rules }
+    record { entry = (c.remove-name.result.1.left, entries_of c.remove-name.new.self.items, taken, ap (λ s. Some s.left) c.anew.ensures, refl); anew = ap (λ s. s.faults) c.anew.ensures; cause = search rules }
