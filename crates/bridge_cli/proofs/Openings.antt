@@ -2,7 +2,7 @@
 use Rattle.std.proofs.Common.{◌≡◌, ℕ, ◌+◌, ◌<◌, List, [], ◌∷◌, ◌++◌, Option, None, Some, Ok, Err, true, false, length, map, take, cond, nat_lt, refl, sym, ap, subst, ◌∙◌, arith, append_assoc, get_or, suc, drop, drop-cons}
 use Rattle.std.proofs.lemmas.Bool.Decides.{nat_tests}
 use Rattle.std.proofs.lemmas.List.{length-append, length-map, length-take-le, map-append, length_push, map_push, map_more, take-append-drop}
-use Rattle.std.proofs.lemmas.List.Elements.{All-push}
+use Rattle.std.proofs.lemmas.List.Elements.{All-nil, All-push}
 use Rattle.std.specs.Borrow.{Bor}
 use Rattle.command_words.specs.Options.{Text}
 use Rattle.io_edge.specs.Causes.{Rose}
@@ -56,7 +56,7 @@ reaches_more {S} tells names name opened src before mid after all one anew kept 
 }
 
 pub reaches_none : (before : Directory) → ReachesAll [] [] before before
-reaches_none before = record { number = refl; gives = none before.names; anew = tt; kept = refl }
+reaches_none before = record { number = refl; gives = none before.names; anew = All-nil (λ (input : Input). input.faults ≡ 0); kept = refl }
   where
     none : (o : Option (List NamedOctets)) → GivesAll [] [] o o
     none None = tt
