@@ -2,7 +2,7 @@
 """Which definitions a reader of the top contracts has to believe: believed.py [--write]
 
 For each call below, follows the names that its clauses cite through the definitions of crates/*/specs, down to the last.
-README.md has the answers as tables, each behind a line `<!-- believed: CALL -->`; one that differs fails, and with --write
+docs/CLAIMS.md has the answers as tables, each behind a line `<!-- believed: CALL -->`; one that differs fails, and with --write
 is written anew."""
 import pathlib
 import re
@@ -136,7 +136,7 @@ def order():
 
 
 def main(words):
-    page = top / "README.md"
+    page = top / "docs" / "CLAIMS.md"
     before = page.read_text(encoding="utf-8").split("\n")
     known = modules()
     after, at, found = [], 0, []
@@ -150,13 +150,13 @@ def main(words):
                 at += 1
             after += table(known, mark.group(1))
     if found != list(CALLS):
-        sys.exit(f"believed.py: README.md has tables of {found}, and not of {list(CALLS)}")
+        sys.exit(f"believed.py: docs/CLAIMS.md has tables of {found}, and not of {list(CALLS)}")
     if words == ["--write"]:
         page.write_text("\n".join(after), encoding="utf-8")
     elif after != before:
         wrong = next(new for old, new in zip(before + [""], after) if old != new)
-        sys.exit(f"believed.py: README.md differs, first where it should read: {wrong}")
-    print(f"believed.py: {len(found)} tables stand in README.md as computed")
+        sys.exit(f"believed.py: docs/CLAIMS.md differs, first where it should read: {wrong}")
+    print(f"believed.py: {len(found)} tables stand in docs/CLAIMS.md as computed")
 
 
 if __name__ == "__main__":

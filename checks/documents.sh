@@ -54,9 +54,11 @@ numbers=$("$1" --help | sed -n 's/^ *\([0-9]\{1,2\}\)  .*/\1/p' | tr '\n' ' ')
 is "the statuses of README.md" test "$(statuses README.md)" = "$numbers"
 is "the statuses of docs/GUIDE.md" test "$(statuses docs/GUIDE.md)" = "$numbers"
 
-# the links of both to other files lead to them
-for document in README.md docs/GUIDE.md; do
-    for link in $(sed -n 's/](\([^)#]*\))/\n<\1>\n/gp' "$top/$document" | sed -n 's/^<\(.*\)>$/\1/p'); do
+# the links of all pages to other files lead to them
+for document in README.md CONTRIBUTING.md docs/GUIDE.md docs/FORMATS.md docs/CHAIR.md docs/TAKES.md docs/LOCK.md docs/MAP.md \
+    docs/DECISIONS.md docs/GLOSSARY.md docs/CLAIMS.md bench/README.md; do
+    links=$(sed -n 's/](\([^)#]*\)\(#[^)]*\)*)/\n<\1>\n/gp' "$top/$document" | sed -n 's/^<\(..*\)>$/\1/p' | sort -u)
+    for link in $links; do
         is "the link $link of $document" test -e "$top/$(dirname "$document")/$link"
     done
 done

@@ -1,6 +1,6 @@
 #!/usr/bin/env python3
 """Checks the order of the crates, and ends with status 1 where it fails: crates.txt goes a layer at a time, each crate
-behind what it stands on; the tables of README.md and docs/MAP.md have the crates in the order of crates.txt, and MAP's list
+behind what it stands on; the tables of docs/CLAIMS.md and docs/MAP.md have the crates in the order of crates.txt, and MAP's list
 has the layers; no chain of crates is longer than eight; and each crate names what crates.txt lists for it.
 
 order.py --layers prints the layers, as docs/MAP.md has them."""
@@ -67,7 +67,7 @@ def faults(crates, layers):
             yield f"crates.txt: {name} of layer {layers[name] + 1} comes behind {former} of layer {layers[former] + 1}"
     if max(layers.values()) >= LONGEST:
         yield f"crates.txt: a chain of {max(layers.values()) + 1} crates, and at most {LONGEST} are wanted"
-    for document in ("README.md", "docs/MAP.md"):
+    for document in ("docs/CLAIMS.md", "docs/MAP.md"):
         rows = table(document, crates)
         for name in order:
             if rows.count(name) != 1:

@@ -14,4 +14,5 @@ checks/examples.sh "$PWD/$program" || status=1
 checks/documents.sh "$PWD/$program" || status=1
 python3 -B checks/order.py || status=1
 python3 -B checks/believed.py || status=1
+python3 -B checks/claims.py || status=1
 exit "$status"
