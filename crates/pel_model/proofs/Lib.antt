@@ -9,6 +9,7 @@ mod WorkedOutcomes
 mod WorkedBlocks
 mod WorkedFrames
 mod WorkedPictures
+mod WorkedPlan
 mod WorkedPlaces
 pub mod WorkedRecords
 mod WorkedRules
