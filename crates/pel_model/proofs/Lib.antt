@@ -5,6 +5,7 @@ pub mod Steps
 pub mod Walks
 pub mod WorkedForms
 mod WorkedMarks
+mod WorkedNotes
 mod WorkedOutcomes
 mod WorkedBlocks
 mod WorkedFrames
