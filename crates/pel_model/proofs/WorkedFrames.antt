@@ -74,13 +74,13 @@ abbrev sent_so : (address : ℕ) → MbKind → Option ℕ → (across down : �
 sent_so address kind mquant across down blocks = record { address = address; kind = kind; mquant = mquant; across = across; down = down; blocks = blocks }
 
 pub kinds_values : samples (decode Qcif fixed uneven (pictured
-        (sent_so 13 McFilCoded None (pos 2) (minus 1) (level_alone (pos 1))
-        ∷ sent_so 14 McFilQuant (Some 20) (minus 5) (pos 3) (level_alone (minus 2))
-        ∷ sent_so 15 McCoded None (pos 3) (pos 4) (level_alone (pos 1))
-        ∷ sent_so 16 McQuant (Some 5) (minus 3) (minus 4) (level_alone (pos 2))
-        ∷ moving 17 Mc (minus 1) (pos 2)
-        ∷ coded 18 Inter None (pos 1)
-        ∷ []) [] []))
+    (sent_so 13 McFilCoded None (pos 2) (minus 1) (level_alone (pos 1))
+    ∷ sent_so 14 McFilQuant (Some 20) (minus 5) (pos 3) (level_alone (minus 2))
+    ∷ sent_so 15 McCoded None (pos 3) (pos 4) (level_alone (pos 1))
+    ∷ sent_so 16 McQuant (Some 5) (minus 3) (minus 4) (level_alone (pos 2))
+    ∷ moving 17 Mc (minus 1) (pos 2)
+    ∷ coded 18 Inter None (pos 1)
+    ∷ []) [] []))
     ((Luminance, 16, 16) ∷ (Luminance, 18, 19) ∷ (Luminance, 23, 20) ∷ (Luminance, 26, 29) ∷ (Cb, 11, 12) ∷ (Cr, 8, 13)
     ∷ (Luminance, 32, 16) ∷ (Luminance, 35, 18) ∷ (Luminance, 36, 23) ∷ (Cb, 17, 9) ∷ (Cr, 20, 12)
     ∷ (Luminance, 48, 16) ∷ (Luminance, 50, 19) ∷ (Luminance, 61, 28) ∷ (Cb, 27, 13)
@@ -101,9 +101,9 @@ abbrev levels_at : List (ℕ × ℤ) → Option Block
 levels_at levels = Some (record { dc = None; coefficients = map (λ (l : ℕ × ℤ). record { run = l.0; level = l.1; long = false }) levels })
 
 pub residual_places : samples (decode Qcif fixed (flat 128) (pictured
-        (sent_so 1 Inter None (pos 0) (pos 0)
-            (levels_at ((0, pos 6) ∷ (0, minus 3) ∷ []) ∷ None ∷ None ∷ levels_at ((2, pos 5) ∷ (0, pos 2) ∷ []) ∷ None ∷ levels_at ((1, minus 4) ∷ []) ∷ [])
-        ∷ []) [] []))
+    (sent_so 1 Inter None (pos 0) (pos 0)
+    (levels_at ((0, pos 6) ∷ (0, minus 3) ∷ []) ∷ None ∷ None ∷ levels_at ((2, pos 5) ∷ (0, pos 2) ∷ []) ∷ None ∷ levels_at ((1, minus 4) ∷ []) ∷ [])
+    ∷ []) [] []))
     ((Luminance, 0, 0) ∷ (Luminance, 1, 0) ∷ (Luminance, 7, 0) ∷ (Luminance, 0, 1) ∷ (Luminance, 7, 7) ∷ (Luminance, 3, 5) ∷ (Luminance, 5, 3)
     ∷ (Luminance, 8, 8) ∷ (Luminance, 9, 8) ∷ (Luminance, 8, 9) ∷ (Luminance, 15, 15) ∷ (Luminance, 13, 10) ∷ (Luminance, 10, 13)
     ∷ (Cr, 0, 0) ∷ (Cr, 1, 0) ∷ (Cr, 0, 1) ∷ (Cr, 7, 3) ∷ (Cr, 3, 7) ∷ (Cb, 0, 0) ∷ [])

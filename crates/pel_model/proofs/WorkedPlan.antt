@@ -142,4 +142,3 @@ pub changes : map (λ (c : List Command). filter (changed 3 c) places)
     ∷ [])
     ≡ [] ∷ (One ∷ []) ∷ (One ∷ Two ∷ []) ∷ (One ∷ []) ∷ [] ∷ [] ∷ (One ∷ []) ∷ (One ∷ Three ∷ []) ∷ [] ∷ []
 changes = refl
-
