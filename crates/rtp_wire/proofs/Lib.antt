@@ -3,3 +3,4 @@ mod PacketLemmas
 mod ReadingLemmas
 mod SpellingLemmas
 mod StreamLemmas
+mod WorkedPackets
