@@ -1,5 +1,5 @@
 -- Packets read from a source one by one, and what happens at them.
-use Rattle.std.proofs.Common.{◌≡◌, ℕ, suc, ◌+◌, ◌<◌, ◌≤◌, Bool, List, [], ◌∷◌, ◌++◌, length, map, Option, Some, None, Result, Ok, Err, refl, sym, ◌∙◌, ap, ap₂, subst, arith, append-nil, length-append}
+use Rattle.std.proofs.Common.{◌≡◌, ℕ, suc, Bool, List, [], ◌∷◌, ◌++◌, length, map, Option, Some, None, Result, Ok, Err, refl, sym, ◌∙◌, ap, ap₂, subst, arith, append-nil, length-append}
 use Rattle.std.specs.List.{flat_map, AllByRecursion}
 use Rattle.std.specs.Io.KnownBytes.{Consumes}
 use Rattle.std.proofs.KnownBytes.{Consumes-nil, Consumes-trans}
@@ -22,11 +22,11 @@ use Rattle.rtp_h261.specs.Events.{Event, Shown, Refused, AreUnitEvents, Happens,
 use Rattle.rtp_h261.specs.OneByOne.{State, state_of}
 use Rattle.rtp_h261.specs.Packets.{piece_of}
 use Rattle.rtp_h261.specs.ReadSoFar.{HasReadPackets, IsEventOf, Told, ReadsPacket, ReadsNoPacket}
-use Rattle.rtp_h261.specs.UnitReader.{UnitReading, reading_after, framer_after, depack_after, FeedsOn, ReadsOn, GivesNoMore}
+use Rattle.rtp_h261.specs.UnitReader.{UnitReading, reading_after, depack_after, FeedsOn, ReadsOn, GivesNoMore}
 use Rattle.rtp_h261.specs.Units.{Given, Piece, all_given, fed}
 use Rattle.rtp_wire.specs.declared.frames.FrameEnd.{FrameEnd}
 use Rattle.rtp_wire.specs.declared.frames.FrameEnd.TheVariants.{End, Cut, Fault, Limit}
-use Rattle.rtp_wire.specs.Frames.{FramerState, frame, stream_of, HasFrame, CallsNext, ReadsFrame, ReadsOrStays, TakesOne, IsPartial}
+use Rattle.rtp_wire.specs.Frames.{FramerState, frame, HasFrame, CallsNext, ReadsFrame, ReadsOrStays, TakesOne, IsPartial}
 use Rattle.rtp_h261.proofs.EventLemmas.{one_more}
 use Rattle.rtp_h261.proofs.StepLemmas.{front_law}
 

@@ -1,5 +1,5 @@
 -- Pieces put one after the other.
-use Rattle.std.proofs.Common.{◌≡◌, ℕ, ◌+◌, ◌≤◌, Bool, true, false, List, [], ◌∷◌, ◌++◌, length, take, Option, Result, Ok, Err, IsErr, refl, sym, ◌∙◌, ap, subst, arith, append_assoc, length-append, append-nil}
+use Rattle.std.proofs.Common.{◌≡◌, ℕ, ◌+◌, ◌≤◌, Bool, true, false, List, [], ◌∷◌, ◌++◌, length, take, Option, Result, Ok, Err, IsErr, refl, sym, ◌∙◌, ap, subst, arith, append_assoc, length-append}
 use Rattle.std.specs.List.{concat}
 use Rattle.std.specs.Io.KnownBytes.{Appends}
 use Rattle.std.proofs.KnownBytes.{Appends-nil, Appends-trans}
@@ -10,7 +10,7 @@ use Rattle.io_edge.specs.Outside.{Output}
 use Rattle.rtp_h261.specs.declared.unit_end.UnitTally.{UnitTally}
 use Rattle.rtp_h261.specs.Events.{Event, lost_events}
 use Rattle.rtp_h261.specs.Tellers.{Duty, TellsEvent}
-use Rattle.rtp_h261.specs.ToldSoFar.{CountsEvents, TellsSome, TellsAll, TellsEach, TellsOn, TellsPacket, longest_piece}
+use Rattle.rtp_h261.specs.ToldSoFar.{CountsEvents, TellsSome, TellsAll, TellsEach, TellsOn, TellsPacket}
 
 -- a call that failed, told as another result that failed
 cause-again : {T U E F : Type 0} (result : Result T E) (e : F) (before now : ℕ) → IsErr result → HasCause {T = U} {E = F} before now (Err e) → HasCause before now result

@@ -1,12 +1,12 @@
 -- The beginning of a reading, what was told behind one packet more, and the ends of the reading.
-use Rattle.std.proofs.Common.{◌≡◌, inl, inr, ℕ, ◌+◌, ◌*◌, ◌^◌, ◌<◌, ◌≤◌, Bool, List, [], ◌∷◌, ◌++◌, length, Option, Some, None, Result, Ok, Err, refl, sym, ◌∙◌, ap, subst, arith, append-nil, length-append, count_by, cond}
-use Rattle.std.specs.List.{concat, flat_map}
-use Rattle.std.specs.Io.KnownBytes.{Appends, Consumes, IsAtEnd}
+use Rattle.std.proofs.Common.{◌≡◌, inl, inr, ℕ, ◌+◌, ◌^◌, ◌<◌, ◌≤◌, Bool, List, [], ◌∷◌, ◌++◌, length, Option, Some, None, Ok, Err, refl, sym, ◌∙◌, ap, subst, arith, append-nil, length-append, count_by, cond}
+use Rattle.std.specs.List.{flat_map}
+use Rattle.std.specs.Io.KnownBytes.{Consumes, IsAtEnd}
 use Rattle.std.proofs.KnownBytes.{Appends-nil}
 use Rattle.std.proofs.lemmas.List.Sums.{sum_by-append, sum_by-cons}
 use Rattle.h261_pic.specs.Coded.{Coding}
 use Rattle.io_edge.specs.Causes.{Rose}
-use Rattle.io_edge.specs.Outside.{Input, Output, Outside, outside}
+use Rattle.io_edge.specs.Outside.{Input, Output, Outside}
 use Rattle.pel_model.specs.declared.Format.{Format}
 use Rattle.rtp_h261.specs.declared.depack.Fed.{Fed}
 use Rattle.rtp_h261.specs.declared.unit_end.UnitEnd.{UnitEnd}
@@ -16,7 +16,7 @@ use Rattle.rtp_h261.specs.declared.unit_end.UnitTally.{UnitTally}
 use Rattle.rtp_h261.specs.Events.{Event, Lost, Shown, Refused, is_picture, is_gap}
 use Rattle.rtp_h261.specs.ReadSoFar.{HasReadPackets, ReadsPacket, ReadsNoPacket}
 use Rattle.rtp_h261.specs.Tellers.{Duty}
-use Rattle.rtp_h261.specs.ToldSoFar.{CanTell, CountsEvents, HasTold, TellsPacket, longest_piece, stop_for}
+use Rattle.rtp_h261.specs.ToldSoFar.{CanTell, HasTold, TellsPacket, stop_for}
 use Rattle.rtp_h261.specs.UnitEnds.{Completes, ReadsUnits, UnitsEnd, UnitsRead, UnitsStop, WritesAll, no_units}
 use Rattle.rtp_h261.specs.UnitReader.{UnitReading, reading_after}
 use Rattle.rtp_wire.specs.declared.frames.FrameEnd.{FrameEnd}

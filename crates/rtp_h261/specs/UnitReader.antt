@@ -2,7 +2,7 @@
 use Rattle.std.specs.Prelude.{◌≡◌, ℕ, ◌<◌, List, [], length, map, None, Result, Ok, Err}
 use Rattle.std.specs.List.{flat_map}
 use Rattle.h261_pic.specs.Coded.{Coding}
-use Rattle.io_edge.specs.Allowance.{AllowanceState, Paused}
+use Rattle.io_edge.specs.Allowance.{Paused}
 use Rattle.io_edge.specs.declared.allowance.Pause.TheVariants as pause
 use Rattle.io_edge.specs.Outside.{Input}
 use Rattle.pel_model.specs.declared.Format.{Format}

@@ -1,10 +1,9 @@
 -- Packet by packet.
-use Rattle.std.proofs.Common.{◌≡◌, ℕ, [], Result, Ok, Err, refl, sym, subst, arith}
+use Rattle.std.proofs.Common.{Result, Ok, Err, refl, sym, subst}
 use Rattle.io_edge.specs.declared.edges.Failed.{Failed}
 use Rattle.io_edge.specs.Outside.{outside}
 use Rattle.rtp_h261.specs.declared.depack.Fed.{Fed}
 use Rattle.rtp_h261.specs.declared.unit_end.UnitStop.{UnitStop}
-use Rattle.rtp_h261.specs.ReadSoFar.{ReadsPacket, ReadsNoPacket}
 use Rattle.rtp_h261.specs.ToldSoFar.{TellsPacket}
 use Rattle.rtp_h261.specs.UnitEnds.{UnitsRead}
 use Rattle.rtp_h261.specs.UnitReader.{ReadsOn}
