@@ -1,9 +1,9 @@
 -- Worked values of what a store shows, and of the planes after pictures: each fails where its definition is changed.
-use Rattle.std.specs.Prelude.{◌≡◌, ℕ, List, [], ◌∷◌, ◌++◌, replicate, slice_index, refl}
+use Rattle.std.specs.Prelude.{◌≡◌, ℕ, ◌+◌, ◌*◌, List, [], ◌∷◌, ◌++◌, length, map, replicate, slice_index, refl}
 use Rattle.pel_model.specs.declared.Format.TheVariants.{Qcif, Cif}
 use Rattle.pel_model.specs.declared.Why.TheVariants.{Cut}
 use Rattle.pel_model.specs.Decode.{decode}
-use Rattle.pel_model.specs.Frames.{Luminance, Cb, Cr}
+use Rattle.pel_model.specs.Frames.{Plane, Luminance, Cb, Cr, Frame}
 use Rattle.pel_model.specs.Records.{Picture}
 use Rattle.pel_model.specs.Transform.{fixed}
 use Rattle.rtp_h261.specs.Events.{Lost, Shown, Refused}
@@ -37,3 +37,19 @@ numbers_of_planes = refl
 pub planes_of_events : (p q : Picture) → planes_shown Cif (Lost ∷ Shown p ∷ Refused 3 Cut ∷ Shown q ∷ Lost ∷ [])
     ≡ planes_of Cif (decode Cif fixed black p) ∷ planes_of Cif (decode Cif fixed (decode Cif fixed black p) q) ∷ []
 planes_of_events p q = refl
+
+abbrev shade : Plane → ℕ
+shade Luminance = 0
+shade Cb = 1000
+shade Cr = 2000
+
+-- each sample tells its plane, column and row
+abbrev uneven : Frame
+uneven plane x y = shade plane + x + 7 * y
+
+-- luminance before CB before CR, each row behind the one above it: first and last samples of planes and of first rows
+pub order_of_samples : (let samples = planes_of Qcif uneven in
+    length samples ∷ map (λ i. slice_index samples i) (0 ∷ 175 ∷ 176 ∷ 25343 ∷ 25344 ∷ 25431 ∷ 25432 ∷ 31679 ∷ 31680 ∷ 31767 ∷ 31768 ∷ 38015 ∷ []))
+    ≡ 38016 ∷ 0 ∷ 175 ∷ 7 ∷ 1176 ∷ 1000 ∷ 1087 ∷ 1007 ∷ 1584 ∷ 2000 ∷ 2087 ∷ 2007 ∷ 2584 ∷ []
+unfolding planes_of
+order_of_samples = refl
