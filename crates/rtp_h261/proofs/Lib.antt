@@ -8,3 +8,4 @@ mod Putting
 pub mod StepLemmas
 pub mod StreamEnds
 mod TurnLemmas
+pub mod QueueLemmas

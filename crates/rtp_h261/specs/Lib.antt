@@ -1,6 +1,7 @@
 pub mod Depack
 pub mod Events
 pub mod OneByOne
+pub mod Ordered
 pub mod Packets
 pub mod Payload
 pub mod ReadSoFar
@@ -11,3 +12,5 @@ pub mod UnitEnds
 pub mod UnitReader
 pub mod Units
 pub mod WorkedPackets
+pub mod Window
+pub mod WindowFields

@@ -9,6 +9,7 @@ mod stream;
 mod teller;
 mod unit_end;
 mod unit_reader;
+mod window;
 
 pub use depack::{Depack, Fed, Unit};
 pub use laws::{one_header, one_telling, packets_one_by_one, worked_packets};
@@ -17,6 +18,7 @@ pub use stream::{nothing_read, read_units};
 pub use teller::{Teller, put_piece};
 pub use unit_end::{UnitEnd, UnitStop, UnitTally};
 pub use unit_reader::UnitReader;
+pub use window::Window;
 
 #[cfg(test)]
 mod tests;
