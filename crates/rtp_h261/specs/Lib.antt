@@ -11,6 +11,8 @@ pub mod Turns
 pub mod UnitEnds
 pub mod UnitReader
 pub mod Units
-pub mod WorkedPackets
 pub mod Window
 pub mod WindowFields
+pub mod WindowLaws
+pub mod WorkedPackets
+pub mod WorkedWindows

@@ -3,6 +3,7 @@
 use Rattle.std.specs.Prelude.{ℕ, ◌+◌, ◌%◌, ◌^◌, ◌==◌, nat_le, nat_lt, Bool, false, ◌||◌, if◌then◌else◌}
 use Rattle.std.specs.Prelude.{List, [], ◌∷◌, ◌++◌, length, map, insert, Option, None, Some, option_map}
 use Rattle.std.specs.List.{list_any, position_or_len}
+use Rattle.std.specs.Option.{unwrap_or}
 use Rattle.rtp_h261.specs.Packets.{piece_of}
 use Rattle.rtp_h261.specs.Units.{Piece, ahead}
 
@@ -36,8 +37,7 @@ no_queue = record { next = None; waiting = [] }
 
 -- at first the number of the first packet is expected
 abbrev pub expected_at : Option ℕ → Arrival → ℕ
-expected_at None p = p.number
-expected_at (Some number) p = number
+expected_at next p = unwrap_or next p.number
 
 -- half the circle of numbers or more past the expected one, or of the number of one that waits
 abbrev pub is_stale : ℕ → List Arrival → ℕ → Bool

@@ -1,7 +1,7 @@
 -- What a window of packets holds and gives out, by the list of all packets that it was offered.
-use Rattle.std.specs.Prelude.{◌≡◌, ℕ, ◌+◌, Bool, true, false, List, [], ◌∷◌, ◌++◌, length, Option, None, Some}
+use Rattle.std.specs.Prelude.{◌≡◌, ℕ, ◌+◌, ◌==◌, Bool, true, false, List, [], ◌∷◌, ◌++◌, length, Option, None, Some}
 use denote.Ref.{Bor}
-use Rattle.rtp_h261.specs.Ordered.{Queue, no_queue, usable_of, queue_behind, due, settled, goes_out, octets_in, in_order}
+use Rattle.rtp_h261.specs.Ordered.{Arrival, arrival_of, expected_at, Queue, no_queue, usable_of, queue_behind, due, settled, goes_out, octets_in, in_order}
 
 -- a window, as its callers see it
 pub record WindowState : Type 0 where
@@ -38,9 +38,20 @@ abbrev pub GivesDue : (old new : WindowState) → Option (List ℕ) → Type 0
 GivesDue old new None = (is_due old ≡ false) × (new ≡ old)
 GivesDue old new (Some packet) = GivesNext packet old new
 
--- a packet came that was given out at once, or none came
-abbrev pub PassesBy : List ℕ → (old new : WindowState) → Bool → Type 0
-PassesBy packet old new false = new ≡ old
-PassesBy packet old new true = (new.width ≡ old.width) × (is_due new ≡ false)
-    × ((packets given : List (List ℕ)) → HasOrdered packets given old
-    → HasOrdered (packets ++ packet ∷ []) (given ++ packet ∷ []) new)
+-- a usable packet has the number that is expected
+abbrev pub has_number : Option Arrival → Option ℕ → Bool
+has_number None next = false
+has_number (Some p) next = p.number == expected_at next p
+
+abbrev pub is_next : List ℕ → WindowState → Bool
+is_next packet w = has_number (arrival_of packet) w.queue.next
+
+-- A packet came and was given out at once, before all that wait; or it is still to come. Where nothing waits, the next one
+-- in order is given out so.
+pub record PassesBy (packet : List ℕ) (old new : WindowState) (passed : Bool) : Type 0 where
+  pub width : new.width ≡ old.width
+  pub waiting : new.queue.waiting ≡ old.queue.waiting
+  pub stays : passed ≡ false → new ≡ old
+  pub stands : passed ≡ true → (packets given : List (List ℕ)) → HasOrdered packets given old
+      → HasOrdered (packets ++ packet ∷ []) (given ++ packet ∷ []) new
+  pub straight : old.queue.waiting ≡ [] → passed ≡ is_next packet old

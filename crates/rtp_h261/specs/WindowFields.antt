@@ -1,6 +1,8 @@
 -- Inner contracts alone use this; nothing here has to be believed.
 -- What holds of a window's fields.
-use Rattle.std.specs.Prelude.{◌≡◌, ℕ, ◌+◌, ◌≤◌, vec_len, vec_capacity}
+use Rattle.std.specs.Prelude.{◌≡◌, ℕ, ◌+◌, ◌≤◌, ◌==◌, Bool, not, ◌&&◌, List, vec_len, vec_capacity}
+use Rattle.std.specs.List.{position_or_len}
+use Rattle.rtp_h261.specs.Ordered.{Arrival, is_stale, is_farther}
 use Rattle.rtp_h261.specs.declared.window.Window.TheInside.{Inside}
 
 -- so many packets, and room for as many as may wait with the one that comes then
@@ -14,3 +16,9 @@ pub record IsWindow (w : Inside) : Type 0 where
   pub count : vec_len w.waiting + vec_len w.spare ≡ 33
   pub waiting_room : 33 ≤ vec_capacity w.waiting
   pub spare_room : 33 ≤ vec_capacity w.spare
+
+-- a packet has the expected number, and is given out before all that wait
+abbrev pub goes_straight : ℕ → List Arrival → ℕ → Bool
+goes_straight expected waiting number =
+    (number == expected)
+    && (not (is_stale expected waiting number) && (position_or_len (is_farther expected number) waiting == 0))

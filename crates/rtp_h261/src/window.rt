@@ -1,13 +1,13 @@
 //! A window of packets that came before their turn: it puts the packets of a stream in order.
-ghost use Rattle.std.specs.Prelude.{◌≡◌, ◌≤◌, ◌==◌, [], length, vec_len, vec_capacity, IfOk, MatchOption, false, None, Some};
+ghost use Rattle.std.specs.Prelude.{◌≡◌, ◌≤◌, ◌==◌, [], length, take, vec_len, vec_capacity, IfOk, MatchOption, false, None, Some};
 ghost use Rattle.std.specs.Borrow.{sem};
 ghost use Rattle.std.specs.Io.BufRead.{Rests};
 ghost use Rattle.std.specs.List.{list_any, position_or_len};
 ghost use Rattle.rtp_wire.specs.Frames.{longest_packet};
-ghost use Rattle.rtp_h261.specs.Ordered.{Arrival as Arrived, arrival_of, is_stale, is_farther};
+ghost use Rattle.rtp_h261.specs.Ordered.{Arrival as Arrived, arrival_of, joined_by, is_stale, is_farther};
 ghost use Rattle.rtp_h261.specs.Units.{ahead};
 ghost use Rattle.rtp_h261.specs.Window.{is_due, packet_shown, HasOrdered, Offers, GivesDue, PassesBy};
-ghost use Rattle.rtp_h261.specs.WindowFields.{HasRoom};
+ghost use Rattle.rtp_h261.specs.WindowFields.{goes_straight, HasRoom};
 ghost use Rattle.rtp_h261.specs.contracts.window.Window.{the_row};
 
 use crate::depack::usable;
@@ -54,7 +54,7 @@ impl Slot {
         requires { length packet.now ≤ longest_packet }
         ensures { self.new ≡ record { number = number; octets = packet.now } }
     {
-        self.octets.as_mut_slice()[..packet.len()].copy_from_slice(packet);
+        put_front(self.octets.as_mut_slice(), packet);
         self.size = packet.len();
         self.number = number;
     }
@@ -130,9 +130,20 @@ impl Window {
         requires size { length packet.now ≤ longest_packet }
         ensures { Offers packet.now self.old self.new }
     {
-        let Some(number) = number_of(packet) else {
-            return;
-        };
+        if let Some(number) = number_of(packet) {
+            self.join(number, packet);
+        }
+    }
+
+    // A usable packet with this number comes.
+    fn join(&mut self, number: u16, packet: &[u8])
+        requires free { is_due self.old ≡ false }
+        requires size { length packet.now ≤ longest_packet }
+        ensures { self.new ≡ record {
+          width = self.old.width;
+          queue = joined_by self.old.queue (record { number = number; octets = packet.now });
+        } }
+    {
         let expected = self.next.unwrap_or(number);
         self.next = Some(expected);
         if is_stale(expected, self.waiting.as_slice(), number) {
@@ -146,6 +157,23 @@ impl Window {
         let Ok(()) = self.waiting.insert(place, slot) else {
             unreachable!();
         };
+    }
+
+    /// Whether this packet is given out as it comes, before all that wait, so that it is fed from where it lies. Where it is
+    /// not, nothing changed, and it is to be offered.
+    pub fn passes(&mut self, packet: &[u8]) -> bool
+        requires { is_due self.old ≡ false }
+        ensures { PassesBy packet.now self.old self.new result }
+    {
+        let Some(number) = number_of(packet) else {
+            return false;
+        };
+        let expected = self.next.unwrap_or(number);
+        if !goes_straight(expected, self.waiting.as_slice(), number) {
+            return false;
+        }
+        self.next = Some(number.wrapping_add(1));
+        true
     }
 
     /// The packet that is to be fed next, where one is due.
@@ -165,6 +193,15 @@ impl Window {
             None => None,
         }
     }
+}
+
+// The packet stands at the front of the octets.
+fn put_front(octets: &mut [u8], packet: &[u8])
+    requires { length packet.now ≤ length octets.old }
+    ensures length { length octets.new ≡ length octets.old }
+    ensures front { take (length packet.now) octets.new ≡ packet.now }
+{
+    octets[..packet.len()].copy_from_slice(packet);
 }
 
 // Room for as many packets as may wait.
@@ -221,4 +258,13 @@ fn place_for(expected: u16, waiting: &[Slot], number: u16) -> usize
         Some(place) => place,
         None => waiting.len(),
     }
+}
+
+// Whether a packet with this number is the expected one, and is given out before all that wait.
+fn goes_straight(expected: u16, waiting: &[Slot], number: u16) -> bool
+    ensures { result ≡ goes_straight expected waiting.now number }
+{
+    number == expected
+        && !is_stale(expected, waiting, number)
+        && place_for(expected, waiting, number) == 0
 }
