@@ -1,6 +1,7 @@
 pub mod Depack
 pub mod Events
 pub mod OneByOne
+pub mod Ordered
 pub mod Packets
 pub mod Payload
 pub mod ReadSoFar
@@ -10,4 +11,8 @@ pub mod Turns
 pub mod UnitEnds
 pub mod UnitReader
 pub mod Units
+pub mod Window
+pub mod WindowFields
+pub mod WindowLaws
 pub mod WorkedPackets
+pub mod WorkedWindows

@@ -19,9 +19,12 @@ pub record Piece : Type 0 where
 abbrev pub number_after : Piece → ℕ
 number_after p = (p.number + 1) % 2 ^ 16
 
--- how far a packet is past an expected number, round the circle of sequence numbers
+-- how far a number is past an expected one, round the circle of sequence numbers
+abbrev pub ahead : ℕ → ℕ → ℕ
+ahead expected number = (number + 2 ^ 16 - expected) % 2 ^ 16
+
 abbrev pub distance : ℕ → Piece → ℕ
-distance expected p = (p.number + 2 ^ 16 - expected) % 2 ^ 16
+distance expected p = ahead expected p.number
 
 -- late or repeated: half the circle or more past the number behind that of `last`
 abbrev pub is_late : Piece → Piece → Bool

@@ -60,15 +60,15 @@ enum Phase {
 
 // What a usable packet brings.
 #[derive(Drop)]
-struct Carried<'a> {
-    seq: u16,
+pub(crate) struct Carried<'a> {
+    pub(crate) seq: u16,
     stamp: u32,
     marker: bool,
     bits: Bits<'a>,
 }
 
 // What a packet brings, where it is usable, with the first `room` of its bits.
-fn usable(packet: &[u8], room: u32) -> Option<Carried<'_>>
+pub(crate) fn usable(packet: &[u8], room: u32) -> Option<Carried<'_>>
     requires { room ≤ 500000 }
     ensures { CarriesIf room result (piece_of packet.now) }
 {

@@ -1,7 +1,9 @@
 //! Laws of packets, units and events, each the contract of a function that does nothing.
 ghost use Rattle.rtp_h261.specs.Events.{LawOfOneTelling};
 ghost use Rattle.rtp_h261.specs.Payload.{LawOfHeaders};
+ghost use Rattle.rtp_h261.specs.WindowLaws.{LawOfWidthZero, LawOfWindows};
 ghost use Rattle.rtp_h261.specs.WorkedPackets.{WorkedPackets};
+ghost use Rattle.rtp_h261.specs.WorkedWindows.{WorkedWindows};
 ghost use Rattle.rtp_h261.specs.OneByOne.{LawOfSteps, LawOfFronts};
 
 use picture_laws::one_record_or_one_fault;
@@ -27,4 +29,15 @@ pub fn one_header()
 /// What some lists of packets give, computed from the definition.
 pub fn worked_packets()
     ensures { WorkedPackets }
+{}
+
+/// What a window is for, and what is fed without one.
+pub fn packets_in_order()
+    ensures windows { LawOfWindows }
+    ensures width_zero { LawOfWidthZero }
+{}
+
+/// What windows give out of some lists of packets, computed from the definition.
+pub fn worked_windows()
+    ensures { WorkedWindows }
 {}
