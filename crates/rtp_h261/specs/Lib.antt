@@ -4,6 +4,7 @@ pub mod OneByOne
 pub mod Packets
 pub mod Payload
 pub mod ReadSoFar
+pub mod TellerEnds
 pub mod Tellers
 pub mod ToldSoFar
 pub mod Turns
