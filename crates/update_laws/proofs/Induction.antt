@@ -1,8 +1,7 @@
 -- Forced updating through a conference: what is written in a place follows what its lane sent, from a refresh on.
-use Rattle.std.proofs.Common.{◌≡◌, ◌⊎◌, inl, inr, ℕ, zero, suc, ◌+◌, ◌-◌, ◌%◌, ◌<◌, ◌≤◌, Bool, true, false, cond, not, Option, Some, None, List, [], ◌∷◌, ◌++◌, length, map, drop, slice_get, refl, sym, ap, subst, ◌∙◌, arith, length-append}
+use Rattle.std.proofs.Common.{◌≡◌, inl, inr, ℕ, zero, suc, ◌+◌, ◌-◌, ◌%◌, ◌<◌, ◌≤◌, Bool, true, false, cond, not, Option, Some, None, List, [], ◌∷◌, ◌++◌, length, map, drop, slice_get, refl, sym, ap, subst, ◌∙◌, arith, length-append}
 use Rattle.std.proofs.lemmas.List.{append_assoc, map-append, drop_at, length_push, length-map}
 use Rattle.std.proofs.lemmas.Option.{none-some}
-use Rattle.pel_model.specs.declared.Format.TheVariants.{Qcif}
 use Rattle.pel_model.specs.declared.Quad.{Quad}
 use Rattle.pel_model.specs.declared.held.Held.{Held}
 use Rattle.pel_model.specs.declared.note.Take.{Take}
@@ -10,11 +9,10 @@ use Rattle.pel_model.specs.declared.note.TickNote.{TickNote}
 use Rattle.pel_model.specs.Composed.{or_blank}
 use Rattle.pel_model.specs.Decode.{group_of, address_of}
 use Rattle.pel_model.specs.History.{Step, Post, Gap, Order, Tick, End, History, arrivals, commands, lane_at, total_of, taken_in}
-use Rattle.pel_model.specs.Lanes.{Arrival, Received, Missing}
+use Rattle.pel_model.specs.Lanes.{Arrival, Received}
 use Rattle.pel_model.specs.Legal.{Legal}
 use Rattle.pel_model.specs.Plan.{at, is_same_lane}
 use Rattle.pel_model.specs.Records.{Macroblock, Picture}
-use Rattle.pel_model.specs.Regions.{blank}
 use Rattle.pel_model.specs.Takes.{serial_or, last_taken, choice, take}
 use Rattle.pel_model.specs.Written.{picture_of, written_picture}
 use Rattle.frame_laws.proofs.ComposedPictures.{groups-composed}
@@ -22,7 +20,7 @@ use Rattle.frame_laws.proofs.Lookups.{found-shifted}
 use Rattle.history_laws.proofs.Came.{came_by, arrivals-step}
 use Rattle.history_laws.proofs.Composing.{shown, are-valid}
 use Rattle.history_laws.proofs.Ticks.{Chooses, taken, none-chosen, follows, chosen-good, same-lane}
-use Rattle.update_laws.specs.Kept.{IsPlace, macroblock_of, sent_at, transmissions, is_update, Kept, KeepsUpdating, run}
+use Rattle.update_laws.specs.Kept.{macroblock_of, sent_at, transmissions, is_update, Kept, KeepsUpdating, run}
 use Rattle.update_laws.specs.Updating.{picture_in, SendersUpdate, written_pictures, UpdatingLaw}
 use Rattle.update_laws.proofs.Places.{group_there, address_there, StandsThere, stands-there, place-there, place-in-qcif, blank-sends}
 use Rattle.update_laws.proofs.Refreshed.{SendsUpdate, refresh-sends}
@@ -126,9 +124,12 @@ refresh-follows lanes H note q c h legal chosen refresh at =
       came = at.2 ∙ sym (append_assoc at.0 (Some h.item ∷ []) at.1);
       serial = omega (arith, at.3, chosen.from.from_one);
       bound = λ column row across down.
-          omega (arith, run-ticked lanes H note q column row (Some h) legal across down chosen.picture,
-          updated-none (run_there lanes H q column row) (sent_at (group_of column row) (address_of column row) h.item)
-          (refresh-sends column row h.item across down good.0.valid (sym good.1 ∙ refresh)));
+          omega (
+            arith,
+            run-ticked lanes H note q column row (Some h) legal across down chosen.picture,
+            updated-none (run_there lanes H q column row) (sent_at (group_of column row) (address_of column row) h.item)
+                (refresh-sends column row h.item across down good.0.valid (sym good.1 ∙ refresh)),
+          );
     }
 
 -- the next serial goes on with the stretch
@@ -150,9 +151,12 @@ next-follows lanes H note q c h last legal chosen next at f =
       serial = omega (arith, length_push f.stretch h.item, f.serial, next);
       bound = λ column row across down.
           let sent = sent_at (group_of column row) (address_of column row) h.item in
-          omega (arith, run-ticked lanes H note q column row (Some h) legal across down chosen.picture,
-          run-sent (group_of column row) (address_of column row) f.stretch h.item,
-          counted-by-less (run_there lanes H q column row) (run_sent column row f.stretch) sent (f.bound column row across down));
+          omega (
+            arith,
+            run-ticked lanes H note q column row (Some h) legal across down chosen.picture,
+            run-sent (group_of column row) (address_of column row) f.stretch h.item,
+            counted-by-less (run_there lanes H q column row) (run_sent column row f.stretch) sent (f.bound column row across down),
+          );
     }
 
 take-follows : (lanes : ℕ) (H : History) (note : TickNote) (q : Quad) (c : ℕ) (h : Held Picture) → Legal lanes H → AllFollow lanes H → Chooses lanes H q c h
@@ -229,13 +233,19 @@ all-follow lanes (End ∷ H) legal q c n stands last = kept-follows lanes H End 
 run-kept : (lanes : ℕ) (H : History) (note : TickNote) (q : Quad) (column row : ℕ) → Legal lanes H → SendersUpdate H → Kept (written_pictures lanes H) → column < 11 → row < 9
     → (picture : Option (Held Picture)) → choice lanes H q ≡ picture → (told : Option Take) → take lanes H q ≡ told → run_there lanes (Tick note ∷ H) q column row < 132
 run-kept lanes H note q column row legal updates kept across down picture chosen None told =
-    omega (arith, run-unticked lanes H note q column row legal across down (none-chosen lanes H q told),
-    kept-run (written_pictures lanes H) kept (group_there q column row) (address_there q column row) (place-there q column row across down))
+    omega (
+      arith,
+      run-unticked lanes H note q column row legal across down (none-chosen lanes H q told),
+      kept-run (written_pictures lanes H) kept (group_there q column row) (address_there q column row) (place-there q column row across down),
+    )
 run-kept lanes H note q column row legal updates kept across down picture chosen (Some take_told) told =
     let found = taken lanes H q take_told told in
     let f = take-follows lanes H note q found.0 found.1 legal (all-follow lanes H legal) found.2 in
-    omega (arith, f.bound column row across down,
-    kept-run f.stretch (updates found.0 f.before f.after f.stretch f.came) (group_of column row) (address_of column row) (place-in-qcif column row across down))
+    omega (
+      arith,
+      f.bound column row across down,
+      kept-run f.stretch (updates found.0 f.before f.after f.stretch f.came) (group_of column row) (address_of column row) (place-in-qcif column row across down),
+    )
 
 tick-kept : (lanes : ℕ) (H : History) (note : TickNote) → Legal lanes H → SendersUpdate H → Kept (written_pictures lanes H)
     → (group address : ℕ) → StandsThere group address → run (transmissions group address (written_pictures lanes (Tick note ∷ H))) < 132

@@ -1,11 +1,10 @@
 -- Each place of a macroblock of CIF is one of QCIF in one of the four places.
-use Rattle.std.proofs.Common.{◌≡◌, ◌⊎◌, inl, inr, ℕ, ◌+◌, ◌-◌, ◌*◌, ◌/◌, ◌%◌, ◌<◌, ◌≤◌, ◌==◌, Bool, true, false, cond, Option, None, Some, List, [], ◌∷◌, refl, ap, arith}
+use Rattle.std.proofs.Common.{◌≡◌, inl, inr, ℕ, ◌+◌, ◌-◌, ◌*◌, ◌/◌, ◌%◌, ◌<◌, ◌==◌, Bool, true, false, cond, Option, None, refl, ap, arith}
 use Rattle.std.proofs.lemmas.Bool.{cases_lt}
 use Rattle.pel_model.specs.declared.Quad.{Quad}
 use Rattle.pel_model.specs.declared.Quad.TheVariants.{One, Two, Three, Four}
-use Rattle.pel_model.specs.Decode.{Quantised, in_groups, group_of, address_of}
-use Rattle.pel_model.specs.Records.{Group, Picture}
-use Rattle.pel_model.specs.Regions.{right, below, blank, empty_group}
+use Rattle.pel_model.specs.Decode.{Quantised, group_of, address_of}
+use Rattle.pel_model.specs.Regions.{right, below, blank}
 use Rattle.update_laws.specs.Kept.{IsPlace, macroblock_of, sent_at}
 
 -- the group and the address in the CIF picture of what stands in this column and row of a place
