@@ -18,6 +18,7 @@ told-line result format n event line old new same puts short cause = record {
   here = event_line format n event ∷ [];
   others = λ events. refl;
   put = subst (λ (l : List ℕ). PutsHere (l ∷ []) old.written new.written result) same puts;
+  counts = tt;
   few = few-of result short;
   format = refl;
   cause = cause;

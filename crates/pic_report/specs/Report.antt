@@ -1,5 +1,5 @@
 -- The report: a line for each event, ended by LF. Its numbers stand in decimal; the events are numbered from 1.
-use Rattle.std.specs.Prelude.{ℕ, ◌+◌, ◌++◌, List, [], ◌∷◌, length, decimal, codes, sum_by, count_by}
+use Rattle.std.specs.Prelude.{ℕ, ◌+◌, ◌++◌, List, [], ◌∷◌, length, decimal, codes, sum_by, count_by, None}
 use Rattle.pel_model.specs.declared.Format.{Format}
 use Rattle.pel_model.specs.declared.Why.{Why}
 use Rattle.pel_model.specs.declared.Why.TheVariants.{NoStart, WrongFormat, StillImage, BadGroup, BadQuant, TooLong, NoCode}
@@ -63,4 +63,4 @@ lines format events = event_lines format 1 events
 
 -- what is to be written by the report
 abbrev pub report_duty : Format → Duty
-report_duty format = record { format = format; pieces = event_lines format }
+report_duty format = record { format = format; pieces = event_lines format; counts = None }

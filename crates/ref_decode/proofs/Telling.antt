@@ -34,6 +34,7 @@ told-picture result old new number p before after same is put few cause = record
   here = planes_of new.format (frame_of new) ∷ [];
   others = λ events. sym (ap₂ (λ (f : Format) (frame : Frame). planes_of f frame ∷ planes_from f frame events) same is);
   put = put;
+  counts = tt;
   few = few;
   format = same;
   cause = cause;

@@ -1,5 +1,5 @@
 -- What a decoder shows after each picture of a stream, as octets.
-use Rattle.std.specs.Prelude.{ℕ, List, [], ◌∷◌}
+use Rattle.std.specs.Prelude.{ℕ, List, [], ◌∷◌, None}
 use Rattle.pel_model.specs.declared.Format.{Format}
 use Rattle.pel_model.specs.Decode.{decode}
 use Rattle.pel_model.specs.Frames.{Frame}
@@ -23,4 +23,8 @@ planes_shown format events = planes_from format black events
 
 -- what is to be written behind what is shown
 abbrev pub planes_duty : Screen → Duty
-planes_duty shown = record { format = shown.format; pieces = λ number events. planes_from shown.format (frame_of shown) events }
+planes_duty shown = record {
+  format = shown.format;
+  pieces = λ number events. planes_from shown.format (frame_of shown) events;
+  counts = None;
+}

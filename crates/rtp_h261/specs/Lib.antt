@@ -5,6 +5,7 @@ pub mod Ordered
 pub mod Packets
 pub mod Payload
 pub mod ReadSoFar
+pub mod TellerEnds
 pub mod Tellers
 pub mod ToldSoFar
 pub mod Turns

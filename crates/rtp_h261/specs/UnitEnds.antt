@@ -106,3 +106,31 @@ pub record ReadsUnits (format : Format) (budget : ℕ) (pieces : List Event → 
     (end : UnitEnd) : Type 0 where
   pub ends : UnitsEnd end.stop format budget pieces before after end
   pub completes : Completes budget before after end
+
+-- ---- how many pieces were written whole
+
+abbrev pub whole_in : (stop : UnitStop) (format : Format) (packets : List (List ℕ)) (pieces : List Event → List (List ℕ))
+    (events : List Event) (old new : Option (List ℕ)) (octets : ℕ)
+    → WritesPieces stop format packets pieces events old new octets → ℕ
+whole_in WriteFault format packets pieces events old new octets written = length written.whole
+whole_in _ format packets pieces events old new octets written = length (pieces events)
+
+abbrev pub whole_read : {format : Format} {budget : ℕ} {pieces : List Event → List (List ℕ)} {before after : Outside}
+    {end : UnitEnd} → UnitsRead format budget pieces before after end → ℕ
+whole_read {format = format} {pieces = pieces} {before = before} {after = after} {end = end} read =
+    whole_in end.stop format read.packets pieces read.events before.sink.written after.sink.written end.tally.octets
+    read.report
+
+abbrev pub whole_by : (stop : UnitStop) (format : Format) (budget : ℕ) (pieces : List Event → List (List ℕ))
+    (before after : Outside) (end : UnitEnd) → UnitsEnd stop format budget pieces before after end → ℕ
+whole_by NoMemory format budget pieces before after end nothing = 0
+whole_by Done format budget pieces before after end read = whole_read read
+whole_by ReadFault format budget pieces before after end read = whole_read read
+whole_by WriteFault format budget pieces before after end read = whole_read read
+whole_by (Cut place) format budget pieces before after end read = whole_read read
+whole_by Limit format budget pieces before after end read = whole_read read
+
+abbrev pub whole_pieces : {format : Format} {budget : ℕ} {pieces : List Event → List (List ℕ)} {before after : Outside}
+    {end : UnitEnd} → ReadsUnits format budget pieces before after end → ℕ
+whole_pieces {format = format} {budget = budget} {pieces = pieces} {before = before} {after = after} {end = end} reads =
+    whole_by end.stop format budget pieces before after end reads.ends

@@ -6,8 +6,9 @@ ghost use Rattle.io_edge.specs.Outside.{outside};
 ghost use Rattle.rtp_h261.specs.Events.{Event, lost_events};
 ghost use Rattle.rtp_h261.specs.ReadSoFar.{IsEventIn, IsEventOf, Told};
 ghost use Rattle.rtp_h261.specs.Tellers.{TellsEvent};
-ghost use Rattle.rtp_h261.specs.ToldSoFar.{CanTell, CountsEvents, LeavesEvents, LeavesUnit, TellsOn, TellsPacket, stop_for};
-ghost use Rattle.rtp_h261.specs.UnitEnds.{ReadsUnits, UnitsRead, no_units};
+ghost use Rattle.rtp_h261.specs.TellerEnds.{TellsUnits};
+ghost use Rattle.rtp_h261.specs.ToldSoFar.{CanTell, CountsEvents, LeavesEvents, LeavesUnit, TellsOn, TellsPacket, TellsRead, stop_for};
+ghost use Rattle.rtp_h261.specs.UnitEnds.{no_units};
 ghost use Rattle.rtp_h261.specs.UnitReader.{reading_after};
 
 use crate::depack::{Fed, Unit};
@@ -33,7 +34,7 @@ pub fn read_units<T: Teller, S: Source, K: Sink>(
 ) -> UnitEnd
     requires budget { budget ≤ 2 ^ 40 }
     requires format { (T.duty teller.old).format ≡ format }
-    ensures { ReadsUnits format budget ((T.duty teller.old).pieces 1)
+    ensures { TellsUnits format budget (T.duty teller.old) (T.duty teller.new)
         (outside (S.tells source.old) (K.tells sink.old)) (outside (S.tells source.new) (K.tells sink.new)) result }
 {
     one_stream();
@@ -78,7 +79,7 @@ fn read_each<T: Teller, S: Source, K: Sink>(
     requires reader { reader.old ≡ reading_after into.old.format reader.old.framer.allowance.budget [] }
     requires few { reader.old.framer.allowance.budget ≤ 2 ^ 40 }
     requires format { (T.duty teller.old).format ≡ into.old.format }
-    ensures { UnitsRead into.old.format reader.old.framer.allowance.budget ((T.duty teller.old).pieces 1)
+    ensures { TellsRead into.old.format reader.old.framer.allowance.budget (T.duty teller.old) (T.duty teller.new)
         (outside (S.tells source.old) (K.tells sink.old)) (outside (S.tells source.new) (K.tells sink.new)) result }
 {
     let mut tally = no_units();

@@ -15,7 +15,7 @@ use pel_model::Fault;
 /// call gives the octets that it wrote, 2^18 at most. Where the sink fails, a front of the piece was written, and not
 /// all of it.
 pub trait Teller {
-    // The format of the pictures that it is told, and what it is to write of events.
+    // The format of the pictures that it is told, what it is to write of events, and what it counted.
     ghost duty: { Self → Duty };
 
     /// Packets are missing.

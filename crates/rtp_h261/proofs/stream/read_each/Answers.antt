@@ -4,8 +4,7 @@ use Rattle.io_edge.specs.declared.edges.Failed.{Failed}
 use Rattle.io_edge.specs.Outside.{outside}
 use Rattle.rtp_h261.specs.declared.depack.Fed.{Fed}
 use Rattle.rtp_h261.specs.declared.unit_end.UnitStop.{UnitStop}
-use Rattle.rtp_h261.specs.ToldSoFar.{TellsPacket}
-use Rattle.rtp_h261.specs.UnitEnds.{UnitsRead}
+use Rattle.rtp_h261.specs.ToldSoFar.{TellsPacket, TellsRead}
 use Rattle.rtp_h261.specs.UnitReader.{ReadsOn}
 use Rattle.rtp_wire.specs.declared.frames.FrameEnd.{FrameEnd}
 use Rattle.rtp_h261.proofs.PacketsRead.{packet-read, no-packet-read}
@@ -45,7 +44,7 @@ returns-in-Err-tell g c =
     let p = packet-read format budget first mid now c.loop-fed.reader c.next.new.self c.loop-fed.into c.next.new.into c.in-Ok.fed h.packets h.events h.read reads h.coded_is in
     let told : TellsPacket duty later c.loop-fed.tally c.tell.new.tally p.more (g.K.Sink.tells c.loop-fed.sink) (g.K.Sink.tells c.tell.new.sink) (Err c.in-Err-tell.field-0) =
     subst (λ (r : Result Unit Failed). TellsPacket duty later c.loop-fed.tally c.tell.new.tally p.more (g.K.Sink.tells c.loop-fed.sink) (g.K.Sink.tells c.tell.new.sink) r) c.in-Err-tell.is (c.tell.ensures p.more p.told) in
-    failed-told c.in-Err-tell.field-0 format budget ((g.T.Teller.duty c.args.teller.now).pieces 1) (outside first (g.K.Sink.tells c.args.sink.now)) (outside mid (g.K.Sink.tells c.loop-fed.sink))
+    failed-told c.in-Err-tell.field-0 format budget (g.T.Teller.duty c.args.teller.now) (outside first (g.K.Sink.tells c.args.sink.now)) (outside mid (g.K.Sink.tells c.loop-fed.sink))
     (outside now (g.K.Sink.tells c.tell.new.sink)) c.loop-fed.reader c.next.new.self c.loop-fed.into c.next.new.into c.loop-fed.tally c.tell.new.tally duty later c.in-Ok.fed h p told
     (λ n. g.met.T.Teller.nothing_more c.loop-fed.teller n)
 
@@ -64,7 +63,7 @@ loop-fed-preserved g c =
     let p = packet-read format budget first mid now c.loop-fed.reader c.next.new.self c.loop-fed.into c.next.new.into c.in-Ok.fed h.packets h.events h.read reads h.coded_is in
     let told : TellsPacket duty later c.loop-fed.tally c.tell.new.tally p.more (g.K.Sink.tells c.loop-fed.sink) (g.K.Sink.tells c.tell.new.sink) (Ok c.in_default.field-0) =
     subst (λ (r : Result Unit Failed). TellsPacket duty later c.loop-fed.tally c.tell.new.tally p.more (g.K.Sink.tells c.loop-fed.sink) (g.K.Sink.tells c.tell.new.sink) r) c.in_default.is (c.tell.ensures p.more p.told) in
-    next-told c.in_default.field-0 format budget ((g.T.Teller.duty c.args.teller.now).pieces 1) (outside first (g.K.Sink.tells c.args.sink.now)) (outside mid (g.K.Sink.tells c.loop-fed.sink))
+    next-told c.in_default.field-0 format budget (g.T.Teller.duty c.args.teller.now) (outside first (g.K.Sink.tells c.args.sink.now)) (outside mid (g.K.Sink.tells c.loop-fed.sink))
     (outside now (g.K.Sink.tells c.tell.new.sink)) c.loop-fed.reader c.next.new.self c.loop-fed.into c.next.new.into c.loop-fed.tally c.tell.new.tally duty later c.in-Ok.fed h p told
 
 pub returns-in-Err : goal.returns-in-Err
@@ -75,12 +74,12 @@ returns-in-Err g c =
     let first = g.S.Source.tells c.args.source.now in
     let mid = g.S.Source.tells c.loop-fed.source in
     let now = g.S.Source.tells c.next.new.source in
-    let pieces = (g.T.Teller.duty c.args.teller.now).pieces 1 in
+    let first_duty = g.T.Teller.duty c.args.teller.now in
     let before = outside first (g.K.Sink.tells c.args.sink.now) in
     let after = outside now (g.K.Sink.tells c.loop-fed.sink) in
     let reads : ReadsOn mid now c.loop-fed.reader c.next.new.self c.loop-fed.into c.next.new.into (Err c.in-Err.end) =
     subst (λ (r : Result Fed FrameEnd). ReadsOn mid now c.loop-fed.reader c.next.new.self c.loop-fed.into c.next.new.into r) c.in-Err.is c.next.ensures in
     let p = no-packet-read format budget first mid now c.loop-fed.reader c.next.new.self c.loop-fed.into c.next.new.into c.in-Err.end h.packets h.events h.read reads in
-    subst (λ (stop : UnitStop). UnitsRead format budget pieces before after (record { stop = stop; tally = c.loop-fed.tally })) (sym c.stop_for.ensures)
-    (ended-told c.in-Err.end format budget pieces before (outside mid (g.K.Sink.tells c.loop-fed.sink)) after c.loop-fed.reader c.loop-fed.into c.loop-fed.tally (g.T.Teller.duty c.loop-fed.teller) h p refl
+    subst (λ (stop : UnitStop). TellsRead format budget first_duty (g.T.Teller.duty c.loop-fed.teller) before after (record { stop = stop; tally = c.loop-fed.tally })) (sym c.stop_for.ensures)
+    (ended-told c.in-Err.end format budget first_duty before (outside mid (g.K.Sink.tells c.loop-fed.sink)) after c.loop-fed.reader c.loop-fed.into c.loop-fed.tally (g.T.Teller.duty c.loop-fed.teller) h p refl
     (λ n. g.met.T.Teller.nothing_more c.loop-fed.teller n))
