@@ -4,6 +4,7 @@
 mod ahead;
 mod cells;
 mod coefficients;
+mod octets;
 
 ghost use Rattle.std.specs.Prelude.{◌≡◌, cond, List, is_some};
 ghost use Rattle.pel_model.specs.declared.Format.{Format};
@@ -13,8 +14,9 @@ ghost use Rattle.pel_model.specs.Grammar.{Element, slot, AtDc, AtFirst, next};
 ghost use Rattle.pel_model.specs.Records.{Block};
 ghost use Rattle.pel_model.specs.Walk.{Walked};
 
-use ahead::some_words;
+use ahead::one_word;
 use coefficients::{intradc, intradc_level, run_and_level, tcoeff};
+pub use octets::pass_blocks;
 use pel_bits::Reader;
 use pel_model::Fault;
 
@@ -32,7 +34,7 @@ pub fn scan_block(r: &mut Reader<'_>, intra: bool) -> Result<(), Fault>
         intradc(r)?;
         filled = 1;
     }
-    while let Some(behind) = some_words(r, filled)? {
+    while let Some(behind) = one_word(r, filled)? {
         filled = behind;
     }
     Ok(())
