@@ -1,4 +1,4 @@
-use Rattle.std.proofs.Common.{◌≡◌, ◌-◌, flat_map, refl, sym, ◌∙◌, ap, arith}
+use Rattle.std.proofs.Common.{◌≡◌, ◌-◌, [], flat_map, refl, sym, ◌∙◌, ap, arith}
 use Rattle.pel_model.specs.Elements.{block_elements}
 use Rattle.pel_model.specs.Grammar.{block_slot, next}
 use Rattle.h261_mb.proofs.SentBlocks.{all_read, blocks_onward}
