@@ -273,3 +273,20 @@ passed-end (b ∷ bits) s = by_end (step s b).0 (step s b).1 (step s b).2 (passe
     by_end : (next fills : ℕ) (ends : Bool) (rest : Passed) → rest.end ≤ length bits → (with_step (next, fills, ends) rest).end ≤ suc (length bits)
     by_end next fills true rest h = omega arith
     by_end next fills false rest h = by_zero rest.end h
+
+abbrev run : ℕ × ℕ × Bool → List Bool → Passed
+run st bits = with_step st (passed st.0 bits)
+
+-- what stands behind an end is not looked at
+pub passed-cut : (bits : List Bool) (s : ℕ) → 0 < (passed s bits).end → passed s (take (passed s bits).end bits) ≡ passed s bits
+passed-cut [] s some = absurd (omega (arith, some))
+passed-cut (b ∷ bits) s some =
+    let cut = by_end (step s b).0 (step s b).1 (step s b).2 (passed-cut bits (step s b).0) some in
+    ap (λ (n : ℕ). passed s (take n (b ∷ bits))) cut.1 ∙ cut.2
+  where
+    by_end : (next fills : ℕ) (ends : Bool) → (0 < (passed next bits).end → passed next (take (passed next bits).end bits) ≡ passed next bits) → 0 < (run (next, fills, ends) bits).end
+        → (n : ℕ) × ((run (next, fills, ends) bits).end ≡ suc n) × (run (next, fills, ends) (take n bits) ≡ run (next, fills, ends) bits)
+    by_end next fills true rest some = (0, refl, refl)
+    by_end next fills false rest some =
+        let more = on_end (passed next bits).end some in
+        ((passed next bits).end, omega (arith, more.1), ap (with_step (next, fills, false)) (rest more.0))

@@ -2,7 +2,7 @@
 use Rattle.std.proofs.Common.{◌≡◌, ◌≢◌, ℕ, zero, suc, ◌+◌, ◌-◌, ◌^◌, ◌<◌, ◌≤◌, ◌==◌, ◌&&◌, Bool, true, false, cond, List, ◌++◌, length, take, drop, get_or, nat_lt, None, refl, sym, ◌∙◌, ap, subst, inl, inr, arith, length-append, length-take, min}
 use Rattle.std.proofs.lemmas.Bool.{ne_eqb, eq-eqb, eqb-true, ltb-true, ltb-false, cases_Bool, cond-true, cond-false}
 use Rattle.std.proofs.lemmas.List.{take-append-drop, take-append-le, length-drop, drop-take, take-take}
-use Rattle.std.proofs.Math.Seq.{take-add}
+use Rattle.std.proofs.Math.Seq.{take-add, take-length}
 use Rattle.pel_bits.specs.Bits.{field, number}
 use Rattle.pel_bits.specs.Reading.{zeros}
 use Rattle.pel_bits.proofs.Fields.{field-number, number_below}
@@ -16,7 +16,7 @@ use Rattle.h261_block.specs.Ahead.{EndsBlock}
 use Rattle.h261_block.specs.Blocks.{BlockStands, BlocksStand}
 use Rattle.h261_block.specs.Steps.{Passed, passed, start, none_ends, one_ends, two_end, by_second, by_first, IsCellOf}
 use Rattle.h261_block.proofs.BlockSteps.{dc-good}
-use Rattle.h261_block.proofs.Machines.{IsJoined, passed-append, passed-within, passed-end, end-kept, block-ends}
+use Rattle.h261_block.proofs.Machines.{IsJoined, passed-append, passed-within, passed-end, passed-cut, end-kept, block-ends}
 use Rattle.h261_block.proofs.SoFar.{none_yet, dc_only, whole_taken}
 
 -- ---- INTRADC
@@ -283,10 +283,7 @@ octet_cases intra bits first cell is =
           ]
     ]
 
-module _ (intra : Bool) (count : ℕ) (r ahead : Reading) (state filled left : ℕ) (passing : IsPassing intra count r ahead state filled left) (long : 8 ≤ length ahead.0) where
-  abbrev bits : List Bool
-  bits = take 8 ahead.0
-
+module _ (intra : Bool) (count : ℕ) (r ahead : Reading) (state filled left : ℕ) (passing : IsPassing intra count r ahead state filled left) (bits : List Bool) (bits_long : length bits ≡ 8) (same : (k : ℕ) → k ≤ length ahead.0 → k ≤ 8 → take k ahead.0 ≡ take k bits) where
   abbrev first : Passed
   first = passed state bits
 
@@ -295,9 +292,6 @@ module _ (intra : Bool) (count : ℕ) (r ahead : Reading) (state filled left : �
 
   abbrev third : Passed
   third = passed (start intra) (drop second.end (drop first.end bits))
-
-  bits_long : length bits ≡ 8
-  bits_long = length-take 8 ahead.0 ∙ omega (arith, long)
 
   first_short : first.end ≤ 8
   first_short = omega (arith, passed-end bits state, bits_long)
@@ -317,95 +311,113 @@ module _ (intra : Bool) (count : ℕ) (r ahead : Reading) (state filled left : �
   abbrev n2 : ℕ
   n2 = 8 - (first.end + second.end)
 
-  bits1 : take n1 mid1.0 ≡ drop first.end bits
-  bits1 =
-      let all : first.end + n1 ≡ 8 = omega (arith, first_short) in
-      sym (drop-take first.end n1 ahead.0) ∙ ap (λ (k : ℕ). drop first.end (take k ahead.0)) all
-
-  long1 : n1 ≤ length mid1.0
-  long1 = omega (arith, length-drop first.end ahead.0, long)
-
-  bits2 : take n2 mid2.0 ≡ drop second.end (drop first.end bits)
-  bits2 =
-      let all : second.end + n2 ≡ n1 = omega (arith, second_short) in
-      sym (drop-take second.end n2 mid1.0) ∙ (ap (λ (k : ℕ). drop second.end (take k mid1.0)) all ∙ ap (drop second.end) bits1)
-
-  long2 : n2 ≤ length mid2.0
-  long2 = omega (arith, length-drop second.end mid1.0, long1)
+  same1 : (n : ℕ) → first.end + n ≤ length ahead.0 → first.end + n ≤ 8 → take n mid1.0 ≡ take n (drop first.end bits)
+  same1 n fits few = sym (drop-take first.end n ahead.0) ∙ (ap (drop first.end) (same (first.end + n) fits few) ∙ drop-take first.end n bits)
 
   -- behind the first end
-  done1 : 0 < first.end → filled + first.filled ≤ 64 → BlocksStand intra (count - left + 1) r mid1
-  done1 some room = one_more intra count r ahead state filled left passing 8 long mid1 some room refl
+  done1 : 0 < first.end → first.end ≤ length ahead.0 → filled + first.filled ≤ 64 → BlocksStand intra (count - left + 1) r mid1
+  done1 some fits room =
+      let here : passed state (take first.end ahead.0) ≡ first = ap (passed state) (same first.end fits first_short) ∙ passed-cut bits state some in
+      one_more intra count r ahead state filled left passing first.end fits mid1
+      (omega (arith, ap (λ (p : Passed). p.end) here, some)) (omega (arith, ap (λ (p : Passed). p.filled) here, room)) (ap (λ (p : Passed). skipped p.end ahead) (sym here))
 
-  passing1 : 0 < first.end → filled + first.filled ≤ 64 → 1 < left → IsPassing intra count r mid1 (start intra) 0 (left - 1)
-  passing1 some room more =
-      begun intra count (left - 1) r mid1 (subst (λ (k : ℕ). BlocksStand intra k r mid1) (omega (arith, more, passing.most)) (done1 some room)) (omega (arith, more)) (omega (arith, passing.most))
+  passing1 : 0 < first.end → first.end ≤ length ahead.0 → filled + first.filled ≤ 64 → 1 < left → IsPassing intra count r mid1 (start intra) 0 (left - 1)
+  passing1 some fits room more =
+      begun intra count (left - 1) r mid1 (subst (λ (k : ℕ). BlocksStand intra k r mid1) (omega (arith, more, passing.most)) (done1 some fits room)) (omega (arith, more)) (omega (arith, passing.most))
 
   -- behind the second
-  done2 : 0 < first.end → filled + first.filled ≤ 64 → 1 < left → 0 < second.end → second.filled ≤ 64 → BlocksStand intra (count - (left - 1) + 1) r mid2
-  done2 some room more again small =
-      let here : passed (start intra) (take n1 mid1.0) ≡ second = ap (passed (start intra)) bits1 in
-      one_more intra count r mid1 (start intra) 0 (left - 1) (passing1 some room more) n1 long1 mid2
+  done2 : 0 < first.end → first.end + second.end ≤ length ahead.0 → filled + first.filled ≤ 64 → 1 < left → 0 < second.end → second.filled ≤ 64 → BlocksStand intra (count - (left - 1) + 1) r mid2
+  done2 some fits room more again small =
+      let here : passed (start intra) (take second.end mid1.0) ≡ second = ap (passed (start intra)) (same1 second.end fits second_short) ∙ passed-cut (drop first.end bits) (start intra) again in
+      let fits1 : first.end ≤ length ahead.0 = omega (arith, fits) in
+      one_more intra count r mid1 (start intra) 0 (left - 1) (passing1 some fits1 room more) second.end (omega (arith, length-drop first.end ahead.0, fits)) mid2
       (omega (arith, ap (λ (p : Passed). p.end) here, again)) (omega (arith, ap (λ (p : Passed). p.filled) here, small)) (ap (λ (p : Passed). skipped p.end mid1) (sym here))
 
-  passing2 : 0 < first.end → filled + first.filled ≤ 64 → 2 < left → 0 < second.end → second.filled ≤ 64 → IsPassing intra count r mid2 (start intra) 0 (left - 2)
-  passing2 some room more again small =
-      begun intra count (left - 2) r mid2 (subst (λ (k : ℕ). BlocksStand intra k r mid2) (omega (arith, more, passing.most)) (done2 some room (omega (arith, more)) again small)) (omega (arith, more)) (omega (arith, passing.most))
+  passing2 : 0 < first.end → first.end + second.end ≤ length ahead.0 → filled + first.filled ≤ 64 → 2 < left → 0 < second.end → second.filled ≤ 64 → IsPassing intra count r mid2 (start intra) 0 (left - 2)
+  passing2 some fits room more again small =
+      begun intra count (left - 2) r mid2 (subst (λ (k : ℕ). BlocksStand intra k r mid2) (omega (arith, more, passing.most)) (done2 some fits room (omega (arith, more)) again small)) (omega (arith, more)) (omega (arith, passing.most))
 
   mid2_is : mid2 ≡ skipped (first.end + second.end) ahead
   mid2_is = skipped-skipped second.end first.end ahead
 
+  -- to the end of the octet, where all of it is there
+  all8 : take 8 bits ≡ bits
+  all8 = ap (λ (n : ℕ). take n bits) (sym bits_long) ∙ take-length bits
+
+  whole : 8 ≤ length ahead.0 → take 8 ahead.0 ≡ bits
+  whole long = same 8 long (omega arith) ∙ all8
+
+  rest1 : 8 ≤ length ahead.0 → take n1 mid1.0 ≡ drop first.end bits
+  rest1 long =
+      let all : first.end + n1 ≡ 8 = omega (arith, first_short) in
+      sym (drop-take first.end n1 ahead.0) ∙ (ap (λ (k : ℕ). drop first.end (take k ahead.0)) all ∙ ap (drop first.end) (whole long))
+
+  rest2 : 8 ≤ length ahead.0 → take n2 mid2.0 ≡ drop second.end (drop first.end bits)
+  rest2 long =
+      let all : second.end + n2 ≡ n1 = omega (arith, second_short) in
+      sym (drop-take second.end n2 mid1.0) ∙ (ap (λ (k : ℕ). drop second.end (take k mid1.0)) all ∙ ap (drop second.end) (rest1 long))
+
+  long1 : 8 ≤ length ahead.0 → n1 ≤ length mid1.0
+  long1 long = omega (arith, length-drop first.end ahead.0, long)
+
+  long2 : 8 ≤ length ahead.0 → n2 ≤ length mid2.0
+  long2 long = omega (arith, length-drop second.end mid1.0, long1 long)
+
   -- what the loop goes on with, where a cell is what it has to be
   abbrev GoesOn : Cell → Type 0
   GoesOn cell =
-      filled + cell.before ≤ 64 → cell.behind < 256 → cell.ends < left → (new : Reading) (next more less : ℕ) → new ≡ skipped 8 ahead → next ≡ cell.next
+      8 ≤ length ahead.0 → filled + cell.before ≤ 64 → cell.behind < 256 → cell.ends < left → (new : Reading) (next more less : ℕ) → new ≡ skipped 8 ahead → next ≡ cell.next
       → more ≡ cond (cell.ends == 0) (filled + cell.before) cell.behind → less ≡ left - cell.ends → IsPassing intra count r new next more less
 
   goes_on : (cell : Cell) → Octet intra bits first cell → GoesOn cell
-  goes_on cell (Open none is) = subst GoesOn (sym is) (λ room small few new next more less moved next_is more_is less_is.
+  goes_on cell (Open none is) = subst GoesOn (sym is) (λ long room small few new next more less moved next_is more_is less_is.
+      let here : passed state (take 8 ahead.0) ≡ first = ap (passed state) (whole long) in
       subst (λ (l : ℕ). IsPassing intra count r new next more l) (omega (arith, less_is))
-      (further intra count r ahead state filled left passing 8 long new next more none moved next_is more_is (omega (arith, more_is, room))))
-  goes_on cell (Once some none is) = subst GoesOn (sym is) (λ room small few new next more less moved next_is more_is less_is.
-      let here : passed (start intra) (take n1 mid1.0) ≡ second = ap (passed (start intra)) bits1 in
+      (further intra count r ahead state filled left passing 8 long new next more
+      (ap (λ (p : Passed). p.end) here ∙ none) moved (next_is ∙ ap (λ (p : Passed). p.state) (sym here)) (omega (arith, more_is, ap (λ (p : Passed). p.filled) here)) (omega (arith, more_is, room))))
+  goes_on cell (Once some none is) = subst GoesOn (sym is) (λ long room small few new next more less moved next_is more_is less_is.
+      let here : passed (start intra) (take n1 mid1.0) ≡ second = ap (passed (start intra)) (rest1 long) in
+      let fits : first.end ≤ length ahead.0 = omega (arith, first_short, long) in
       let all : first.end + n1 ≡ 8 = omega (arith, first_short) in
       let moved1 : new ≡ skipped n1 mid1 = moved ∙ (ap (λ (k : ℕ). skipped k ahead) (sym all) ∙ sym (skipped-skipped n1 first.end ahead)) in
       subst (λ (l : ℕ). IsPassing intra count r new next more l) (omega (arith, less_is))
-      (further intra count r mid1 (start intra) 0 (left - 1) (passing1 some room few) n1 long1 new next more
+      (further intra count r mid1 (start intra) 0 (left - 1) (passing1 some fits room few) n1 (long1 long) new next more
       (ap (λ (p : Passed). p.end) here ∙ none) moved1 (next_is ∙ ap (λ (p : Passed). p.state) (sym here)) (omega (arith, more_is, ap (λ (p : Passed). p.filled) here)) (omega (arith, more_is, small))))
-  goes_on cell (Twice some again room2 none is) = subst GoesOn (sym is) (λ room small few new next more less moved next_is more_is less_is.
-      let here : passed (start intra) (take n2 mid2.0) ≡ third = ap (passed (start intra)) bits2 in
+  goes_on cell (Twice some again room2 none is) = subst GoesOn (sym is) (λ long room small few new next more less moved next_is more_is less_is.
+      let here : passed (start intra) (take n2 mid2.0) ≡ third = ap (passed (start intra)) (rest2 long) in
+      let fits : first.end + second.end ≤ length ahead.0 = omega (arith, second_short, long) in
       let all : first.end + second.end + n2 ≡ 8 = omega (arith, second_short) in
       let moved2 : new ≡ skipped n2 mid2 =
       moved ∙ (ap (λ (k : ℕ). skipped k ahead) (sym all) ∙ (sym (skipped-skipped n2 (first.end + second.end) ahead) ∙ ap (λ (q : Reading). skipped n2 q) (sym mid2_is))) in
       subst (λ (l : ℕ). IsPassing intra count r new next more l) (omega (arith, less_is))
-      (further intra count r mid2 (start intra) 0 (left - 2) (passing2 some room few again room2) n2 long2 new next more
+      (further intra count r mid2 (start intra) 0 (left - 2) (passing2 some fits room few again room2) n2 (long2 long) new next more
       (ap (λ (p : Passed). p.end) here ∙ none) moved2 (next_is ∙ ap (λ (p : Passed). p.state) (sym here)) (omega (arith, more_is, ap (λ (p : Passed). p.filled) here)) (omega (arith, more_is, small))))
 
   -- what it stops with
   abbrev Stops : Cell → Type 0
   Stops cell =
-      filled + cell.before ≤ 64 → left ≤ cell.ends → (new : Reading) (k : ℕ) → new ≡ skipped k ahead → k ≡ cond (left == 1) cell.first cell.second → BlocksStand intra count r new
+      filled + cell.before ≤ 64 → left ≤ cell.ends → (new : Reading) (k : ℕ) → k ≤ length ahead.0 → new ≡ skipped k ahead → k ≡ cond (left == 1) cell.first cell.second → BlocksStand intra count r new
 
   as_new : (new at : Reading) (n : ℕ) → n ≡ count → at ≡ new → BlocksStand intra n r at → BlocksStand intra count r new
   as_new new at n count_is same stand = subst (λ (q : Reading). BlocksStand intra count r q) same (subst (λ (k : ℕ). BlocksStand intra k r at) count_is stand)
 
   stops : (cell : Cell) → Octet intra bits first cell → Stops cell
-  stops cell (Open none is) = subst Stops (sym is) (λ room last new k moved k_is. absurd (omega (arith, last, passing.some)))
-  stops cell (Once some none is) = subst Stops (sym is) (λ room last new k moved k_is.
+  stops cell (Open none is) = subst Stops (sym is) (λ room last new k fits moved k_is. absurd (omega (arith, last, passing.some)))
+  stops cell (Once some none is) = subst Stops (sym is) (λ room last new k fits moved k_is.
       let one : left ≡ 1 = omega (arith, last, passing.some) in
       let k_first : k ≡ first.end = k_is ∙ ap (λ (l : ℕ). cond (l == 1) first.end 0) one in
-      as_new new mid1 (count - left + 1) (omega (arith, one, passing.most)) (sym (moved ∙ ap (λ (k : ℕ). skipped k ahead) k_first)) (done1 some room))
-  stops cell (Twice some again room2 none is) = subst Stops (sym is) (λ room last new k moved k_is.
+      as_new new mid1 (count - left + 1) (omega (arith, one, passing.most)) (sym (moved ∙ ap (λ (k : ℕ). skipped k ahead) k_first)) (done1 some (omega (arith, k_first, fits)) room))
+  stops cell (Twice some again room2 none is) = subst Stops (sym is) (λ room last new k fits moved k_is.
       elim (cases_Bool (left == 1)) [
         | inl one_is ↦
             let one : left ≡ 1 = eqb-true left 1 one_is in
             let k_first : k ≡ first.end = k_is ∙ ap (λ (b : Bool). cond b first.end (first.end + second.end)) one_is in
-            as_new new mid1 (count - left + 1) (omega (arith, one, passing.most)) (sym (moved ∙ ap (λ (k : ℕ). skipped k ahead) k_first)) (done1 some room)
+            as_new new mid1 (count - left + 1) (omega (arith, one, passing.most)) (sym (moved ∙ ap (λ (k : ℕ). skipped k ahead) k_first)) (done1 some (omega (arith, k_first, fits)) room)
         | inr other_is ↦
             let other : 1 < left = not_one left passing.some other_is in
             let two : left ≡ 2 = omega (arith, other, last) in
             let k_second : k ≡ first.end + second.end = k_is ∙ ap (λ (b : Bool). cond b first.end (first.end + second.end)) other_is in
-            as_new new mid2 (count - (left - 1) + 1) (omega (arith, two, passing.most)) (mid2_is ∙ sym (moved ∙ ap (λ (k : ℕ). skipped k ahead) k_second)) (done2 some room other again room2)
+            as_new new mid2 (count - (left - 1) + 1) (omega (arith, two, passing.most)) (mid2_is ∙ sym (moved ∙ ap (λ (k : ℕ). skipped k ahead) k_second)) (done2 some (omega (arith, k_second, fits)) room other again room2)
       ])
     where
       not_one : (l : ℕ) → 0 < l → (l == 1) ≡ false → 1 < l
@@ -413,35 +425,32 @@ module _ (intra : Bool) (count : ℕ) (r ahead : Reading) (state filled left : �
       not_one (suc zero) h other = absurd cc
       not_one (suc (suc l)) h other = omega arith
 
-  -- it stops in the octet
-  abbrev Short : Cell → Type 0
-  Short cell = cond (left == 1) cell.first cell.second ≤ 8
+-- ---- the octet that the code looks at, zeros behind the last bit
 
-  short_by : (b : Bool) (x y : ℕ) → x ≤ 8 → y ≤ 8 → cond b x y ≤ 8
-  short_by true x y h k = h
-  short_by false x y h k = k
+abbrev octet_of : Reading → List Bool
+octet_of ahead = take 8 (ahead.0 ++ zeros 8)
 
-  short : (cell : Cell) → Octet intra bits first cell → Short cell
-  short cell (Open none is) = subst Short (sym is) (short_by (left == 1) 0 0 (omega arith) (omega arith))
-  short cell (Once some none is) = subst Short (sym is) (short_by (left == 1) first.end 0 first_short (omega arith))
-  short cell (Twice some again room2 none is) = subst Short (sym is) (short_by (left == 1) first.end (first.end + second.end) first_short second_short)
+octet_long : (ahead : Reading) → length (octet_of ahead) ≡ 8
+octet_long ahead = length-take 8 (ahead.0 ++ zeros 8) ∙ omega (arith, length-append ahead.0 (zeros 8), long_zeros 8)
+
+octet_same : (ahead : Reading) (k : ℕ) → k ≤ length ahead.0 → k ≤ 8 → take k ahead.0 ≡ take k (octet_of ahead)
+octet_same ahead k fits few = sym (take-take k 8 (ahead.0 ++ zeros 8) few ∙ take-append-le k ahead.0 (zeros 8) fits)
+
+octet_is : (ahead : Reading) (octet : ℕ) → octet ≡ number (octet_of ahead) → field octet 8 ≡ octet_of ahead
+octet_is ahead octet is = ap (λ (n : ℕ). field n 8) is ∙ (ap (field (number (octet_of ahead))) (sym (octet_long ahead)) ∙ field-number (octet_of ahead))
 
 -- by the cell that the code looked up
 abbrev cell_bits : Bool → ℕ → List Bool → Told
 cell_bits intra state bits = by_first intra bits (passed state bits)
 
-seen : (intra : Bool) (state octet : ℕ) (ahead : Reading) (cell : Cell) → field octet 8 ≡ take 8 ahead.0 → IsCellOf intra state octet cell → Octet intra (take 8 ahead.0) (passed state (take 8 ahead.0)) cell
-seen intra state octet ahead cell octet_is is =
-    octet_cases intra (take 8 ahead.0) (passed state (take 8 ahead.0)) cell (is.cell_is ∙ ap (cell_bits intra state) octet_is)
+module _ (intra : Bool) (count : ℕ) (r ahead : Reading) (state filled left : ℕ) (passing : IsPassing intra count r ahead state filled left) (octet : ℕ) (peeked : octet ≡ number (octet_of ahead)) (cell : Cell) (is : IsCellOf intra state octet cell) where
+  seen : Octet intra (octet_of ahead) (passed state (octet_of ahead)) cell
+  seen = octet_cases intra (octet_of ahead) (passed state (octet_of ahead)) cell (is.cell_is ∙ ap (cell_bits intra state) (octet_is ahead octet peeked))
 
-module _ (intra : Bool) (count : ℕ) (r ahead : Reading) (state filled left : ℕ) (passing : IsPassing intra count r ahead state filled left) (octet : ℕ) (long : 8 ≤ length ahead.0) (octet_is : field octet 8 ≡ take 8 ahead.0) (cell : Cell) (is : IsCellOf intra state octet cell) where
-  pub passes : (new : Reading) (more less : ℕ) → filled + cell.before ≤ 64 → cell.ends < left → new ≡ skipped 8 ahead → more ≡ cond (cell.ends == 0) (filled + cell.before) cell.behind → less ≡ left - cell.ends → IsPassing intra count r new cell.next more less
-  passes new more less room few moved more_is less_is =
-      goes_on intra count r ahead state filled left passing long cell (seen intra state octet ahead cell octet_is is) room is.behind few new cell.next more less moved refl more_is less_is
+  pub passes : (new : Reading) (more less : ℕ) → 8 ≤ length ahead.0 → filled + cell.before ≤ 64 → cell.ends < left → new ≡ skipped 8 ahead → more ≡ cond (cell.ends == 0) (filled + cell.before) cell.behind → less ≡ left - cell.ends → IsPassing intra count r new cell.next more less
+  passes new more less long room few moved more_is less_is =
+      goes_on intra count r ahead state filled left passing (octet_of ahead) (octet_long ahead) (octet_same ahead) cell seen long room is.behind few new cell.next more less moved refl more_is less_is
 
-  pub ends : (new : Reading) (k : ℕ) → filled + cell.before ≤ 64 → left ≤ cell.ends → new ≡ skipped k ahead → k ≡ cond (left == 1) cell.first cell.second → BlocksStand intra count r new
-  ends new k room last moved k_is =
-      stops intra count r ahead state filled left passing long cell (seen intra state octet ahead cell octet_is is) room last new k moved k_is
-
-  pub ends_short : cond (left == 1) cell.first cell.second ≤ 8
-  ends_short = short intra count r ahead state filled left passing long cell (seen intra state octet ahead cell octet_is is)
+  pub ends : (new : Reading) (k : ℕ) → filled + cell.before ≤ 64 → left ≤ cell.ends → k ≤ length ahead.0 → new ≡ skipped k ahead → k ≡ cond (left == 1) cell.first cell.second → BlocksStand intra count r new
+  ends new k room last fits moved k_is =
+      stops intra count r ahead state filled left passing (octet_of ahead) (octet_long ahead) (octet_same ahead) cell seen room last new k fits moved k_is

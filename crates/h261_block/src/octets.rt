@@ -26,8 +26,8 @@ pub struct Cell {
     pub second: u32,
 }
 
-/// Moves past this many blocks, those of an Intra macroblock or of another, and says so; where there is a fault in them, or
-/// the bits end with their last octet, it may say that it does not, and then the reader stays.
+/// Moves past this many blocks, those of an Intra macroblock or of another, and answers true; or it answers false, as where
+/// there is a fault in them, and the reader stays.
 pub fn pass_blocks(r: &mut Reader<'_>, intra: bool, count: u32) -> bool
     requires { 0 < count }
     ensures { PassesBlocks intra count result r.old r.new }
@@ -36,16 +36,23 @@ pub fn pass_blocks(r: &mut Reader<'_>, intra: bool, count: u32) -> bool
     let mut state = first_state(intra);
     let mut filled = 0;
     let mut left = count;
-    while ahead.left() >= 8 {
+    while ahead.left() > 0 {
         let cell = cell_at(intra, state, ahead.peek(8));
         let sum = filled + cell.before;
         if sum > 64 {
             return false;
         }
         if cell.ends >= left {
-            ahead.skip(last_end(&cell, left));
+            let end = last_end(&cell, left);
+            if end > ahead.left() {
+                return false;
+            }
+            ahead.skip(end);
             *r = ahead;
             return true;
+        }
+        if ahead.left() < 8 {
+            return false;
         }
         ahead.skip(8);
         state = cell.next;

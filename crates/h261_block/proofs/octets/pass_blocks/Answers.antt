@@ -1,8 +1,7 @@
 use Rattle.std.proofs.Common.{◌≡◌, ◌≤◌, ◌++◌, true, false, length, take, refl, arith, length-take}
 use Rattle.pel_bits.specs.Reading.{zeros}
 use Rattle.pel_bits.proofs.RunBits.{number-fits_in}
-use Rattle.h261_block.proofs.Machines.{octet-seen}
-use Rattle.h261_block.proofs.Passing.{none_passed, passes, ends, ends_short}
+use Rattle.h261_block.proofs.Passing.{none_passed, passes, ends}
 use Rattle.h261_block.proofs.octets.pass_blocks.Goals as goal
 
 pub cell_at-cell-requires : goal.cell_at-cell-requires
@@ -17,32 +16,23 @@ loop-left-init c = record {
   passing = none_passed c.args.intra c.args.count c.first_state-state.result c.args.r.now c.copy-ahead.result c.copy-ahead.ensures c.first_state-state.ensures c.requires;
 }
 
-pub skip-requires : goal.skip-requires
-skip-requires c =
-    let l = c.loop-left in
-    let octet_is = octet-seen l.ahead.0 c.peek.result (omega arith) c.peek.ensures in
-    let short = ends_short c.args.intra c.args.count c.args.r.now l.ahead l.state l.filled l.left l.invariant.passing c.peek.result (omega arith) octet_is c.cell_at-cell.result c.cell_at-cell.ensures in
-    omega (arith, c.last_end.ensures, short)
-
 not_both : true ≡ false → ⊥
 not_both h = cc
 
 pub returns-then-cell-left : goal.returns-then-cell-left
 returns-then-cell-left c =
     let l = c.loop-left in
-    let octet_is = octet-seen l.ahead.0 c.peek.result (omega arith) c.peek.ensures in
     record {
       kept = λ no. absurd (not_both no);
-      passed = λ _. ends c.args.intra c.args.count c.args.r.now l.ahead l.state l.filled l.left l.invariant.passing c.peek.result (omega arith) octet_is c.cell_at-cell.result c.cell_at-cell.ensures c.skip.new.self
-          c.last_end.result (omega arith) (omega arith) c.skip.ensures c.last_end.ensures;
+      passed = λ _. ends c.args.intra c.args.count c.args.r.now l.ahead l.state l.filled l.left l.invariant.passing c.peek.result c.peek.ensures c.cell_at-cell.result c.cell_at-cell.ensures c.skip.new.self
+          c.last_end-end.result (omega arith) (omega arith) (omega arith) c.skip.ensures c.last_end-end.ensures;
     }
 
 pub loop-left-preserved : goal.loop-left-preserved
 loop-left-preserved c =
     let l = c.loop-left in
-    let octet_is = octet-seen l.ahead.0 c.peek.result (omega arith) c.peek.ensures in
     record {
       kept = l.invariant.kept;
-      passing = passes c.args.intra c.args.count c.args.r.now l.ahead l.state l.filled l.left l.invariant.passing c.peek.result (omega arith) octet_is c.cell_at-cell.result c.cell_at-cell.ensures c.skip-in-loop-left.new.self
-          _ _ (omega arith) (omega arith) c.skip-in-loop-left.ensures c.filled_behind-filled.ensures (omega arith);
+      passing = passes c.args.intra c.args.count c.args.r.now l.ahead l.state l.filled l.left l.invariant.passing c.peek.result c.peek.ensures c.cell_at-cell.result c.cell_at-cell.ensures c.skip-in-loop-left.new.self
+          _ _ (omega arith) (omega arith) (omega arith) c.skip-in-loop-left.ensures c.filled_behind-filled.ensures (omega arith);
     }
