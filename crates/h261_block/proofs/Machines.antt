@@ -1,6 +1,7 @@
 -- The machine by its numbered states: its steps are those of what is pending, and where it finds the end of a block the rest of
 -- the block stands there.
-use Rattle.std.proofs.Common.{◌≡◌, ℕ, zero, suc, ◌+◌, ◌*◌, ◌/◌, ◌%◌, ◌<◌, ◌≤◌, ◌==◌, Bool, true, false, cond, List, [], ◌∷◌, ◌++◌, length, take, drop, get_or, nat_lt, refl, sym, ◌∙◌, ap, subst, arith, append_assoc, length-append, length-take}
+use Rattle.std.proofs.Common.{◌≡◌, ℕ, zero, suc, ◌+◌, ◌*◌, ◌/◌, ◌%◌, ◌<◌, ◌≤◌, ◌==◌, Bool, true, false, cond, List, [], ◌∷◌, ◌++◌, length, take, drop}
+use Rattle.std.proofs.Common.{get_or, nat_lt, refl, sym, ◌∙◌, ap, subst, arith, append_assoc, length-append, length-take}
 use Rattle.std.proofs.lemmas.Bool.{ne_eqb, eq-eqb, eqb-true, ltb-true}
 use Rattle.std.proofs.lemmas.List.{drop_at, drop-append-le, take-append-drop, take-append-le}
 use Rattle.pel_bits.specs.Bits.{field, number}
@@ -11,8 +12,8 @@ use Rattle.pel_model.specs.Walk.{Reading, Standing, read, skipped, Goes}
 use Rattle.pel_model.specs.Grammar.{Element, first_rows, later_rows, next}
 use Rattle.vlc_codes.proofs.CellLaws.{listed, listed_at}
 use Rattle.h261_block.specs.Ahead.{AreWords, EndsBlock, MayStand, elements}
-use Rattle.h261_block.specs.Machine.{Pending, Code, Step, codes, begins, bit_step}
-use Rattle.h261_block.specs.Steps.{pending, steps, step, Passed, with_step, passed}
+use Rattle.h261_block.specs.Machine.{Pending, Code, BitStep, codes, begins, bit_step}
+use Rattle.h261_block.specs.Steps.{pending, steps, state_step, Passed, behind_bit, passed}
 use Rattle.h261_block.proofs.AheadLaws.{one-coefficient, one-end, more-words}
 use Rattle.h261_block.proofs.Pendings.{Holds, Outcome, Waits, Makes, Ends, Fails, IsCoefficient, stepped}
 
@@ -24,7 +25,7 @@ at k = get_or steps k (87, 127, false)
 abbrev meant : ℕ × ℕ × Bool → Pending × ℕ × Bool
 meant s = (pending s.0, s.1, s.2)
 
-abbrev told : Step → Pending × ℕ × Bool
+abbrev told : BitStep → Pending × ℕ × Bool
 told s = (s.next, s.fills, s.ends)
 
 steps_computed : listed (λ k. meant (at k)) 0 176 ≡ listed (λ k. told (bit_step (pending (k / 2)) (k % 2 == 1))) 0 176
@@ -49,7 +50,7 @@ halves : (s : ℕ) (b : Bool) → (at_bit s b / 2 ≡ s) × ((at_bit s b % 2 == 
 halves s true = (omega arith, eq-eqb (at_bit s true % 2) 1 (omega arith))
 halves s false = (omega arith, ne_eqb (at_bit s false % 2) 1 (λ h. omega (arith, h)))
 
-step_meant : (s : ℕ) (b : Bool) → s < 88 → meant (step s b) ≡ told (bit_step (pending s) b)
+step_meant : (s : ℕ) (b : Bool) → s < 88 → meant (state_step s b) ≡ told (bit_step (pending s) b)
 step_meant s b inside =
     step_at (at_bit s b) (by_bit b)
     ∙ (ap (λ (n : ℕ). told (bit_step (pending n) (at_bit s b % 2 == 1))) (halves s b).0 ∙ ap (λ (c : Bool). told (bit_step (pending s) c)) (halves s b).1)
@@ -58,8 +59,8 @@ step_meant s b inside =
     by_bit true = omega arith
     by_bit false = omega arith
 
-step_within : (s : ℕ) (b : Bool) → s < 88 → (step s b).0 < 88
-step_within s b inside = ltb-true (step s b).0 88
+step_within : (s : ℕ) (b : Bool) → s < 88 → (state_step s b).0 < 88
+step_within s b inside = ltb-true (state_step s b).0 88
     (sym (listed_at (λ k. nat_lt (at k).0 88) 176 (at_bit s b) true (by_bit b))
     ∙ (ap (λ (bs : List Bool). get_or bs (at_bit s b) true) steps_within ∙ listed_at (λ k. true) 176 (at_bit s b) true (by_bit b)))
   where
@@ -70,8 +71,8 @@ step_within s b inside = ltb-true (step s b).0 88
 all_within : listed (λ k. nat_lt (at k).0 102) 0 204 ≡ listed (λ k. true) 0 204
 all_within = refl
 
-any_within : (s : ℕ) (b : Bool) → s < 102 → (step s b).0 < 102
-any_within s b inside = ltb-true (step s b).0 102
+any_within : (s : ℕ) (b : Bool) → s < 102 → (state_step s b).0 < 102
+any_within s b inside = ltb-true (state_step s b).0 102
     (sym (listed_at (λ k. nat_lt (at k).0 102) 204 (at_bit s b) true (by_bit b))
     ∙ (ap (λ (bs : List Bool). get_or bs (at_bit s b) true) all_within ∙ listed_at (λ k. true) 204 (at_bit s b) true (by_bit b)))
   where
@@ -111,7 +112,8 @@ none_longer (suc n) =
     let sum : suc n ≡ 0 + suc n = omega arith in
     sum ∙ sym (ap (λ (b : Bool). cond b 0 (0 + suc n)) (not_none n))
 
-joined_step : (next fills : ℕ) (ends : Bool) (first second all : Passed) (long : ℕ) → (with_step (next, fills, ends) first).end ≡ 0 → (first.end ≡ 0 → IsJoined first second all long) → IsJoined (with_step (next, fills, ends) first) second (with_step (next, fills, ends) all) (long + 1)
+joined_step : (next fills : ℕ) (ends : Bool) (first second all : Passed) (long : ℕ) → (behind_bit (next, fills, ends) first).end ≡ 0 → (first.end ≡ 0 → IsJoined first second all long)
+    → IsJoined (behind_bit (next, fills, ends) first) second (behind_bit (next, fills, ends) all) (long + 1)
 joined_step next fills true first second all long none rest = absurd (omega (arith, none))
 joined_step next fills false first second all long none rest =
     let j = rest (not_yet first.end none) in record {
@@ -120,33 +122,34 @@ joined_step next fills false first second all long none rest =
       end = ap (λ (n : ℕ). cond (n == 0) 0 (n + 1)) j.end ∙ longer second.end long;
     }
 
-state_joined : (next fills : ℕ) (ends : Bool) (first : Passed) → (with_step (next, fills, ends) first).end ≡ 0 → (with_step (next, fills, ends) first).state ≡ first.state
+state_joined : (next fills : ℕ) (ends : Bool) (first : Passed) → (behind_bit (next, fills, ends) first).end ≡ 0 → (behind_bit (next, fills, ends) first).state ≡ first.state
 state_joined next fills true first none = absurd (omega (arith, none))
 state_joined next fills false first none = refl
 
 pub passed-append : (xs ys : List Bool) (s : ℕ) → (passed s xs).end ≡ 0 → IsJoined (passed s xs) (passed (passed s xs).state ys) (passed s (xs ++ ys)) (length xs)
 passed-append [] ys s none = record { state = refl; filled = omega arith; end = none_longer (passed s ys).end }
 passed-append (b ∷ xs) ys s none =
-    let st = step s b in
+    let st = state_step s b in
     let rest : Passed = passed st.0 xs in
-    let same : (with_step st rest).state ≡ rest.state = state_joined st.0 st.1 st.2 rest none in
-    subst (λ (q : ℕ). IsJoined (with_step st rest) (passed q ys) (with_step st (passed st.0 (xs ++ ys))) (suc (length xs))) (sym same)
-    (subst (λ (n : ℕ). IsJoined (with_step st rest) (passed rest.state ys) (with_step st (passed st.0 (xs ++ ys))) n) (omega arith)
+    let same : (behind_bit st rest).state ≡ rest.state = state_joined st.0 st.1 st.2 rest none in
+    subst (λ (q : ℕ). IsJoined (behind_bit st rest) (passed q ys) (behind_bit st (passed st.0 (xs ++ ys))) (suc (length xs))) (sym same)
+    (subst (λ (n : ℕ). IsJoined (behind_bit st rest) (passed rest.state ys) (behind_bit st (passed st.0 (xs ++ ys))) n) (omega arith)
     (joined_step st.0 st.1 st.2 rest (passed rest.state ys) (passed st.0 (xs ++ ys)) (length xs) none (λ (h : rest.end ≡ 0). passed-append xs ys st.0 h)))
 
 -- an end stays where it is, whatever follows
 pub end-kept : (xs ys : List Bool) (s : ℕ) → 0 < (passed s xs).end → (passed s (xs ++ ys)).end ≡ (passed s xs).end
 end-kept [] ys s some = absurd (omega (arith, some))
 end-kept (b ∷ xs) ys s some =
-    by_step (step s b).0 (step s b).1 (step s b).2 (passed (step s b).0 xs) (passed (step s b).0 (xs ++ ys)) (end-kept xs ys (step s b).0) some
+    by_step (state_step s b).0 (state_step s b).1 (state_step s b).2 (passed (state_step s b).0 xs) (passed (state_step s b).0 (xs ++ ys)) (end-kept xs ys (state_step s b).0) some
   where
-    by_step : (next fills : ℕ) (ends : Bool) (first all : Passed) → (0 < first.end → all.end ≡ first.end) → 0 < (with_step (next, fills, ends) first).end → (with_step (next, fills, ends) all).end ≡ (with_step (next, fills, ends) first).end
+    by_step : (next fills : ℕ) (ends : Bool) (first all : Passed) → (0 < first.end → all.end ≡ first.end) → 0 < (behind_bit (next, fills, ends) first).end
+        → (behind_bit (next, fills, ends) all).end ≡ (behind_bit (next, fills, ends) first).end
     by_step next fills true first all rest some = refl
     by_step next fills false first all rest some = ap (λ (n : ℕ). cond (n == 0) 0 (n + 1)) (rest (on_end first.end some).0)
 
 -- ---- the end of a block
 
-least_filled : (next fills : ℕ) (ends : Bool) (rest : Passed) → fills ≤ (with_step (next, fills, ends) rest).filled
+least_filled : (next fills : ℕ) (ends : Bool) (rest : Passed) → fills ≤ (behind_bit (next, fills, ends) rest).filled
 least_filled next fills true rest = omega arith
 least_filled next fills false rest = omega arith
 
@@ -176,7 +179,9 @@ module _ (bits : List Bool) (finds : Finds bits) (base k : ℕ) (front : List Bo
   long_now = length-append front (b ∷ [])
 
   -- by the step of what is pending, which is `st`, and its number
-  found : (to fills : ℕ) (ends : Bool) (st : Step) → to < 88 → meant (to, fills, ends) ≡ told st → Outcome base now k st → 0 < (with_step (to, fills, ends) (passed to bits)).end → base + (k + (with_step (to, fills, ends) (passed to bits)).filled) ≤ 64 → AreWords (front ++ b ∷ bits) (length front + (with_step (to, fills, ends) (passed to bits)).end) base (base + (k + (with_step (to, fills, ends) (passed to bits)).filled)) true
+  found : (to fills : ℕ) (ends : Bool) (st : BitStep) → to < 88 → meant (to, fills, ends) ≡ told st → Outcome base now k st → 0 < (behind_bit (to, fills, ends) (passed to bits)).end
+      → base + (k + (behind_bit (to, fills, ends) (passed to bits)).filled) ≤ 64
+      → AreWords (front ++ b ∷ bits) (length front + (behind_bit (to, fills, ends) (passed to bits)).end) base (base + (k + (behind_bit (to, fills, ends) (passed to bits)).filled)) true
   found to fills true st within is (Waits goes_on holds) some room = absurd (let e = ap (λ (s : Pending × ℕ × Bool). s.2) is ∙ goes_on in cc)
   found to fills false st within is (Waits goes_on holds) some room =
       let rest : Passed = passed to bits in
@@ -213,7 +218,7 @@ module _ (bits : List Bool) (finds : Finds bits) (base k : ℕ) (front : List Bo
 pub finds_end : (bits : List Bool) → Finds bits
 finds_end [] = λ s base k front within holds some room. absurd (omega (arith, some))
 finds_end (b ∷ bits) = λ s base k front within holds some room.
-    let st = step s b in
+    let st = state_step s b in
     found bits (finds_end bits) base k front b st.0 st.1 st.2 (bit_step (pending s) b) (step_within s b within) (step_meant s b within) (stepped (pending s) base k front b holds) some room
 
 -- ---- at the front of what is left of a reader
@@ -222,12 +227,14 @@ begins_at : (count : ℕ) (none : Bool) → (count == 0) ≡ none → Holds (pen
 begins_at count true is = (refl, refl, eqb-true count 0 is)
 begins_at count false is = (refl, refl, subst (λ (b : Bool). MayStand b []) (sym is) tt)
 
-pub block-ends : (count s m end : ℕ) (r new : Reading) → s ≡ cond (count == 0) 0 1 → m ≤ length r.0 → end ≤ m → (passed s (take m r.0)).end ≡ end → 0 < end → count + (passed s (take m r.0)).filled ≤ 64 → new ≡ skipped end r → EndsBlock count r new
+pub block-ends : (count s m end : ℕ) (r new : Reading) → s ≡ cond (count == 0) 0 1 → m ≤ length r.0 → end ≤ m → (passed s (take m r.0)).end ≡ end → 0 < end
+    → count + (passed s (take m r.0)).filled ≤ 64 → new ≡ skipped end r → EndsBlock count r new
 block-ends count s m end r new s_is inside short end_is some room moved = λ format before due full.
     let bits : List Bool = take m r.0 in
     let holds = subst (λ (q : ℕ). Holds (pending q) count [] 0) (sym s_is) (begins_at count (count == 0) refl) in
     let words = finds_end bits s count 0 [] (small (count == 0) s_is) holds (omega (arith, end_is, some)) (omega (arith, room)) in
-    let here = subst (λ (n : ℕ). Goes (next format) before (bits ++ drop m r.0, r.1) (elements words.coefficients true) (drop n bits ++ drop m r.0, r.1 + n)) (omega (arith, end_is)) (words.go format before (drop m r.0) r.1 due full) in
+    let here = subst (λ (n : ℕ). Goes (next format) before (bits ++ drop m r.0, r.1) (elements words.coefficients true) (drop n bits ++ drop m r.0, r.1 + n)) (omega (arith, end_is))
+    (words.go format before (drop m r.0) r.1 due full) in
     let whole : bits ++ drop m r.0 ≡ r.0 = take-append-drop m r.0 in
     let behind : drop end bits ++ drop m r.0 ≡ drop end r.0 =
     sym (drop-append-le end bits (drop m r.0) (omega (arith, length-take m r.0, inside, short))) ∙ ap (drop end) whole in
@@ -256,32 +263,32 @@ octet-seen bits octet long is =
 pub passed-within : (bits : List Bool) (s : ℕ) → s < 102 → (passed s bits).state < 102
 passed-within [] s inside = inside
 passed-within (b ∷ bits) s inside =
-    by_end (step s b).0 (step s b).1 (step s b).2 (passed (step s b).0 bits) (passed-within bits (step s b).0 (any_within s b inside))
+    by_end (state_step s b).0 (state_step s b).1 (state_step s b).2 (passed (state_step s b).0 bits) (passed-within bits (state_step s b).0 (any_within s b inside))
   where
-    by_end : (next fills : ℕ) (ends : Bool) (rest : Passed) → rest.state < 102 → (with_step (next, fills, ends) rest).state < 102
+    by_end : (next fills : ℕ) (ends : Bool) (rest : Passed) → rest.state < 102 → (behind_bit (next, fills, ends) rest).state < 102
     by_end next fills true rest h = omega arith
     by_end next fills false rest h = h
 
 pub passed-end : (bits : List Bool) (s : ℕ) → (passed s bits).end ≤ length bits
 passed-end [] s = omega arith
-passed-end (b ∷ bits) s = by_end (step s b).0 (step s b).1 (step s b).2 (passed (step s b).0 bits) (passed-end bits (step s b).0)
+passed-end (b ∷ bits) s = by_end (state_step s b).0 (state_step s b).1 (state_step s b).2 (passed (state_step s b).0 bits) (passed-end bits (state_step s b).0)
   where
     by_zero : (n : ℕ) → n ≤ length bits → cond (n == 0) 0 (n + 1) ≤ suc (length bits)
     by_zero zero h = omega arith
     by_zero (suc n) h = omega (arith, h, ap (λ (b : Bool). cond b 0 (suc n + 1)) (not_none n))
 
-    by_end : (next fills : ℕ) (ends : Bool) (rest : Passed) → rest.end ≤ length bits → (with_step (next, fills, ends) rest).end ≤ suc (length bits)
+    by_end : (next fills : ℕ) (ends : Bool) (rest : Passed) → rest.end ≤ length bits → (behind_bit (next, fills, ends) rest).end ≤ suc (length bits)
     by_end next fills true rest h = omega arith
     by_end next fills false rest h = by_zero rest.end h
 
 abbrev run : ℕ × ℕ × Bool → List Bool → Passed
-run st bits = with_step st (passed st.0 bits)
+run st bits = behind_bit st (passed st.0 bits)
 
 -- what stands behind an end is not looked at
 pub passed-cut : (bits : List Bool) (s : ℕ) → 0 < (passed s bits).end → passed s (take (passed s bits).end bits) ≡ passed s bits
 passed-cut [] s some = absurd (omega (arith, some))
 passed-cut (b ∷ bits) s some =
-    let cut = by_end (step s b).0 (step s b).1 (step s b).2 (passed-cut bits (step s b).0) some in
+    let cut = by_end (state_step s b).0 (state_step s b).1 (state_step s b).2 (passed-cut bits (state_step s b).0) some in
     ap (λ (n : ℕ). passed s (take n (b ∷ bits))) cut.1 ∙ cut.2
   where
     by_end : (next fills : ℕ) (ends : Bool) → (0 < (passed next bits).end → passed next (take (passed next bits).end bits) ≡ passed next bits) → 0 < (run (next, fills, ends) bits).end
@@ -289,4 +296,4 @@ passed-cut (b ∷ bits) s some =
     by_end next fills true rest some = (0, refl, refl)
     by_end next fills false rest some =
         let more = on_end (passed next bits).end some in
-        ((passed next bits).end, omega (arith, more.1), ap (with_step (next, fills, false)) (rest more.0))
+        ((passed next bits).end, omega (arith, more.1), ap (behind_bit (next, fills, false)) (rest more.0))

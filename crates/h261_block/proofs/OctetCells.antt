@@ -149,7 +149,8 @@ inter_computed = record { part_0 = inter_0; part_1 = inter_1; part_2 = inter_2; 
 intra_computed : AreComputed intra (cell_of true)
 intra_computed = record { part_0 = intra_0; part_1 = intra_1; part_2 = intra_2; part_3 = intra_3; part_4 = intra_4; part_5 = intra_5; part_6 = intra_6 }
 
-found : (with_dc : Bool) (ns ps : List ℕ) (s t octet : ℕ) (cell : Cell) → length (joined ns ps) ≡ 26112 → AreComputed (joined ns ps) (cell_of with_dc) → t ≡ s → s < 102 → octet < 256 → cell ≡ stored ns ps (256 * t + octet) → IsCellOf with_dc s octet cell
+found : (with_dc : Bool) (ns ps : List ℕ) (s t octet : ℕ) (cell : Cell) → length (joined ns ps) ≡ 26112 → AreComputed (joined ns ps) (cell_of with_dc) → t ≡ s → s < 102 → octet < 256
+    → cell ≡ stored ns ps (256 * t + octet) → IsCellOf with_dc s octet cell
 found with_dc ns ps s t octet cell counted computed same inside small is =
     let k : ℕ = 256 * t + octet in
     let within : k < 26112 = omega (arith, same, inside, small) in

@@ -1,5 +1,6 @@
 -- The blocks of a macroblock, as far as octets were passed.
-use Rattle.std.proofs.Common.{◌≡◌, ◌≢◌, ℕ, zero, suc, ◌+◌, ◌-◌, ◌^◌, ◌<◌, ◌≤◌, ◌==◌, ◌&&◌, Bool, true, false, cond, List, ◌++◌, length, take, drop, get_or, nat_lt, None, refl, sym, ◌∙◌, ap, subst, inl, inr, arith, length-append, length-take, min}
+use Rattle.std.proofs.Common.{◌≡◌, ◌≢◌, ℕ, zero, suc, ◌+◌, ◌-◌, ◌^◌, ◌<◌, ◌≤◌, ◌==◌, ◌&&◌, Bool, true, false, cond, List, ◌++◌, length, take, drop, get_or, nat_lt}
+use Rattle.std.proofs.Common.{None, refl, sym, ◌∙◌, ap, subst, inl, inr, arith, length-append, length-take, min}
 use Rattle.std.proofs.lemmas.Bool.{ne_eqb, eq-eqb, eqb-true, ltb-true, ltb-false, cases_Bool, cond-true, cond-false}
 use Rattle.std.proofs.lemmas.List.{take-append-drop, take-append-le, length-drop, drop-take, take-take}
 use Rattle.std.proofs.Math.Seq.{take-add, take-length}
@@ -14,7 +15,7 @@ use Rattle.vlc_codes.proofs.CellLaws.{listed, listed_at}
 use Rattle.h261_block.specs.declared.octets.Cell.{Cell}
 use Rattle.h261_block.specs.Ahead.{EndsBlock}
 use Rattle.h261_block.specs.Blocks.{BlockStands, BlocksStand}
-use Rattle.h261_block.specs.Steps.{Passed, passed, start, none_ends, one_ends, two_end, by_second, by_first, IsCellOf}
+use Rattle.h261_block.specs.Steps.{Passed, passed, block_start, none_ends, one_ends, two_end, by_second, by_first, IsCellOf}
 use Rattle.h261_block.proofs.BlockSteps.{dc-good}
 use Rattle.h261_block.proofs.Machines.{IsJoined, passed-append, passed-within, passed-end, passed-cut, end-kept, block-ends}
 use Rattle.h261_block.proofs.SoFar.{none_yet, dc_only, whole_taken}
@@ -95,7 +96,8 @@ behind-dc bits some room =
     let good = dc.good (omega (arith, filled_is, room)) in
     let end_is : (passed 88 bits).end ≡ cond ((passed 1 rest).end == 0) 0 (8 + (passed 1 rest).end) =
     ap (λ (t : List Bool). (passed 88 t).end) (sym whole)
-    ∙ (joined.end ∙ (ap (λ (s : ℕ). cond ((passed s rest).end == 0) 0 (length eight + (passed s rest).end)) good.2 ∙ ap (λ (n : ℕ). cond ((passed 1 rest).end == 0) 0 (n + (passed 1 rest).end)) long_eight)) in
+    ∙ (joined.end ∙ (ap (λ (s : ℕ). cond ((passed s rest).end == 0) 0 (length eight + (passed s rest).end)) good.2
+    ∙ ap (λ (n : ℕ). cond ((passed 1 rest).end == 0) 0 (n + (passed 1 rest).end)) long_eight)) in
     let on = on_by (passed 1 rest).end (omega (arith, end_is, some)) in
     record {
       long = long;
@@ -112,7 +114,8 @@ behind-dc bits some room =
 
 -- ---- a block
 
-block-stands : (intra : Bool) (m : ℕ) (mid new : Reading) → m ≤ length mid.0 → 0 < (passed (start intra) (take m mid.0)).end → (passed (start intra) (take m mid.0)).filled ≤ 64 → new ≡ skipped (passed (start intra) (take m mid.0)).end mid → BlockStands intra mid new
+block-stands : (intra : Bool) (m : ℕ) (mid new : Reading) → m ≤ length mid.0 → 0 < (passed (block_start intra) (take m mid.0)).end → (passed (block_start intra) (take m mid.0)).filled ≤ 64
+    → new ≡ skipped (passed (block_start intra) (take m mid.0)).end mid → BlockStands intra mid new
 block-stands false m mid new inside some room moved = λ format before due.
     let bits : List Bool = take m mid.0 in
     let short : (passed 0 bits).end ≤ m = omega (arith, passed-end bits 0, length-take m mid.0, inside) in
@@ -132,7 +135,8 @@ block-stands true m mid new inside some room moved = λ format before due.
     let filled_is : (passed 1 (drop 8 bits)).filled ≡ (passed 1 (take (m - 8) there.0)).filled = ap (λ (t : List Bool). (passed 1 t).filled) rest in
     let fits : m - 8 ≤ length there.0 = omega (arith, length-drop 8 mid.0, inside) in
     let ends : EndsBlock 1 there new =
-    block-ends 1 1 (m - 8) end there new refl fits (omega (arith, passed-end (take (m - 8) there.0) 1, length-take (m - 8) there.0, fits)) refl (omega (arith, end_is, dc.goes_on)) (omega (arith, filled_is, dc.filled, room))
+    block-ends 1 1 (m - 8) end there new refl fits (omega (arith, passed-end (take (m - 8) there.0) 1, length-take (m - 8) there.0, fits)) refl (omega (arith, end_is, dc.goes_on))
+    (omega (arith, filled_is, dc.filled, room))
     (moved ∙ (ap (λ (n : ℕ). skipped n mid) (dc.end ∙ ap (λ (n : ℕ). 8 + n) end_is) ∙ sym (skipped-skipped end 8 mid))) in
     let eight : take 8 bits ≡ take 8 mid.0 = take-take 8 m mid.0 far in
     let seen : take 8 (mid.0 ++ zeros 8) ≡ take 8 mid.0 = take-append-le 8 mid.0 (zeros 8) (omega (arith, far, inside)) in
@@ -151,18 +155,18 @@ pub record IsPassing (intra : Bool) (count : ℕ) (r ahead : Reading) (state fil
   pub many : ℕ
   pub moved : ahead ≡ skipped many mid
   pub inside : many ≤ length mid.0
-  pub state_is : state ≡ (passed (start intra) (take many mid.0)).state
-  pub filled_is : filled ≡ (passed (start intra) (take many mid.0)).filled
-  pub goes_on : (passed (start intra) (take many mid.0)).end ≡ 0
+  pub state_is : state ≡ (passed (block_start intra) (take many mid.0)).state
+  pub filled_is : filled ≡ (passed (block_start intra) (take many mid.0)).filled
+  pub goes_on : (passed (block_start intra) (take many mid.0)).end ≡ 0
   pub within : state < 102
   pub room : filled < 256
 
-start_within : (intra : Bool) → start intra < 102
+start_within : (intra : Bool) → block_start intra < 102
 start_within true = omega arith
 start_within false = omega arith
 
 -- a block begins
-begun : (intra : Bool) (count left : ℕ) (r mid : Reading) → BlocksStand intra (count - left) r mid → 0 < left → left ≤ count → IsPassing intra count r mid (start intra) 0 left
+begun : (intra : Bool) (count left : ℕ) (r mid : Reading) → BlocksStand intra (count - left) r mid → 0 < left → left ≤ count → IsPassing intra count r mid (block_start intra) 0 left
 begun intra count left r mid done some most = record {
   mid = mid;
   done = done;
@@ -178,7 +182,7 @@ begun intra count left r mid done some most = record {
   room = omega arith;
 }
 
-pub none_passed : (intra : Bool) (count state : ℕ) (r ahead : Reading) → ahead ≡ r → state ≡ start intra → 0 < count → IsPassing intra count r ahead state 0 count
+pub none_passed : (intra : Bool) (count state : ℕ) (r ahead : Reading) → ahead ≡ r → state ≡ block_start intra → 0 < count → IsPassing intra count r ahead state 0 count
 none_passed intra count state r ahead same state_is some =
     subst (λ (q : Reading). IsPassing intra count r q state 0 count) (sym same)
     (subst (λ (s : ℕ). IsPassing intra count r r s 0 count) (sym state_is)
@@ -204,12 +208,14 @@ module _ (intra : Bool) (count : ℕ) (r ahead : Reading) (state filled left : �
   fits : m ≤ length mid.0
   fits = omega (arith, ap (λ (q : Reading). length q.0) passing.moved, length-drop passing.many mid.0, long, passing.inside)
 
-  all : IsJoined (passed (start intra) (take passing.many mid.0)) here (passed (start intra) (take m mid.0)) passing.many
+  all : IsJoined (passed (block_start intra) (take passing.many mid.0)) here (passed (block_start intra) (take m mid.0)) passing.many
   all =
-      subst (λ (t : List Bool). IsJoined (passed (start intra) (take passing.many mid.0)) here (passed (start intra) t) passing.many) (sym bits_are)
-      (subst (λ (q : ℕ). IsJoined (passed (start intra) (take passing.many mid.0)) (passed q (take n ahead.0)) (passed (start intra) (take passing.many mid.0 ++ take n ahead.0)) passing.many) (sym passing.state_is)
-      (subst (λ (k : ℕ). IsJoined (passed (start intra) (take passing.many mid.0)) (passed (passed (start intra) (take passing.many mid.0)).state (take n ahead.0)) (passed (start intra) (take passing.many mid.0 ++ take n ahead.0)) k) (length-take passing.many mid.0 ∙ least)
-      (passed-append (take passing.many mid.0) (take n ahead.0) (start intra) passing.goes_on)))
+      subst (λ (t : List Bool). IsJoined (passed (block_start intra) (take passing.many mid.0)) here (passed (block_start intra) t) passing.many) (sym bits_are)
+      (subst (λ (q : ℕ). IsJoined (passed (block_start intra) (take passing.many mid.0)) (passed q (take n ahead.0))
+      (passed (block_start intra) (take passing.many mid.0 ++ take n ahead.0)) passing.many) (sym passing.state_is)
+      (subst (λ (k : ℕ). IsJoined (passed (block_start intra) (take passing.many mid.0)) (passed (passed (block_start intra) (take passing.many mid.0)).state (take n ahead.0))
+      (passed (block_start intra) (take passing.many mid.0 ++ take n ahead.0)) k) (length-take passing.many mid.0 ∙ least)
+      (passed-append (take passing.many mid.0) (take n ahead.0) (block_start intra) passing.goes_on)))
     where
       least : min passing.many (length mid.0) ≡ passing.many
       least = omega (arith, passing.inside)
@@ -234,7 +240,7 @@ module _ (intra : Bool) (count : ℕ) (r ahead : Reading) (state filled left : �
   -- one does
   one_more : (new : Reading) → 0 < here.end → filled + here.filled ≤ 64 → new ≡ skipped here.end ahead → BlocksStand intra (count - left + 1) r new
   one_more new some room moved =
-      let end_is : (passed (start intra) (take m mid.0)).end ≡ passing.many + here.end =
+      let end_is : (passed (block_start intra) (take m mid.0)).end ≡ passing.many + here.end =
       all.end ∙ ap (λ (b : Bool). cond b 0 (passing.many + here.end)) (ne_eqb here.end 0 (λ h. omega (arith, h, some))) in
       let stands = block-stands intra m mid new fits (omega (arith, end_is, some)) (omega (arith, all.filled, passing.filled_is, room))
       (moved ∙ (ap (λ (q : Reading). skipped here.end q) passing.moved ∙ (skipped-skipped here.end passing.many mid ∙ ap (λ (k : ℕ). skipped k mid) (sym end_is)))) in
@@ -245,11 +251,11 @@ module _ (intra : Bool) (count : ℕ) (r ahead : Reading) (state filled left : �
 
 data Octet (intra : Bool) (bits : List Bool) (first : Passed) (cell : Cell) : Type 0 where
   Open : first.end ≡ 0 → cell ≡ none_ends first → Octet intra bits first cell
-  Once : 0 < first.end → (passed (start intra) (drop first.end bits)).end ≡ 0 → cell ≡ one_ends first (passed (start intra) (drop first.end bits)) → Octet intra bits first cell
+  Once : 0 < first.end → (passed (block_start intra) (drop first.end bits)).end ≡ 0 → cell ≡ one_ends first (passed (block_start intra) (drop first.end bits)) → Octet intra bits first cell
   Twice :
-      0 < first.end → 0 < (passed (start intra) (drop first.end bits)).end → (passed (start intra) (drop first.end bits)).filled ≤ 64
-      → (passed (start intra) (drop (passed (start intra) (drop first.end bits)).end (drop first.end bits))).end ≡ 0
-      → cell ≡ two_end first (passed (start intra) (drop first.end bits)) (passed (start intra) (drop (passed (start intra) (drop first.end bits)).end (drop first.end bits)))
+      0 < first.end → 0 < (passed (block_start intra) (drop first.end bits)).end → (passed (block_start intra) (drop first.end bits)).filled ≤ 64
+      → (passed (block_start intra) (drop (passed (block_start intra) (drop first.end bits)).end (drop first.end bits))).end ≡ 0
+      → cell ≡ two_end first (passed (block_start intra) (drop first.end bits)) (passed (block_start intra) (drop (passed (block_start intra) (drop first.end bits)).end (drop first.end bits)))
       → Octet intra bits first cell
 
 above : (n : ℕ) → (n == 0) ≡ false → 0 < n
@@ -266,8 +272,8 @@ Told = Cell × Bool
 
 octet_cases : (intra : Bool) (bits : List Bool) (first : Passed) (cell : Cell) → ◌≡◌ {A = Told} (cell, true) (by_first intra bits first) → Octet intra bits first cell
 octet_cases intra bits first cell is =
-    let second : Passed = passed (start intra) (drop first.end bits) in
-    let third : Passed = passed (start intra) (drop second.end (drop first.end bits)) in
+    let second : Passed = passed (block_start intra) (drop first.end bits) in
+    let third : Passed = passed (block_start intra) (drop second.end (drop first.end bits)) in
     let one : Told = (one_ends first second, true) in
     let two : Told = (two_end first second third, nat_lt second.filled 65 && third.end == 0) in
     elim (cases_Bool (first.end == 0)) [
@@ -283,21 +289,22 @@ octet_cases intra bits first cell is =
           ]
     ]
 
-module _ (intra : Bool) (count : ℕ) (r ahead : Reading) (state filled left : ℕ) (passing : IsPassing intra count r ahead state filled left) (bits : List Bool) (bits_long : length bits ≡ 8) (same : (k : ℕ) → k ≤ length ahead.0 → k ≤ 8 → take k ahead.0 ≡ take k bits) where
+module _ (intra : Bool) (count : ℕ) (r ahead : Reading) (state filled left : ℕ) (passing : IsPassing intra count r ahead state filled left) (bits : List Bool) (bits_long : length bits ≡ 8)
+    (same : (k : ℕ) → k ≤ length ahead.0 → k ≤ 8 → take k ahead.0 ≡ take k bits) where
   abbrev first : Passed
   first = passed state bits
 
   abbrev second : Passed
-  second = passed (start intra) (drop first.end bits)
+  second = passed (block_start intra) (drop first.end bits)
 
   abbrev third : Passed
-  third = passed (start intra) (drop second.end (drop first.end bits))
+  third = passed (block_start intra) (drop second.end (drop first.end bits))
 
   first_short : first.end ≤ 8
   first_short = omega (arith, passed-end bits state, bits_long)
 
   second_short : first.end + second.end ≤ 8
-  second_short = omega (arith, passed-end (drop first.end bits) (start intra), length-drop first.end bits, bits_long, first_short)
+  second_short = omega (arith, passed-end (drop first.end bits) (block_start intra), length-drop first.end bits, bits_long, first_short)
 
   abbrev mid1 : Reading
   mid1 = skipped first.end ahead
@@ -321,21 +328,25 @@ module _ (intra : Bool) (count : ℕ) (r ahead : Reading) (state filled left : �
       one_more intra count r ahead state filled left passing first.end fits mid1
       (omega (arith, ap (λ (p : Passed). p.end) here, some)) (omega (arith, ap (λ (p : Passed). p.filled) here, room)) (ap (λ (p : Passed). skipped p.end ahead) (sym here))
 
-  passing1 : 0 < first.end → first.end ≤ length ahead.0 → filled + first.filled ≤ 64 → 1 < left → IsPassing intra count r mid1 (start intra) 0 (left - 1)
+  passing1 : 0 < first.end → first.end ≤ length ahead.0 → filled + first.filled ≤ 64 → 1 < left → IsPassing intra count r mid1 (block_start intra) 0 (left - 1)
   passing1 some fits room more =
-      begun intra count (left - 1) r mid1 (subst (λ (k : ℕ). BlocksStand intra k r mid1) (omega (arith, more, passing.most)) (done1 some fits room)) (omega (arith, more)) (omega (arith, passing.most))
+      begun intra count (left - 1) r mid1 (subst (λ (k : ℕ). BlocksStand intra k r mid1) (omega (arith, more, passing.most)) (done1 some fits room)) (omega (arith, more))
+      (omega (arith, passing.most))
 
   -- behind the second
   done2 : 0 < first.end → first.end + second.end ≤ length ahead.0 → filled + first.filled ≤ 64 → 1 < left → 0 < second.end → second.filled ≤ 64 → BlocksStand intra (count - (left - 1) + 1) r mid2
   done2 some fits room more again small =
-      let here : passed (start intra) (take second.end mid1.0) ≡ second = ap (passed (start intra)) (same1 second.end fits second_short) ∙ passed-cut (drop first.end bits) (start intra) again in
+      let here : passed (block_start intra) (take second.end mid1.0) ≡ second = ap (passed (block_start intra)) (same1 second.end fits second_short)
+      ∙ passed-cut (drop first.end bits) (block_start intra) again in
       let fits1 : first.end ≤ length ahead.0 = omega (arith, fits) in
-      one_more intra count r mid1 (start intra) 0 (left - 1) (passing1 some fits1 room more) second.end (omega (arith, length-drop first.end ahead.0, fits)) mid2
+      one_more intra count r mid1 (block_start intra) 0 (left - 1) (passing1 some fits1 room more) second.end (omega (arith, length-drop first.end ahead.0, fits)) mid2
       (omega (arith, ap (λ (p : Passed). p.end) here, again)) (omega (arith, ap (λ (p : Passed). p.filled) here, small)) (ap (λ (p : Passed). skipped p.end mid1) (sym here))
 
-  passing2 : 0 < first.end → first.end + second.end ≤ length ahead.0 → filled + first.filled ≤ 64 → 2 < left → 0 < second.end → second.filled ≤ 64 → IsPassing intra count r mid2 (start intra) 0 (left - 2)
+  passing2 : 0 < first.end → first.end + second.end ≤ length ahead.0 → filled + first.filled ≤ 64 → 2 < left → 0 < second.end → second.filled ≤ 64
+      → IsPassing intra count r mid2 (block_start intra) 0 (left - 2)
   passing2 some fits room more again small =
-      begun intra count (left - 2) r mid2 (subst (λ (k : ℕ). BlocksStand intra k r mid2) (omega (arith, more, passing.most)) (done2 some fits room (omega (arith, more)) again small)) (omega (arith, more)) (omega (arith, passing.most))
+      begun intra count (left - 2) r mid2 (subst (λ (k : ℕ). BlocksStand intra k r mid2) (omega (arith, more, passing.most)) (done2 some fits room (omega (arith, more)) again small))
+      (omega (arith, more)) (omega (arith, passing.most))
 
   mid2_is : mid2 ≡ skipped (first.end + second.end) ahead
   mid2_is = skipped-skipped second.end first.end ahead
@@ -374,29 +385,33 @@ module _ (intra : Bool) (count : ℕ) (r ahead : Reading) (state filled left : �
       let here : passed state (take 8 ahead.0) ≡ first = ap (passed state) (whole long) in
       subst (λ (l : ℕ). IsPassing intra count r new next more l) (omega (arith, less_is))
       (further intra count r ahead state filled left passing 8 long new next more
-      (ap (λ (p : Passed). p.end) here ∙ none) moved (next_is ∙ ap (λ (p : Passed). p.state) (sym here)) (omega (arith, more_is, ap (λ (p : Passed). p.filled) here)) (omega (arith, more_is, room))))
+      (ap (λ (p : Passed). p.end) here ∙ none) moved (next_is ∙ ap (λ (p : Passed). p.state) (sym here)) (omega (arith, more_is, ap (λ (p : Passed). p.filled) here))
+      (omega (arith, more_is, room))))
   goes_on cell (Once some none is) = subst GoesOn (sym is) (λ long room small few new next more less moved next_is more_is less_is.
-      let here : passed (start intra) (take n1 mid1.0) ≡ second = ap (passed (start intra)) (rest1 long) in
+      let here : passed (block_start intra) (take n1 mid1.0) ≡ second = ap (passed (block_start intra)) (rest1 long) in
       let fits : first.end ≤ length ahead.0 = omega (arith, first_short, long) in
       let all : first.end + n1 ≡ 8 = omega (arith, first_short) in
       let moved1 : new ≡ skipped n1 mid1 = moved ∙ (ap (λ (k : ℕ). skipped k ahead) (sym all) ∙ sym (skipped-skipped n1 first.end ahead)) in
       subst (λ (l : ℕ). IsPassing intra count r new next more l) (omega (arith, less_is))
-      (further intra count r mid1 (start intra) 0 (left - 1) (passing1 some fits room few) n1 (long1 long) new next more
-      (ap (λ (p : Passed). p.end) here ∙ none) moved1 (next_is ∙ ap (λ (p : Passed). p.state) (sym here)) (omega (arith, more_is, ap (λ (p : Passed). p.filled) here)) (omega (arith, more_is, small))))
+      (further intra count r mid1 (block_start intra) 0 (left - 1) (passing1 some fits room few) n1 (long1 long) new next more
+      (ap (λ (p : Passed). p.end) here ∙ none) moved1 (next_is ∙ ap (λ (p : Passed). p.state) (sym here)) (omega (arith, more_is, ap (λ (p : Passed). p.filled) here))
+      (omega (arith, more_is, small))))
   goes_on cell (Twice some again room2 none is) = subst GoesOn (sym is) (λ long room small few new next more less moved next_is more_is less_is.
-      let here : passed (start intra) (take n2 mid2.0) ≡ third = ap (passed (start intra)) (rest2 long) in
+      let here : passed (block_start intra) (take n2 mid2.0) ≡ third = ap (passed (block_start intra)) (rest2 long) in
       let fits : first.end + second.end ≤ length ahead.0 = omega (arith, second_short, long) in
       let all : first.end + second.end + n2 ≡ 8 = omega (arith, second_short) in
       let moved2 : new ≡ skipped n2 mid2 =
       moved ∙ (ap (λ (k : ℕ). skipped k ahead) (sym all) ∙ (sym (skipped-skipped n2 (first.end + second.end) ahead) ∙ ap (λ (q : Reading). skipped n2 q) (sym mid2_is))) in
       subst (λ (l : ℕ). IsPassing intra count r new next more l) (omega (arith, less_is))
-      (further intra count r mid2 (start intra) 0 (left - 2) (passing2 some fits room few again room2) n2 (long2 long) new next more
-      (ap (λ (p : Passed). p.end) here ∙ none) moved2 (next_is ∙ ap (λ (p : Passed). p.state) (sym here)) (omega (arith, more_is, ap (λ (p : Passed). p.filled) here)) (omega (arith, more_is, small))))
+      (further intra count r mid2 (block_start intra) 0 (left - 2) (passing2 some fits room few again room2) n2 (long2 long) new next more
+      (ap (λ (p : Passed). p.end) here ∙ none) moved2 (next_is ∙ ap (λ (p : Passed). p.state) (sym here)) (omega (arith, more_is, ap (λ (p : Passed). p.filled) here))
+      (omega (arith, more_is, small))))
 
   -- what it stops with
   abbrev Stops : Cell → Type 0
   Stops cell =
-      filled + cell.before ≤ 64 → left ≤ cell.ends → (new : Reading) (k : ℕ) → k ≤ length ahead.0 → new ≡ skipped k ahead → k ≡ cond (left == 1) cell.first cell.second → BlocksStand intra count r new
+      filled + cell.before ≤ 64 → left ≤ cell.ends → (new : Reading) (k : ℕ) → k ≤ length ahead.0 → new ≡ skipped k ahead → k ≡ cond (left == 1) cell.first cell.second
+      → BlocksStand intra count r new
 
   as_new : (new at : Reading) (n : ℕ) → n ≡ count → at ≡ new → BlocksStand intra n r at → BlocksStand intra count r new
   as_new new at n count_is same stand = subst (λ (q : Reading). BlocksStand intra count r q) same (subst (λ (k : ℕ). BlocksStand intra k r at) count_is stand)
@@ -417,7 +432,8 @@ module _ (intra : Bool) (count : ℕ) (r ahead : Reading) (state filled left : �
             let other : 1 < left = not_one left passing.some other_is in
             let two : left ≡ 2 = omega (arith, other, last) in
             let k_second : k ≡ first.end + second.end = k_is ∙ ap (λ (b : Bool). cond b first.end (first.end + second.end)) other_is in
-            as_new new mid2 (count - (left - 1) + 1) (omega (arith, two, passing.most)) (mid2_is ∙ sym (moved ∙ ap (λ (k : ℕ). skipped k ahead) k_second)) (done2 some (omega (arith, k_second, fits)) room other again room2)
+            as_new new mid2 (count - (left - 1) + 1) (omega (arith, two, passing.most)) (mid2_is ∙ sym (moved ∙ ap (λ (k : ℕ). skipped k ahead) k_second))
+            (done2 some (omega (arith, k_second, fits)) room other again room2)
       ])
     where
       not_one : (l : ℕ) → 0 < l → (l == 1) ≡ false → 1 < l
@@ -443,14 +459,18 @@ octet_is ahead octet is = ap (λ (n : ℕ). field n 8) is ∙ (ap (field (number
 abbrev cell_bits : Bool → ℕ → List Bool → Told
 cell_bits intra state bits = by_first intra bits (passed state bits)
 
-module _ (intra : Bool) (count : ℕ) (r ahead : Reading) (state filled left : ℕ) (passing : IsPassing intra count r ahead state filled left) (octet : ℕ) (peeked : octet ≡ number (octet_of ahead)) (cell : Cell) (is : IsCellOf intra state octet cell) where
+module _ (intra : Bool) (count : ℕ) (r ahead : Reading) (state filled left : ℕ) (passing : IsPassing intra count r ahead state filled left) (octet : ℕ) (peeked : octet ≡ number (octet_of ahead))
+    (cell : Cell) (is : IsCellOf intra state octet cell) where
   seen : Octet intra (octet_of ahead) (passed state (octet_of ahead)) cell
   seen = octet_cases intra (octet_of ahead) (passed state (octet_of ahead)) cell (is.cell_is ∙ ap (cell_bits intra state) (octet_is ahead octet peeked))
 
-  pub passes : (new : Reading) (more less : ℕ) → 8 ≤ length ahead.0 → filled + cell.before ≤ 64 → cell.ends < left → new ≡ skipped 8 ahead → more ≡ cond (cell.ends == 0) (filled + cell.before) cell.behind → less ≡ left - cell.ends → IsPassing intra count r new cell.next more less
+  pub passes : (new : Reading) (more less : ℕ) → 8 ≤ length ahead.0 → filled + cell.before ≤ 64 → cell.ends < left → new ≡ skipped 8 ahead
+      → more ≡ cond (cell.ends == 0) (filled + cell.before) cell.behind → less ≡ left - cell.ends → IsPassing intra count r new cell.next more less
   passes new more less long room few moved more_is less_is =
-      goes_on intra count r ahead state filled left passing (octet_of ahead) (octet_long ahead) (octet_same ahead) cell seen long room is.behind few new cell.next more less moved refl more_is less_is
+      goes_on intra count r ahead state filled left passing (octet_of ahead) (octet_long ahead)
+      (octet_same ahead) cell seen long room is.behind few new cell.next more less moved refl more_is less_is
 
-  pub ends : (new : Reading) (k : ℕ) → filled + cell.before ≤ 64 → left ≤ cell.ends → k ≤ length ahead.0 → new ≡ skipped k ahead → k ≡ cond (left == 1) cell.first cell.second → BlocksStand intra count r new
+  pub ends : (new : Reading) (k : ℕ) → filled + cell.before ≤ 64 → left ≤ cell.ends → k ≤ length ahead.0 → new ≡ skipped k ahead → k ≡ cond (left == 1) cell.first cell.second
+      → BlocksStand intra count r new
   ends new k room last fits moved k_is =
       stops intra count r ahead state filled left passing (octet_of ahead) (octet_long ahead) (octet_same ahead) cell seen room last new k fits moved k_is

@@ -1,5 +1,6 @@
 -- What is pending of a word, by what may follow it, and what one more bit makes of it.
-use Rattle.std.proofs.Common.{◌≡◌, ◌≢◌, ℕ, zero, suc, ◌+◌, ◌*◌, ◌/◌, ◌%◌, ◌^◌, ◌<◌, ◌==◌, ◌&&◌, ◌||◌, Bool, true, false, cond, List, [], ◌∷◌, ◌++◌, length, get_or, Option, Some, None, refl, sym, ◌∙◌, ap, subst, inl, inr, arith, append-nil, append_assoc, length-append}
+use Rattle.std.proofs.Common.{◌≡◌, ◌≢◌, ℕ, zero, suc, ◌+◌, ◌*◌, ◌/◌, ◌%◌, ◌^◌, ◌<◌, ◌==◌, ◌&&◌, ◌||◌, Bool, true, false, cond, List, [], ◌∷◌, ◌++◌, length, get_or, Option}
+use Rattle.std.proofs.Common.{Some, None, refl, sym, ◌∙◌, ap, subst, inl, inr, arith, append-nil, append_assoc, length-append}
 use Rattle.std.specs.List.{find, list_any}
 use Rattle.std.proofs.lemmas.Bool.{ne_eqb, eq-eqb, cases_Bool, cond-true, cond-false}
 use Rattle.std.proofs.lemmas.Option.{same_Some}
@@ -16,7 +17,7 @@ use Rattle.vlc_codes.proofs.CoefficientLaws.{same_number}
 use Rattle.vlc_codes.proofs.FoundRows.{Among, among-left, among-right, among-mapped, read-row}
 use Rattle.vlc_codes.proofs.WordLaws.{whole-good}
 use Rattle.h261_block.specs.Ahead.{MayStand}
-use Rattle.h261_block.specs.Machine.{Pending, First, Code, Sign, Run, Top, Level, Faulty, Step, on, same, codes, begins, by_code, by_bits, bit_step}
+use Rattle.h261_block.specs.Machine.{Pending, First, Code, Sign, Run, Top, Level, Faulty, BitStep, on, same, codes, begins, by_code, by_bits, bit_step}
 use Rattle.h261_block.proofs.AheadLaws.{later_free, read-at}
 
 -- the bits are a good coefficient, whatever follows them, and add so many to the block of which `base` stand before
@@ -45,7 +46,7 @@ Holds (Level n some) base bits k =
 Holds Faulty base bits k = ⊥
 
 -- what a step leads to, behind the bits with its own
-pub data Outcome (base : ℕ) (bits : List Bool) (k : ℕ) (step : Step) : Type 0 where
+pub data Outcome (base : ℕ) (bits : List Bool) (k : ℕ) (step : BitStep) : Type 0 where
   Waits : step.ends ≡ false → Holds step.next base bits (k + step.fills) → Outcome base bits k step
   Makes : step.ends ≡ false → step.next ≡ Code [] → IsCoefficient base bits (k + step.fills) → Outcome base bits k step
   Ends : step.ends ≡ true → k + step.fills ≡ 0 → IsEnd base bits → Outcome base bits k step
@@ -100,7 +101,8 @@ code_among : (row : Row) → Among row codes → Among (coefficient_row row.0 ro
 unfolding codes
 code_among row h = elim h [
   | inl e ↦ inl (ap (λ (r : Row). coefficient_row r.0 r.1.0 r.1.1) e)
-  | inr t ↦ inr (among-left _ coefficient_rows (word_row end_of_block_word Eob ∷ []) (among-left _ _ (escape_row ∷ []) (among-mapped (λ (r : Row). coefficient_row r.0 r.1.0 r.1.1) row tcoeff_table t)))
+  | inr t ↦ inr (among-left _ coefficient_rows (word_row end_of_block_word Eob ∷ [])
+      (among-left _ _ (escape_row ∷ []) (among-mapped (λ (r : Row). coefficient_row r.0 r.1.0 r.1.1) row tcoeff_table t)))
 ]
 
 escape_among : Among escape_row later_rows
@@ -141,7 +143,8 @@ level_fits false level long some =
     (omega (arith, top, most), λ h. omega (arith, least, h), λ h. omega (arith, top, most, h))
 
 -- an escape, its run and its level
-escaped : (base k : ℕ) (word run level : List Bool) (s : Bool) → word ≡ escape_word → MayStand (base == 0) word → k ≡ 0 → length run ≡ 6 → length level ≡ 7 → some_one level ≡ true → IsCoefficient base (word ++ (run ++ s ∷ level)) (k + 0 + number run + 1)
+escaped : (base k : ℕ) (word run level : List Bool) (s : Bool) → word ≡ escape_word → MayStand (base == 0) word → k ≡ 0 → length run ≡ 6 → length level ≡ 7 → some_one level ≡ true
+    → IsCoefficient base (word ++ (run ++ s ∷ level)) (k + 0 + number run + 1)
 escaped base k word run level s is may none run_long level_long some =
     let tail : List Bool = run ++ s ∷ level in
     let long : length tail ≡ 14 = omega (arith, length-append run (s ∷ level), run_long, level_long) in
@@ -166,7 +169,8 @@ escaped base k word run level s is may none run_long level_long some =
 signed_code : (base k : ℕ) (word : List Bool) (row : Row) (s : Bool) → MayStand (base == 0) word → k ≡ 0 → Among row codes → row.0 ≡ word → IsCoefficient base (word ++ s ∷ []) (k + (row.1.0 + 1))
 signed_code base k word row s may none among is =
     let c : Coefficient = record { run = row.1.0; level = signed row.1.1 (model.number (s ∷ [])); long = false } in
-    let whole : read later_rows (row.0 ++ s ∷ []) ≡ Good (Tcoeff c) (length row.0 + 1) = read-row later_rows (coefficient_row row.0 row.1.0 row.1.1) (s ∷ []) [] later_free (code_among row among) refl in
+    let whole : read later_rows (row.0 ++ s ∷ []) ≡ Good (Tcoeff c) (length row.0 + 1) = read-row later_rows (coefficient_row row.0 row.1.0 row.1.1) (s ∷ []) [] later_free
+    (code_among row among) refl in
     let long : length row.0 + 1 ≡ length (word ++ s ∷ []) = omega (arith, length-append word (s ∷ []), ap length is) in
     let later : read later_rows (word ++ s ∷ []) ≡ Good (Tcoeff c) (length (word ++ s ∷ [])) =
     ap (λ (w : List Bool). read later_rows (w ++ s ∷ [])) (sym is) ∙ (whole ∙ ap (Good (Tcoeff c)) long) in
@@ -201,7 +205,8 @@ module _ (base k : ℕ) (word : List Bool) (may : MayStand (base == 0) word) (no
       Waits refl (λ s. signed_code base k word row s may none told.0 (same-is row.0 word told.1))
   by_code_step None found = none_such (begins word)
 
-  by_bits_step : (is_end is_escape : Bool) → same word end_of_block_word ≡ is_end → same word escape_word ≡ is_escape → Outcome base word k (cond is_end (record { next = First; fills = 0; ends = true }) (cond is_escape (on (Run 6) 0) (by_code word (find (λ (row : Row). same row.0 word) codes))))
+  by_bits_step : (is_end is_escape : Bool) → same word end_of_block_word ≡ is_end → same word escape_word ≡ is_escape
+      → Outcome base word k (cond is_end (record { next = First; fills = 0; ends = true }) (cond is_escape (on (Run 6) 0) (by_code word (find (λ (row : Row). same row.0 word) codes))))
   by_bits_step true is_escape end escape =
       let is : word ≡ end_of_block_word = same-is word end_of_block_word end in
       let later : read later_rows word ≡ Good Eob (length word) = subst (λ (w : List Bool). read later_rows w ≡ Good Eob (length w)) (sym is) end_read in
@@ -217,7 +222,8 @@ moved : (base k n : ℕ) (xs ys : List Bool) → xs ≡ ys → k ≡ n → IsCoe
 moved base k n xs ys same_bits same_count is =
     subst (λ (m : ℕ). IsCoefficient base ys m) same_count (subst (λ (t : List Bool). IsCoefficient base t k) same_bits is)
 
-last_level : (base k : ℕ) (bits : List Bool) (some b here : Bool) → (some || b) ≡ here → Holds (Level 1 some) base bits k → Outcome base (bits ++ b ∷ []) k (cond here (on (Code []) 0) (on Faulty 127))
+last_level : (base k : ℕ) (bits : List Bool) (some b here : Bool) → (some || b) ≡ here → Holds (Level 1 some) base bits k
+    → Outcome base (bits ++ b ∷ []) k (cond here (on (Code []) 0) (on Faulty 127))
 last_level base k bits some b true is holds =
     Makes refl refl (moved base k (k + 0) (bits ++ b ∷ []) (bits ++ b ∷ []) refl (omega arith) (holds (b ∷ []) refl (or_assoc some b false ∙ ap (λ (c : Bool). c || false) is)))
 last_level base k bits some b false is holds = Fails (omega arith)
@@ -225,7 +231,8 @@ last_level base k bits some b false is holds = Fails (omega arith)
 pub stepped : (pending : Pending) (base k : ℕ) (bits : List Bool) (b : Bool) → Holds pending base bits k → Outcome base (bits ++ b ∷ []) k (bit_step pending b)
 unfolding number
 stepped First base k bits true holds =
-    Waits refl (λ s. moved base (k + 1) (k + 1) (true ∷ s ∷ []) ((bits ++ true ∷ []) ++ s ∷ []) (ap (λ (t : List Bool). (t ++ true ∷ []) ++ s ∷ []) (sym holds.0)) refl (first_one base k s holds.2 holds.1))
+    Waits refl (λ s. moved base (k + 1) (k + 1) (true ∷ s ∷ []) ((bits ++ true ∷ []) ++ s ∷ []) (ap (λ (t : List Bool). (t ++ true ∷ []) ++ s ∷ []) (sym holds.0)) refl
+    (first_one base k s holds.2 holds.1))
 stepped First base k bits false holds =
     Waits refl (ap (λ (t : List Bool). t ++ false ∷ []) holds.0, omega (arith, holds.1), may-zero (base == 0) [])
 stepped (Code word) base k bits b holds =
@@ -234,16 +241,20 @@ stepped (Code word) base k bits b holds =
     (by_bits_step base k now (may-more (base == 0) word (b ∷ []) holds.2) holds.1 (same now end_of_block_word) (same now escape_word) refl refl)
 stepped Sign base k bits b holds = Makes refl refl (moved base k (k + 0) (bits ++ b ∷ []) (bits ++ b ∷ []) refl (omega arith) (holds b))
 stepped (Run (suc zero)) base k bits b holds =
-    Waits refl (λ level s level_long some. moved base (k + number (b ∷ []) + 1) (k + (cond b 1 0 + 1)) (bits ++ ((b ∷ []) ++ s ∷ level)) ((bits ++ b ∷ []) ++ s ∷ level) (sym (append_assoc bits (b ∷ []) (s ∷ level))) (omega arith) (holds (b ∷ []) level s refl level_long some))
+    Waits refl (λ level s level_long some. moved base (k + number (b ∷ []) + 1) (k + (cond b 1 0 + 1)) (bits ++ ((b ∷ []) ++ s ∷ level)) ((bits ++ b ∷ []) ++ s ∷ level)
+    (sym (append_assoc bits (b ∷ []) (s ∷ level))) (omega arith) (holds (b ∷ []) level s refl level_long some))
 stepped (Run (suc (suc n))) base k bits b holds =
     Waits refl (λ run level s run_long level_long some.
-    moved base (k + number (b ∷ run) + 1) (k + cond b (2 ^ suc n) 0 + number run + 1) (bits ++ ((b ∷ run) ++ s ∷ level)) ((bits ++ b ∷ []) ++ (run ++ s ∷ level)) (sym (append_assoc bits (b ∷ []) (run ++ s ∷ level)))
+    moved base (k + number (b ∷ run) + 1) (k + cond b (2 ^ suc n) 0 + number run + 1) (bits ++ ((b ∷ run) ++ s ∷ level)) ((bits ++ b ∷ []) ++ (run ++ s ∷ level))
+    (sym (append_assoc bits (b ∷ []) (run ++ s ∷ level)))
     (ap (λ (m : ℕ). k + (cond b (2 ^ m) 0 + number run) + 1) run_long ∙ omega arith) (holds (b ∷ run) level s (ap suc run_long) level_long some))
 stepped (Run zero) base k bits b holds = Fails (omega arith)
 stepped Top base k bits b holds =
-    Waits refl (λ level level_long some. moved base k (k + 0) (bits ++ b ∷ level) ((bits ++ b ∷ []) ++ level) (sym (append_assoc bits (b ∷ []) level)) (omega arith) (holds level b level_long some))
+    Waits refl (λ level level_long some. moved base k (k + 0) (bits ++ b ∷ level) ((bits ++ b ∷ []) ++ level) (sym (append_assoc bits (b ∷ []) level)) (omega arith)
+    (holds level b level_long some))
 stepped (Level (suc zero) some) base k bits b holds = last_level base k bits some b (some || b) refl holds
 stepped (Level (suc (suc n)) some) base k bits b holds =
-    Waits refl (λ level level_long one. moved base k (k + 0) (bits ++ b ∷ level) ((bits ++ b ∷ []) ++ level) (sym (append_assoc bits (b ∷ []) level)) (omega arith) (holds (b ∷ level) (ap suc level_long) (or_assoc some b (some_one level) ∙ one)))
+    Waits refl (λ level level_long one. moved base k (k + 0) (bits ++ b ∷ level) ((bits ++ b ∷ []) ++ level) (sym (append_assoc bits (b ∷ []) level)) (omega arith)
+    (holds (b ∷ level) (ap suc level_long) (or_assoc some b (some_one level) ∙ one)))
 stepped (Level zero some) base k bits b holds = Fails (omega arith)
 stepped Faulty base k bits b holds = absurd holds

@@ -17,12 +17,12 @@ pub data Pending : Type 0 where
   Faulty : Pending
 
 -- what is pending behind a bit, how many coefficients it adds, and whether the block ends with it
-pub record Step : Type 0 where
+pub record BitStep : Type 0 where
   pub next : Pending
   pub fills : ℕ
   pub ends : Bool
 
-abbrev pub on : Pending → ℕ → Step
+abbrev pub on : Pending → ℕ → BitStep
 on next fills = record { next = next; fills = fills; ends = false }
 
 abbrev pub same : List Bool → List Bool → Bool
@@ -38,16 +38,16 @@ codes = (later_one_word, (0, 1)) ∷ tcoeff_table
 unfoldable pub begins : List Bool → Bool
 begins word = list_any (λ row. is_prefix word row.0) codes || (is_prefix word escape_word || is_prefix word end_of_block_word)
 
-abbrev pub by_code : List Bool → Option (List Bool × (ℕ × ℕ)) → Step
+abbrev pub by_code : List Bool → Option (List Bool × (ℕ × ℕ)) → BitStep
 by_code word (Some row) = on Sign (row.1.0 + 1)
 by_code word None = cond (begins word) (on (Code word) 0) (on Faulty 127)
 
-abbrev pub by_bits : List Bool → Step
+abbrev pub by_bits : List Bool → BitStep
 by_bits word =
     cond (same word end_of_block_word) (record { next = First; fills = 0; ends = true })
     (cond (same word escape_word) (on (Run 6) 0) (by_code word (find (λ row. same row.0 word) codes)))
 
-abbrev pub bit_step : Pending → Bool → Step
+abbrev pub bit_step : Pending → Bool → BitStep
 bit_step First true = on Sign 1
 bit_step First false = on (Code (false ∷ [])) 0
 bit_step (Code word) b = by_bits (word ++ b ∷ [])

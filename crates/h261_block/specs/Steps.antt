@@ -1,7 +1,9 @@
 -- Inner contracts alone use this; nothing here has to be believed.
 -- The machine's states by number, 0 that in which a block begins and 1 that behind a coefficient, those of INTRADC from 88 on,
--- and what its steps come to over some bits. The two lists are written by bench/octets.py; the check computes the steps from those of Machine.
-use Rattle.std.specs.Prelude.{◌≡◌, ◌<◌, ℕ, ◌+◌, ◌*◌, ◌/◌, ◌%◌, ◌==◌, ◌&&◌, Bool, true, false, cond, List, [], ◌∷◌, drop, nat_lt, slice_index, slice_index_or}
+-- and what its steps come to over some bits. The two lists are written by bench/octets.py; the check computes the steps from
+-- those of Machine.
+use Rattle.std.specs.Prelude.{◌≡◌, ◌<◌, ℕ, ◌+◌, ◌*◌, ◌/◌, ◌%◌, ◌==◌, ◌&&◌, Bool, true, false, cond, List, [], ◌∷◌, drop}
+use Rattle.std.specs.Prelude.{nat_lt, slice_index, slice_index_or}
 use Rattle.pel_bits.specs.Bits.{field}
 use Rattle.h261_block.specs.declared.octets.Cell.{Cell}
 use Rattle.h261_block.specs.Machine.{Pending, First, Code, Sign, Run, Top, Level, Faulty}
@@ -310,8 +312,8 @@ abbrev pub pending : ℕ → Pending
 pending s = slice_index_or pendings s Faulty
 
 -- by state and bit: the next state, the coefficients that are added, and whether the block ends
-abbrev pub step : ℕ → Bool → ℕ × ℕ × Bool
-step s b = slice_index_or steps (2 * s + cond b 1 0) (87, 127, false)
+abbrev pub state_step : ℕ → Bool → ℕ × ℕ × Bool
+state_step s b = slice_index_or steps (2 * s + cond b 1 0) (87, 127, false)
 
 -- the state behind some bits; the coefficients in them up to the block's end; and the bits up to this end, 0 where it is not in them
 pub record Passed : Type 0 where
@@ -319,18 +321,18 @@ pub record Passed : Type 0 where
   pub filled : ℕ
   pub end : ℕ
 
-abbrev pub with_step : ℕ × ℕ × Bool → Passed → Passed
-with_step step rest =
+abbrev pub behind_bit : ℕ × ℕ × Bool → Passed → Passed
+behind_bit step rest =
     cond step.2 (record { state = 0; filled = step.1; end = 1 })
     (record { state = rest.state; filled = step.1 + rest.filled; end = cond (rest.end == 0) 0 (rest.end + 1) })
 
 abbrev pub passed : ℕ → List Bool → Passed
 passed s [] = record { state = s; filled = 0; end = 0 }
-passed s (b ∷ bits) = with_step (step s b) (passed (step s b).0 bits)
+passed s (b ∷ bits) = behind_bit (state_step s b) (passed (state_step s b).0 bits)
 
 -- the state in which a block begins: with INTRADC, or without it
-abbrev pub start : Bool → ℕ
-start intra = cond intra 88 0
+abbrev pub block_start : Bool → ℕ
+block_start intra = cond intra 88 0
 
 -- ---- an octet
 
@@ -351,12 +353,25 @@ none_ends first = record { next = first.state; before = first.filled; behind = 0
 
 -- up to the first end, and behind it
 abbrev pub one_ends : (first behind : Passed) → Cell
-one_ends first behind = record { next = behind.state; before = first.filled; behind = behind.filled; ends = 1; first = first.end; second = 0 }
+one_ends first behind = record {
+  next = behind.state;
+  before = first.filled;
+  behind = behind.filled;
+  ends = 1;
+  first = first.end;
+  second = 0;
+}
 
 -- up to the first end, between two ends, and behind the second
 abbrev pub two_end : (first second behind : Passed) → Cell
-two_end first second behind =
-    record { next = behind.state; before = first.filled; behind = behind.filled; ends = 2; first = first.end; second = first.end + second.end }
+two_end first second behind = record {
+  next = behind.state;
+  before = first.filled;
+  behind = behind.filled;
+  ends = 2;
+  first = first.end;
+  second = first.end + second.end;
+}
 
 -- and whether there is room for the block between two ends, and no third end
 abbrev pub by_second : (first second third : Passed) → Cell × Bool
@@ -365,8 +380,8 @@ by_second first second third =
 
 abbrev pub by_first : Bool → List Bool → Passed → Cell × Bool
 by_first intra bits first = cond (first.end == 0) (none_ends first, true) (
-    by_second first (passed (start intra) (drop first.end bits))
-    (passed (start intra) (drop (passed (start intra) (drop first.end bits)).end (drop first.end bits))))
+    by_second first (passed (block_start intra) (drop first.end bits))
+    (passed (block_start intra) (drop (passed (block_start intra) (drop first.end bits)).end (drop first.end bits))))
 
 -- what an octet is in a state, in blocks with INTRADC or without it
 abbrev pub octet_cell : Bool → (state octet : ℕ) → Cell × Bool

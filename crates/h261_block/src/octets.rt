@@ -4,7 +4,7 @@
 
 ghost use Rattle.std.specs.Prelude.{◌≡◌, ◌<◌, ◌==◌, cond};
 ghost use Rattle.h261_block.specs.Blocks.{PassesBlocks};
-ghost use Rattle.h261_block.specs.Steps.{IsCellOf, start, stored};
+ghost use Rattle.h261_block.specs.Steps.{IsCellOf, block_start, stored};
 
 use crate::cells::{Cells, INTER, INTRA};
 use pel_bits::Reader;
@@ -65,7 +65,7 @@ pub fn pass_blocks(r: &mut Reader<'_>, intra: bool, count: u32) -> bool
 // The state in which a block begins.
 #[inline]
 fn first_state(intra: bool) -> u8
-    ensures { result ≡ start intra }
+    ensures { result ≡ block_start intra }
 {
     if intra { 88 } else { 0 }
 }

@@ -24,7 +24,8 @@ returns-then-cell-left c =
     let l = c.loop-left in
     record {
       kept = λ no. absurd (not_both no);
-      passed = λ _. ends c.args.intra c.args.count c.args.r.now l.ahead l.state l.filled l.left l.invariant.passing c.peek.result c.peek.ensures c.cell_at-cell.result c.cell_at-cell.ensures c.skip.new.self
+      passed = λ _. ends c.args.intra c.args.count c.args.r.now l.ahead l.state l.filled l.left l.invariant.passing
+          c.peek.result c.peek.ensures c.cell_at-cell.result c.cell_at-cell.ensures c.skip.new.self
           c.last_end-end.result (omega arith) (omega arith) (omega arith) c.skip.ensures c.last_end-end.ensures;
     }
 
@@ -33,6 +34,7 @@ loop-left-preserved c =
     let l = c.loop-left in
     record {
       kept = l.invariant.kept;
-      passing = passes c.args.intra c.args.count c.args.r.now l.ahead l.state l.filled l.left l.invariant.passing c.peek.result c.peek.ensures c.cell_at-cell.result c.cell_at-cell.ensures c.skip-in-loop-left.new.self
+      passing = passes c.args.intra c.args.count c.args.r.now l.ahead l.state l.filled l.left l.invariant.passing
+          c.peek.result c.peek.ensures c.cell_at-cell.result c.cell_at-cell.ensures c.skip-in-loop-left.new.self
           _ _ (omega arith) (omega arith) (omega arith) c.skip-in-loop-left.ensures c.filled_behind-filled.ensures (omega arith);
     }
