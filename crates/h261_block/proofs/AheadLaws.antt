@@ -1,7 +1,7 @@
 -- Words of TCOEFF that stand one after another, whatever follows them.
-use Rattle.std.proofs.Common.{◌≡◌, ℕ, zero, suc, ◌+◌, ◌<◌, ◌≤◌, ◌==◌, ◌&&◌, Bool, true, false, cond, List, [], ◌∷◌, ◌++◌, length, map, drop, Option, Some, None, Result, Ok, Err, nat_lt, refl, sym, ◌∙◌, ap, subst, inl, inr, arith, append_assoc, length-drop}
+use Rattle.std.proofs.Common.{◌≡◌, ℕ, ◌+◌, ◌≤◌, ◌==◌, ◌&&◌, Bool, true, false, cond, List, [], ◌∷◌, ◌++◌, length, map, drop, Option, Some, None, Result, Ok, Err, nat_lt, refl, sym, ◌∙◌, ap, subst, arith, append_assoc}
 use Rattle.std.specs.List.{find}
-use Rattle.std.proofs.lemmas.Bool.{ne_eqb, cases_Bool, cond-true, cond-false, le-ltb}
+use Rattle.std.proofs.lemmas.Bool.{ne_eqb, cond-false, le-ltb}
 use Rattle.std.proofs.lemmas.List.{drop-drop, drop-append-le}
 use Rattle.pel_model.specs.declared.Fault.{Fault}
 use Rattle.pel_model.specs.declared.Format.{Format}
@@ -13,8 +13,8 @@ use Rattle.pel_model.specs.Grammar.{Element, Tcoeff, Eob, slot, AtFirst, AtCoeff
 use Rattle.pel_model.proofs.Walks.{goes-append, after-append}
 use Rattle.vlc_codes.specs.Lookup.{codes_of_rows}
 use Rattle.vlc_codes.proofs.Computed.{slots_free}
-use Rattle.vlc_codes.proofs.FoundRows.{read-more, read-inside}
-use Rattle.h261_block.specs.Ahead.{filling, elements, AreWanted, AreElements, AreWords, MayStand, Front, no_words, put_before, with_word, words_in}
+use Rattle.vlc_codes.proofs.FoundRows.{read-more}
+use Rattle.h261_block.specs.Ahead.{filling, elements, AreWanted, AreElements, AreWords, MayStand}
 use Rattle.h261_block.proofs.BlockSteps.{coefficient-good}
 
 -- ---- coefficients behind others
@@ -135,79 +135,6 @@ one-end bits n before is inside = record {
   go = λ format es more place due full.
       (n, coefficient-good format es (bits ++ more, place) (before == 0) Eob n due (is more) refl, ap (λ (t : List Bool). (t, place + n)) (sym (drop-append-le n bits more inside)));
 }
-
--- ---- the words that stand whole in some bits
-
-abbrev front_of : ℕ → List Bool → Standing Element → Front
-front_of most bits here = with_word here (λ n. words_in most (drop n bits))
-
-inside-one : (most : ℕ) (bits : List Bool) → ((n : ℕ) → (words_in most (drop n bits)).len ≤ length (drop n bits)) → (here : Standing Element) → read later_rows bits ≡ here → (front_of most bits here).len ≤ length bits
-inside-one most bits behind (Good (Tcoeff c) n) is =
-    let front : Front = put_before c n (words_in most (drop n bits)) in
-    elim (cases_Bool c.long) [
-      | inl long ↦ omega (arith, ap (λ (f : Front). f.len) (cond-true c.long no_words front long))
-      | inr short ↦ omega (arith, ap (λ (f : Front). f.len) (cond-false c.long no_words front short), behind n, length-drop n bits, read-inside later_rows bits (Tcoeff c) n is)
-    ]
-inside-one most bits behind (Good Eob n) is = read-inside later_rows bits Eob n is
-inside-one most bits behind _ is = omega arith
-
--- they lie within the bits
-pub words-inside : (most : ℕ) (bits : List Bool) → (words_in most bits).len ≤ length bits
-words-inside zero bits = omega arith
-words-inside (suc most) bits = inside-one most bits (λ n. words-inside most (drop n bits)) (read later_rows bits) refl
-
-grow-one : (most : ℕ) (bits : List Bool) (here : Standing Element) → (front_of most bits here).ends ≡ false → 0 < (front_of most bits here).len → 0 < filling (front_of most bits here).coefficients
-grow-one most bits (Good (Tcoeff c) n) goes_on some =
-    let front : Front = put_before c n (words_in most (drop n bits)) in
-    elim (cases_Bool c.long) [
-      | inl long ↦ absurd (omega (arith, some, ap (λ (f : Front). f.len) (cond-true c.long no_words front long)))
-      | inr short ↦ omega (arith, ap (λ (f : Front). filling f.coefficients) (cond-false c.long no_words front short))
-    ]
-grow-one most bits (Good Eob n) goes_on some = absurd cc
-grow-one most bits _ goes_on some = absurd (omega (arith, some))
-
--- where they do not end the block they fill a place of it
-pub words-grow : (most : ℕ) (bits : List Bool) → (words_in most bits).ends ≡ false → 0 < (words_in most bits).len → 0 < filling (words_in most bits).coefficients
-words-grow zero bits goes_on some = absurd (omega (arith, some))
-words-grow (suc most) bits goes_on some = grow-one most bits (read later_rows bits) goes_on some
-
-abbrev Go : List Bool → ℕ → Front → Type 0
-Go bits before front = AreWords bits front.len before (before + filling front.coefficients) front.ends
-
-pub no-words-here : (bits : List Bool) (before : ℕ) → Go bits before no_words
-no-words-here bits before = subst (λ (k : ℕ). AreWords bits 0 before k false) (omega arith) (no-words bits before)
-
-not-first : (a b : ℕ) (bits : List Bool) → MayStand (a + b + 1 == 0) bits
-not-first a b bits = subst (λ first. MayStand first bits) (sym (none_before a b)) tt
-
--- a coefficient and the words behind it
-put : (bits : List Bool) (before n : ℕ) (c : Coefficient) (front : Front) → MayStand (before == 0) bits → read later_rows bits ≡ Good (Tcoeff c) n → c.long ≡ false → before + (c.run + 1 + filling front.coefficients) ≤ 64 → Go (drop n bits) (before + c.run + 1) front → Go bits before (put_before c n front)
-put bits before n c front may is short room behind =
-    let inside : n ≤ length bits = read-inside later_rows bits (Tcoeff c) n is in
-    let one = one-coefficient bits c n before (λ more. read-at (before == 0) bits more (Tcoeff c) n may is) inside (ap (λ b. b && is_forbidden_level c.level) short) (omega (arith, room)) in
-    let here : AreWords bits n before (before + c.run + 1) false = subst (λ k. AreWords bits n before k false) (omega arith) one in
-    let all = more-words bits n front.len before (before + c.run + 1) (before + c.run + 1 + filling front.coefficients) front.ends here behind in
-    subst (λ k. AreWords bits (n + front.len) before k front.ends) (omega arith) all
-
-go-one : (most : ℕ) (bits : List Bool) (before : ℕ) → MayStand (before == 0) bits → ((n before : ℕ) → MayStand (before == 0) (drop n bits) → before + filling (words_in most (drop n bits)).coefficients ≤ 64 → Go (drop n bits) before (words_in most (drop n bits))) → (here : Standing Element) → read later_rows bits ≡ here → before + filling (front_of most bits here).coefficients ≤ 64 → Go bits before (front_of most bits here)
-go-one most bits before may behind (Good (Tcoeff c) n) is room =
-    let front : Front = put_before c n (words_in most (drop n bits)) in
-    elim (cases_Bool c.long) [
-      | inl long ↦ subst (Go bits before) (sym (cond-true c.long no_words front long)) (no-words-here bits before)
-      | inr short ↦
-          let fits : before + filling front.coefficients ≤ 64 = subst (λ (f : Front). before + filling f.coefficients ≤ 64) (cond-false c.long no_words front short) room in
-          subst (Go bits before) (sym (cond-false c.long no_words front short))
-          (put bits before n c (words_in most (drop n bits)) may is short fits (behind n (before + c.run + 1) (not-first before c.run (drop n bits)) (omega (arith, fits))))
-    ]
-go-one most bits before may behind (Good Eob n) is room =
-    subst (λ (k : ℕ). AreWords bits n before k true) (omega arith) (one-end bits n before (λ more. read-at (before == 0) bits more Eob n may is) (read-inside later_rows bits Eob n is))
-go-one most bits before may behind _ is room = no-words-here bits before
-
--- they go where they fit
-pub words-go : (most : ℕ) (bits : List Bool) (before : ℕ) → MayStand (before == 0) bits → before + filling (words_in most bits).coefficients ≤ 64 → Go bits before (words_in most bits)
-words-go zero bits before may room = no-words-here bits before
-words-go (suc most) bits before may room =
-    go-one most bits before may (λ n k. words-go most (drop n bits) k) (read later_rows bits) refl room
 
 -- ---- what a reader of words answers
 

@@ -3,5 +3,7 @@ pub mod LevelLaws
 pub mod SoFar
 pub mod AheadLaws
 pub mod WindowLaws
-pub mod KnownWords
-pub mod EscapeLaws
+pub mod Pendings
+pub mod Machines
+pub mod OctetCells
+pub mod Passing

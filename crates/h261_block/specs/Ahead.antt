@@ -1,11 +1,12 @@
 -- Inner contracts alone use this; nothing here has to be believed.
 -- Words of TCOEFF that stand one after another.
-use Rattle.std.specs.Prelude.{◌≡◌, ℕ, zero, suc, ◌+◌, ◌<◌, ◌≤◌, ◌==◌, Bool, true, false, cond, List, [], ◌∷◌, ◌++◌, length, drop, Option, Some, None, slice_index, slice_index_or}
+use Rattle.std.specs.Prelude.{◌≡◌, ℕ, ◌+◌, ◌<◌, ◌≤◌, ◌==◌, Bool, true, false, cond, List, [], ◌∷◌, ◌++◌, drop}
+use Rattle.std.specs.Prelude.{Option, Some, None, Result, Ok}
+use Rattle.pel_model.specs.declared.Fault.{Fault}
 use Rattle.pel_model.specs.declared.Format.{Format}
 use Rattle.pel_model.specs.Records.{Coefficient}
-use Rattle.pel_model.specs.Walk.{Standing, Good, read, Goes}
-use Rattle.pel_model.specs.Grammar.{Element, Tcoeff, Eob, slot, AtFirst, AtCoefficient, filled, later_rows, next}
-use Rattle.h261_block.specs.declared.ahead.Words.{Words}
+use Rattle.pel_model.specs.Walk.{Reading, Goes, AreTaken, Walked}
+use Rattle.pel_model.specs.Grammar.{Element, Tcoeff, Eob, slot, AtFirst, AtCoefficient, filled, next}
 
 -- how many coefficients these are, the zeros before them among them
 abbrev pub filling : List Coefficient → ℕ
@@ -34,6 +35,19 @@ abbrev pub AreWanted : ℕ → Option ℕ → List Element → Type 0
 AreWanted before (Some behind) es = AreSome before behind es
 AreWanted before None es = AreElements true es
 
+-- so many coefficients stand before: some words are taken, which leave more to come, or the first fault is met
+pub record TakesWords (count : ℕ) (result : Result (Option ℕ) Fault) (old new : Reading) : Type 0 where
+  pub taken :
+      (format : Format) (before : List Element) → slot before ≡ cond (count == 0) AtFirst AtCoefficient → filled before ≡ count
+      → Walked (next format) before (λ behind es _. AreWanted count behind es) (AreElements false) result old new
+  pub more : (n : ℕ) → result ≡ Ok (Some n) → (count < n) × (n ≤ 64)
+
+-- where so many coefficients stand before, the rest of the block stands there, and was taken
+abbrev pub EndsBlock : ℕ → Reading → Reading → Type 0
+EndsBlock count old new =
+    (format : Format) (before : List Element) → slot before ≡ cond (count == 0) AtFirst AtCoefficient → filled before ≡ count
+    → AreTaken (next format) before (λ es _. AreElements true es) old new
+
 -- ---- words at the front of some bits
 
 -- whatever follows the bits: where so many coefficients stand before, these words go, and so many do then
@@ -50,54 +64,3 @@ abbrev pub MayStand : Bool → List Bool → Type 0
 MayStand true [] = ⊥
 MayStand true (true ∷ bits) = ⊥
 MayStand _ _ = Unit {0}
-
--- the words go behind so many coefficients
-pub record AreAhead (bits : List Bool) (before : ℕ) (words : Words) : Type 0 where
-  pub inside : words.len ≤ length bits
-  pub grows : words.ends ≡ false → 0 < words.len → 0 < words.filled
-  pub go : AreWords bits words.len before (before + words.filled) words.ends
-
--- one word or none, and what stands behind it is a later word
-pub record AreFirst (bits : List Bool) (before : ℕ) (words : Words) : Type 0 where
-  pub ahead : AreAhead bits before words
-  pub goes_on : words.ends ≡ false
-  pub room : before ≤ 64 → before + words.filled ≤ 64
-  pub may : MayStand (before + words.filled == 0) (drop words.len bits)
-
--- the words go wherever they fit
-pub record AreKnown (bits : List Bool) (words : Words) : Type 0 where
-  pub inside : words.len ≤ length bits
-  pub grows : words.ends ≡ false → 0 < words.filled
-  pub go : (before : ℕ) → MayStand (before == 0) bits → before + words.filled ≤ 64 → AreWords bits words.len before (before + words.filled) words.ends
-
--- ---- the words that stand whole in some bits
-
--- their coefficients, whether the end of the block follows, and their length
-pub record Front : Type 0 where
-  pub coefficients : List Coefficient
-  pub ends : Bool
-  pub len : ℕ
-
-abbrev pub no_words : Front
-no_words = record { coefficients = []; ends = false; len = 0 }
-
-abbrev pub put_before : Coefficient → ℕ → Front → Front
-put_before c n front = record { coefficients = c ∷ front.coefficients; ends = front.ends; len = n + front.len }
-
--- a code or the end of the block, and the words behind it; an escape is none of them
-abbrev pub with_word : Standing Element → (ℕ → Front) → Front
-with_word (Good (Tcoeff c) n) behind = cond c.long no_words (put_before c n (behind n))
-with_word (Good Eob n) behind = record { coefficients = []; ends = true; len = n }
-with_word _ behind = no_words
-
-abbrev pub words_in : ℕ → List Bool → Front
-words_in zero bits = no_words
-words_in (suc most) bits = with_word (read later_rows bits) (λ n. words_in most (drop n bits))
-
--- what a table has to hold for these bits
-abbrev pub cell_of : Front → ℕ × ℕ × Bool
-cell_of front = (front.len, filling front.coefficients, front.ends)
-
--- what the code's table holds at an index
-abbrev pub cell_in : (lens fills : List ℕ) (ends : List Bool) → ℕ → Words
-cell_in lens fills ends k = record { len = slice_index lens k; filled = slice_index fills k; ends = slice_index_or ends k false }

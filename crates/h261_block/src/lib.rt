@@ -4,6 +4,7 @@
 mod ahead;
 mod cells;
 mod coefficients;
+mod octets;
 
 ghost use Rattle.std.specs.Prelude.{◌≡◌, cond, List, is_some};
 ghost use Rattle.pel_model.specs.declared.Format.{Format};
@@ -13,8 +14,9 @@ ghost use Rattle.pel_model.specs.Grammar.{Element, slot, AtDc, AtFirst, next};
 ghost use Rattle.pel_model.specs.Records.{Block};
 ghost use Rattle.pel_model.specs.Walk.{Walked};
 
-use ahead::some_words;
+use ahead::one_word;
 use coefficients::{intradc, intradc_level, run_and_level, tcoeff};
+pub use octets::pass_blocks;
 use pel_bits::Reader;
 use pel_model::Fault;
 
@@ -32,7 +34,7 @@ pub fn scan_block(r: &mut Reader<'_>, intra: bool) -> Result<(), Fault>
         intradc(r)?;
         filled = 1;
     }
-    while let Some(behind) = some_words(r, filled)? {
+    while let Some(behind) = one_word(r, filled)? {
         filled = behind;
     }
     Ok(())
@@ -163,6 +165,33 @@ mod tests {
             let mut r = reader(&octets, digits);
             assert_eq!(rt; read_levels(&mut r, intra, &mut [0; 64]), Err(fault));
             assert_eq!(rt; r.place(), place);
+        }
+    }
+
+    // Behind the first coefficient 110 is run 0 and level 1, and 10 the end of the block.
+    #[test]
+    fn blocks_octet_by_octet(rt: HostRuntime) {
+        for (front, times, behind, intra, count, passed) in [
+            // two ends in one octet, and then the bits end
+            ("10101010", 0, "", false, 2, true),
+            ("1010101010", 0, "10", false, 3, true),
+            ("1010101010", 0, "1", false, 3, false),
+            // a block that ends in the octet in which the next one, the last, begins
+            ("10110101110", 0, "", false, 2, true),
+            ("0000000110", 0, "1111111110", true, 2, true),
+            // the level of an escape whose last seven bits are 1 once, and never
+            ("1000000100001000000010", 0, "10", false, 1, true),
+            ("1000000100001010000000", 0, "10", false, 1, false),
+            ("10000000", 0, "10", true, 1, false),
+            // 64 coefficients, and one more
+            ("10", 63, "10", false, 1, true),
+            ("10", 64, "10", false, 1, false),
+        ] {
+            let octets = octets(front, times, behind);
+            let len = (front.len() + 3 * times + behind.len()).min(256) as u32;
+            let mut r = Reader::new(Bits::new(&octets, 0, len));
+            assert_eq!(rt; pass_blocks(&mut r, intra, count), passed);
+            assert_eq!(rt; r.place(), if passed { len } else { 0 });
         }
     }
 

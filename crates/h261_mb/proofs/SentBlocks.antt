@@ -13,6 +13,7 @@ use Rattle.pel_model.specs.Walk.{Standing, after, Goes, AreTaken}
 use Rattle.pel_model.specs.Grammar.{Element, Mtype, Cbp, AtCbp, AtDc, AtFirst, slot, block_slot, cbp_slot, kind, blocks, may_end, next}
 use Rattle.pel_model.proofs.Walks.{after-append, goes-append}
 use Rattle.pel_model.proofs.BlockElements.{block-blocks, block-slot}
+use Rattle.h261_block.specs.Blocks.{BlocksStand}
 use Rattle.h261_mb.proofs.Passing.{pass_blocks}
 use Rattle.h261_mb.proofs.Steps.{goes_onward}
 
@@ -83,3 +84,22 @@ block_onward true old new read =
 block_onward false old new read =
     let walk = read Qcif (Cbp 1 ∷ Mtype Inter ∷ []) refl in
     goes_onward (next Qcif) (Cbp 1 ∷ Mtype Inter ∷ []) old new walk.elements walk.walk
+
+-- ---- blocks that stand one behind the other
+
+pub blocks_onward : (intra : Bool) (count : ℕ) (old new : List Bool × ℕ) → BlocksStand intra count old new → old.1 ≤ new.1
+blocks_onward intra zero old new same = omega (arith, ap (λ (r : List Bool × ℕ). r.1) same)
+blocks_onward intra (suc n) old new stand =
+    omega (arith, blocks_onward intra n old stand.0 stand.1, block_onward intra stand.0 new stand.2)
+
+module _ (format : Format) (before : List Element) (k : MbKind) (kind_is : kind before ≡ k) (intra : Bool) (intra_is : is_intra k ≡ intra) (count : ℕ) (due : slot before ≡ block_slot k count) (to_come : blocks before ≡ count) where
+  pub all_read : (done : ℕ) → done ≤ count → (old new : List Bool × ℕ) → BlocksStand intra done old new → SomeRead (next format) before k old new count done
+  all_read zero few old new same =
+      subst (λ (r : List Bool × ℕ). SomeRead (next format) before k old r count 0) (sym same) (none_read (next format) before k kind_is old count due to_come)
+  all_read (suc n) few old new stand =
+      let so_far = all_read n (omega (arith, few)) old stand.0 stand.1 in
+      let first = so_far.due ∙ first_slot k (count - n) intra (omega (arith, few)) intra_is in
+      let later = stand.2 format (after before (flat_map block_elements so_far.read)) first in
+      let now : n + 1 ≡ suc n = omega arith in
+      subst (λ (m : ℕ). SomeRead (next format) before k old new count m) now
+      (one_more (next format) before k kind_is old stand.0 new count n so_far later.wanted.0 later.elements later.walk later.wanted.1)

@@ -42,7 +42,7 @@ returns-in_err-behind c =
     let p = err_from_is_err_and c.from_residual-in_err-behind.result c.from_residual-in_err-behind.ensures.1 in
     rw (p.1, p.2) (λ format before due.
     let so_far = c.loop-behind.invariant.so_far format before due in
-    failed_taken (next format) before c.args.intra c.args.r.now c.loop-behind.r c.some_words.new.r c.loop-behind.filled so_far _ (c.in_err-behind.ensures.taken format (after before (coefficient_elements so_far.block)) so_far.due so_far.full))
+    failed_taken (next format) before c.args.intra c.args.r.now c.loop-behind.r c.one_word.new.r c.loop-behind.filled so_far _ (c.in_err-behind.ensures.taken format (after before (coefficient_elements so_far.block)) so_far.due so_far.full))
 
 pub loop-behind-preserved : goal.loop-behind-preserved
 loop-behind-preserved c =
@@ -50,10 +50,10 @@ loop-behind-preserved c =
       within = (c.in_ok-behind.ensures.more c.in-Some.behind (cc)).1;
       so_far = λ format before due.
           let so_far = c.loop-behind.invariant.so_far format before due in
-          more_taken (next format) before c.args.intra c.args.r.now c.loop-behind.r c.some_words.new.r c.loop-behind.filled so_far _ c.in-Some.behind c.in-Some.is (c.in_ok-behind.ensures.taken format (after before (coefficient_elements so_far.block)) so_far.due so_far.full);
+          more_taken (next format) before c.args.intra c.args.r.now c.loop-behind.r c.one_word.new.r c.loop-behind.filled so_far _ c.in-Some.behind c.in-Some.is (c.in_ok-behind.ensures.taken format (after before (coefficient_elements so_far.block)) so_far.due so_far.full);
     }
 
 pub returns : goal.returns
 returns c = λ format before due.
     let so_far = c.loop-behind.invariant.so_far format before due in
-    whole_taken (next format) before c.args.intra c.args.r.now c.loop-behind.r c.some_words.new.r c.loop-behind.filled so_far _ c.in_default.is (c.in_ok-behind.ensures.taken format (after before (coefficient_elements so_far.block)) so_far.due so_far.full)
+    whole_taken (next format) before c.args.intra c.args.r.now c.loop-behind.r c.one_word.new.r c.loop-behind.filled so_far _ c.in_default.is (c.in_ok-behind.ensures.taken format (after before (coefficient_elements so_far.block)) so_far.due so_far.full)

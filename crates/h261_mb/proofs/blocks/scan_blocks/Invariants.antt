@@ -4,7 +4,7 @@ use Rattle.pel_model.specs.declared.MbKind.{MbKind}
 use Rattle.pel_model.specs.Codes.{is_intra}
 use Rattle.pel_model.specs.Grammar.{Element, slot, block_slot, kind, blocks, next}
 use Rattle.h261_mb.proofs.SentBlocks.{SomeRead}
-use Rattle.h261_mb.proofs.blocks.skip_blocks.Given as goal
+use Rattle.h261_mb.proofs.blocks.scan_blocks.Given as goal
 
 abbrev pub invariant-loop-block : goal.invariant-loop-block
 invariant-loop-block l = record {
