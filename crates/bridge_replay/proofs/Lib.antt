@@ -5,6 +5,7 @@ pub mod OneHistory
 pub mod PacketCuts
 pub mod PacketPieces
 pub mod PacketRuns
+pub mod PictureLine
 pub mod PicturesRead
 pub mod ReadingBack
 pub mod Reserving

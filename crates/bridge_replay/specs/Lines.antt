@@ -66,11 +66,13 @@ unfoldable pub refused_line : (place lane serial bit : ℕ) → Why → List ℕ
 refused_line place lane serial bit why =
     line place (with_serial (codes "gap") lane serial ++ reason why ++ codes " at " ++ decimal bit)
 
+unfoldable pub size_words : (bits macroblocks : ℕ) → List ℕ
+size_words bits macroblocks = codes " bits " ++ decimal bits ++ codes " macroblocks " ++ decimal macroblocks
+
 -- a picture: whether it is a refresh, the length of its strict text, and the macroblocks that it sends
 unfoldable pub shown_line : (place lane serial : ℕ) → (refresh : Bool) → (bits macroblocks : ℕ) → List ℕ
 shown_line place lane serial refresh bits macroblocks =
-    line place (with_serial (codes "picture") lane serial ++ kind_name refresh ++ codes " bits " ++ decimal bits
-    ++ codes " macroblocks " ++ decimal macroblocks)
+    line place (with_serial (codes "picture") lane serial ++ kind_name refresh ++ size_words bits macroblocks)
 
 abbrev pub event_line : (place lane serial : ℕ) → Event → List ℕ
 event_line place lane serial Lost = lost_line place lane serial

@@ -4,7 +4,7 @@ ghost use Rattle.bridge_replay.specs.Account.{idle_behind};
 ghost use Rattle.rtp_h261.specs.Packets.{is_usable, piece_of};
 ghost use Rattle.rtp_h261.specs.Units.{Piece};
 
-use rtp_h261::read_payload;
+use pel_bits::Bits;
 use rtp_wire::read_packet;
 
 /// Why a packet gives nothing.
@@ -32,14 +32,18 @@ pub fn number_of(packet: &[u8]) -> Option<u16>
     }
 }
 
-// Whether a payload has its header, and as many bits as that takes away.
+// Whether a payload has its header, and as many bits as that takes away by SBIT and EBIT.
 fn is_usable(payload: &[u8]) -> bool
     ensures { result ≡ is_usable payload.now }
 {
-    let Some(header) = read_payload(payload) else {
+    if payload.len() < 4 {
         return false;
-    };
-    u64::from(header.sbit) + u64::from(header.ebit) <= (payload.len() as u64 - 4) * 8
+    }
+    let header = Bits::new(payload, 0, 32);
+    let away = header.number(0, 3) + header.number(3, 3);
+    // one octet more than a packet may have of which all is taken away
+    let there = (payload.len() - 4).min(0x10000) as u32 * 8;
+    away <= there
 }
 
 /// Why a packet with this number does not count, if it does not, where the one that counted last has that number.

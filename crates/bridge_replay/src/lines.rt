@@ -1,7 +1,7 @@
 //! The lines of a history.
-ghost use Rattle.std.specs.Prelude.{◌≡◌, ℕ, ◌+◌, ◌≤◌, ◌++◌, decimal, length, codes, IsTrue};
+ghost use Rattle.std.specs.Prelude.{◌≡◌, ℕ, ◌+◌, ◌<◌, ◌≤◌, ◌++◌, decimal, length, codes, IsTrue};
 ghost use Rattle.arrayvec.specs.ArrayString.{array_string_len};
-ghost use Rattle.bridge_replay.specs.Lines.{idle_name, idle_line, reason, kind_name, with_serial, lost_line, refused_line, shown_line, event_line, reply_name, command_line, take_words, waited_below, waiting_words, tick_line, lane_words, end_line};
+ghost use Rattle.bridge_replay.specs.Lines.{idle_name, idle_line, reason, kind_name, with_serial, lost_line, refused_line, shown_line, size_words, event_line, reply_name, command_line, take_words, waited_below, waiting_words, tick_line, lane_words, end_line};
 ghost use Rattle.chair_words.specs.Line.{has_sayable_lane};
 ghost use Rattle.h261_pic.specs.Coded.{coding, IsFinished};
 ghost use Rattle.pel_model.specs.declared.Format.TheVariants.{Qcif};
@@ -145,12 +145,22 @@ fn shown_line(
 {
     let mut line = begin_arrival(place, "picture", lane, serial);
     line.push_str(kind_name(refresh));
-    line.push_str(" bits ");
-    push_number(&mut line, u64::from(bits));
-    line.push_str(" macroblocks ");
-    push_number(&mut line, macroblocks as u64);
+    push_size(&mut line, bits, macroblocks);
     line.push_str("\n");
     line
+}
+
+/// Appends how many bits a picture has, and how many macroblocks it sends.
+#[tactic(auto, unfolding(crate::specs::Lines::size_words))]
+fn push_size(line: &mut Line, bits: u32, macroblocks: usize)
+    requires room { array_string_len line.old ≤ 500 }
+    ensures bytes { line.new.bytes ≡ line.old.bytes ++ size_words bits macroblocks }
+    ensures len { array_string_len line.new ≤ array_string_len line.old + 100 }
+{
+    line.push_str(" bits ");
+    push_number(line, u64::from(bits));
+    line.push_str(" macroblocks ");
+    push_number(line, macroblocks as u64);
 }
 
 /// The name of a picture's kind.

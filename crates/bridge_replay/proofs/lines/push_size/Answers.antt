@@ -1,0 +1,14 @@
+use Rattle.std.proofs.Common.{◌≡◌, ◌∙◌, ap, List, ℕ, ◌++◌, codes, decimal, append_assoc}
+use Rattle.bridge_replay.specs.Lines.{size_words}
+use Rattle.bridge_replay.proofs.lines.push_size.Goals as goal
+
+four : (line a b c d : List ℕ) → (((line ++ a) ++ b) ++ c) ++ d ≡ line ++ (a ++ (b ++ (c ++ d)))
+four line a b c d = append_assoc ((line ++ a) ++ b) c d ∙ append_assoc (line ++ a) b (c ++ d) ∙ append_assoc line a (b ++ (c ++ d))
+
+pub returns-clause-bytes : goal.returns-clause-bytes
+unfolding size_words
+returns-clause-bytes c =
+    c.push_number-2.ensures.bytes
+    ∙ ap (λ (xs : List ℕ). xs ++ decimal c.args.macroblocks) (c.push_str-2.ensures.bytes ∙ ap (λ (xs : List ℕ). xs ++ codes " macroblocks ")
+    (c.push_number.ensures.bytes ∙ ap (λ (xs : List ℕ). xs ++ decimal c.args.bits) c.push_str.ensures.bytes))
+    ∙ four c.args.line.now.bytes (codes " bits ") (decimal c.args.bits) (codes " macroblocks ") (decimal c.args.macroblocks)
