@@ -1,6 +1,6 @@
 -- Inner contracts alone use this; nothing here has to be believed.
 -- A conference of which is told, and what an entry makes of it and of the page of its lines.
-use Rattle.std.specs.Prelude.{◌≡◌, ℕ, ◌+◌, ◌*◌, ◌^◌, ◌<◌, ◌≤◌, false, Option, None, Some, List, [], ◌∷◌, ◌++◌, length, map, option_map, slice_get, slice_set, IsTrue, Result, Ok, Err, IfOk}
+use Rattle.std.specs.Prelude.{◌≡◌, ℕ, ◌+◌, ◌*◌, ◌^◌, ◌<◌, ◌≤◌, Bool, false, Option, None, Some, List, [], ◌∷◌, ◌++◌, length, map, option_map, slice_get, slice_set, IsTrue, Result, Ok, Err, IfOk}
 use Rattle.std.specs.List.{concat}
 use Rattle.std.specs.Io.KnownBytes.{Consumes, Appends}
 use Rattle.arrayvec.specs.ArrayString.{array_string_len}

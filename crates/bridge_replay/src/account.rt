@@ -188,14 +188,7 @@ impl Account {
     }
 
     // A packet comes in a lane, whose picture may be put into the box. Gives a box for the next one.
-    fn packet(
-        &mut self,
-        place: u64,
-        lane: u8,
-        bytes: &[u8],
-        spare: Spare,
-        page: &mut Page,
-    ) -> Spare
+    fn packet(&mut self, place: u64, lane: u8, bytes: &[u8], spare: Spare, page: &mut Page) -> Spare
         requires may { MayTell (PacketEntry lane bytes.now) self.old }
         requires room { HasLines 0 page.old }
         ensures tells { TellsEntry place (PacketEntry lane bytes.now) self.old self.new page.old page.new }
@@ -249,13 +242,7 @@ impl Account {
 
     /// The next entry of the file comes, which begins at `place`, and its lines are put on the page; its picture, if there
     /// is one, may be put into the box. Gives a box for the next picture.
-    pub fn enter(
-        &mut self,
-        place: u64,
-        entry: Entry<'_>,
-        spare: Spare,
-        page: &mut Page,
-    ) -> Spare
+    pub fn enter(&mut self, place: u64, entry: Entry<'_>, spare: Spare, page: &mut Page) -> Spare
         requires may { MayTell (content_of entry) self.old }
         requires room { HasLines 0 page.old }
         ensures tells { TellsEntry place (content_of entry.entry) self.old self.new page.old page.new }
@@ -280,14 +267,14 @@ impl Account {
 }
 
 // The serial of a lane's next step, which is counted.
-fn next_serial(arrivals: &mut Vec<u64>, lane: u8) -> u64
-    requires { CanCount lane arrivals.old.items }
-    ensures serial { (lanes : ℕ) (history : History) → AreCounted lanes history arrivals.old.items
+fn next_serial(counts: &mut Vec<u64>, lane: u8) -> u64
+    requires { CanCount lane counts.old.items }
+    ensures serial { (lanes : ℕ) (history : History) → AreCounted lanes history counts.old.items
         → lane < lanes → result ≡ length (arrivals history lane) + 1 }
-    ensures set { arrivals.new.items ≡ slice_set arrivals.old.items lane result }
+    ensures set { counts.new.items ≡ slice_set counts.old.items lane result }
 {
-    let serial = arrivals[usize::from(lane)] + 1;
-    arrivals[usize::from(lane)] = serial;
+    let serial = counts[usize::from(lane)] + 1;
+    counts[usize::from(lane)] = serial;
     serial
 }
 

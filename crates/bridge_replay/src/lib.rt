@@ -20,4 +20,6 @@ pub use laws::{one_history, packets_are_read_back, worked_replay};
 pub use telling::{HistoryEnd, LineTally, history};
 
 #[cfg(test)]
+mod history_tests;
+#[cfg(test)]
 mod tests;

@@ -52,12 +52,7 @@ pub fn history<S: Source, K: Sink>(
 }
 
 /// The same, of which alone is told how it ends.
-fn tell<S: Source, K: Sink>(
-    alloc: Global,
-    source: &mut S,
-    sink: &mut K,
-    budget: u64,
-) -> HistoryEnd
+fn tell<S: Source, K: Sink>(alloc: Global, source: &mut S, sink: &mut K, budget: u64) -> HistoryEnd
     requires { budget ≤ 2 ^ 40 }
     ensures { HistoryEnds budget (outside (S.tells source.old) (K.tells sink.old))
         (outside (S.tells source.new) (K.tells sink.new)) result }

@@ -17,7 +17,8 @@ three bs = up (take 3 bs) (length-take 3 bs)
     small (suc (suc zero)) h = omega arith
     small (suc (suc (suc zero))) h = omega arith
     small (suc (suc (suc (suc n)))) h = absurd (omega (arith, h))
-    up : (xs : List Bool) → length xs ≡ min (length bs) 3 → number xs < 8
+
+    up : (xs : List Bool) → length xs ≡ min 3 (length bs) → number xs < 8
     up xs long = omega (arith, number_below xs, small (length xs) (omega (arith, long)))
 
 sbit-is : (payload : List ℕ) → number (take 3 (drop 0 (take 32 (drop 0 (bits payload))))) ≡ sbit payload
@@ -28,8 +29,15 @@ ebit-is payload = ap number (ap (take 3) (drop-take 3 29 (bits payload)) ∙ tak
 
 pub overflow_add-away : goal.overflow_add-away
 overflow_add-away c =
-    omega (arith, c.number.ensures, c.number-2.ensures, ap (λ (xs : List Bool). number (take 3 xs)) c.new-header.ensures.value, ap (λ (xs : List Bool). number (take 3 (drop 3 xs))) c.new-header.ensures.value,
-    three (take 32 (bits c.args.payload.now)), three (drop 3 (take 32 (bits c.args.payload.now))))
+    omega (
+      arith,
+      c.number.ensures,
+      c.number-2.ensures,
+      ap (λ (xs : List Bool). number (take 3 xs)) c.new-header.ensures.value,
+      ap (λ (xs : List Bool). number (take 3 (drop 3 xs))) c.new-header.ensures.value,
+      three (take 32 (bits c.args.payload.now)),
+      three (drop 3 (take 32 (bits c.args.payload.now))),
+    )
 
 there-so : (n a b s e t : ℕ) → 4 ≤ n → s < 8 → e < 8 → a ≡ s → b ≡ e → t ≡ min (n - 4) 65536 → nat_le (a + b) (t * 8) ≡ (nat_le 4 n && nat_le (s + e) (8 * (n - 4)))
 there-so n a b s e t long small few a_is b_is is = grind (arith, nat_tests)

@@ -1,4 +1,4 @@
-use Rattle.std.proofs.Common.{◌≡◌, ◌∙◌, ap, List, ℕ, ◌++◌, codes, decimal, append_assoc}
+use Rattle.std.proofs.Common.{◌≡◌, ◌∙◌, ap, ap₂, List, ℕ, ◌++◌, codes, decimal, append_assoc}
 use Rattle.bridge_replay.specs.Lines.{size_words}
 use Rattle.bridge_replay.proofs.lines.push_size.Goals as goal
 
@@ -10,5 +10,5 @@ unfolding size_words
 returns-clause-bytes c =
     c.push_number-2.ensures.bytes
     ∙ ap (λ (xs : List ℕ). xs ++ decimal c.args.macroblocks) (c.push_str-2.ensures.bytes ∙ ap (λ (xs : List ℕ). xs ++ codes " macroblocks ")
-    (c.push_number.ensures.bytes ∙ ap (λ (xs : List ℕ). xs ++ decimal c.args.bits) c.push_str.ensures.bytes))
+    (c.push_number.ensures.bytes ∙ ap₂ (λ (xs : List ℕ) (n : ℕ). xs ++ decimal n) c.push_str.ensures.bytes c.from.ensures))
     ∙ four c.args.line.now.bytes (codes " bits ") (decimal c.args.bits) (codes " macroblocks ") (decimal c.args.macroblocks)
