@@ -9,6 +9,7 @@ pub mod PacketRuns
 pub mod PictureLine
 pub mod PicturesRead
 pub mod ReadingBack
+pub mod Recounting
 pub mod Reserving
 pub mod Starting
 pub mod Stopping
