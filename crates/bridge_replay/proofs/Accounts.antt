@@ -1,6 +1,8 @@
 -- What is kept of the lanes of a conference of which is told.
-use Rattle.std.proofs.Common.{◌≡◌, ◌≢◌, ℕ, ◌+◌, ◌<◌, ◌==◌, if◌then◌else◌, Bool, true, false, List, [], ◌∷◌, ◌++◌, Option, None, Some, is_none, length, map, option_map, slice_get, slice_set, refl, sym, ap, subst, ◌∙◌, arith, length-set, length-append, map-append}
+use Rattle.std.proofs.Common.{◌≡◌, ◌≢◌, ℕ, ◌+◌, ◌<◌, ◌≤◌, ◌==◌, if◌then◌else◌, Bool, true, false, List, [], ◌∷◌, ◌++◌, Option, None, Some, is_none, is_some, not, length, get_or, map, option_map, slice_get, slice_set, refl, sym, ap, subst, ◌∙◌, arith, length-set, length-append}
 use Rattle.std.proofs.lemmas.Bool.Decides.{nat_tests}
+use Rattle.std.proofs.lemmas.List.{map-append}
+use Rattle.std.proofs.lemmas.Option.{slice_get_read}
 use Rattle.bridge_replay.specs.declared.idle.Idle.{Idle}
 use Rattle.bridge_replay.specs.declared.idle.Idle.TheVariants.{Unusable, Repeated, Late}
 use Rattle.bridge_replay.specs.Account.{idle_behind, why_idle}
@@ -9,7 +11,7 @@ use Rattle.bridge_replay.specs.Recounting.{AreCounted, AreLasts, Judges, last_nu
 use Rattle.bridge_replay.proofs.Units.{get-set_same, get-set_other}
 use Rattle.conf_file.specs.Entries.{Content, Packet}
 use Rattle.pel_model.specs.declared.Format.TheVariants.{Qcif}
-use Rattle.pel_model.specs.History.{History, Step, Post, Gap, arrivals}
+use Rattle.pel_model.specs.History.{History, Step, Post, Gap, Order, Tick, End, arrivals}
 use Rattle.pel_model.specs.Lanes.{Arrival, Received, Missing}
 use Rattle.pel_model.specs.Records.{Picture}
 use Rattle.pel_model.specs.Refresh.{is_refresh}
@@ -50,6 +52,28 @@ counted-further lanes lane n history counts s comes counted below is = record {
     at c within false e =
         let apart : lane ≢ c = grind (arith, nat_tests) in
         get-set_other counts lane c n apart ∙ counted.each c within ∙ ap (λ (xs : List (Arrival Picture)). Some (length xs)) (sym (more c false e))
+
+-- what is counted there
+pub count-there : (lanes lane at n : ℕ) (history : History) (counts : List ℕ) → AreCounted lanes history counts → lane < lanes → at ≡ lane
+    → n ≡ get_or counts at n → n ≡ length (arrivals history lane)
+count-there lanes lane at n history counts counted below is there =
+    some-same (sym (slice_get_read counts (length counts) at n refl (omega (arith, below, is, counted.count)) there) ∙ ap (slice_get counts) is ∙ counted.each lane below)
+  where
+    some-same : {x y : ℕ} → Some x ≡ Some y → x ≡ y
+    some-same e = cc
+
+-- no lane has more steps than a history
+few-in : (xs : List (Arrival Picture)) (x : Arrival Picture) (n : ℕ) (b : Bool) → length xs ≤ n → length (if b then xs ++ x ∷ [] else xs) ≤ n + 1
+few-in xs x n true few = omega (arith, few, length-append xs (x ∷ []))
+few-in xs x n false few = omega (arith, few)
+
+pub arrivals-few : (history : History) (c : ℕ) → length (arrivals history c) ≤ length history
+arrivals-few [] c = omega arith
+arrivals-few (Post lane p ∷ history) c = omega (arith, few-in (arrivals history c) (Received (is_refresh Qcif p) p) (length history) (lane == c) (arrivals-few history c))
+arrivals-few (Gap lane ∷ history) c = omega (arith, few-in (arrivals history c) Missing (length history) (lane == c) (arrivals-few history c))
+arrivals-few (Order command reply ∷ history) c = omega (arith, arrivals-few history c)
+arrivals-few (Tick note ∷ history) c = omega (arith, arrivals-few history c)
+arrivals-few (End ∷ history) c = omega (arith, arrivals-few history c)
 
 -- ---- the packets that counted last
 
@@ -101,6 +125,12 @@ stays-so (Some l) (Some p) e = by (is_late l p) e
       where
         not-so : true ≡ false → ⊥
         not-so k = cc
+
+pub none-where : (idle : Option Idle) (b : Bool) → is_some idle ≡ not b → is_none idle ≡ b
+none-where None true is = refl
+none-where None false is = sym is
+none-where (Some i) true is = sym is
+none-where (Some i) false is = refl
 
 -- behind a packet of a lane
 lasts-with : (lanes : ℕ) (entries : List Content) (old new : List (Option ℕ)) (lane : ℕ) (packet : List ℕ) → length new ≡ lanes → AreLasts lanes entries old

@@ -14,6 +14,7 @@ pub mod Reserving
 pub mod Starting
 pub mod Stopping
 pub mod Ticks
+pub mod Told
 pub mod Units
 pub mod WorkedReplay
 mod WrittenReadsBack

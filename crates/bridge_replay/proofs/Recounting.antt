@@ -1,5 +1,5 @@
 -- What an entry makes of a conference of which is told, and of the page of its lines.
-use Rattle.std.proofs.Common.{◌≡◌, ℕ, ◌+◌, ◌*◌, ◌<◌, ◌≤◌, ◌==◌, if◌then◌else◌, Bool, true, false, List, [], ◌∷◌, ◌++◌, Option, None, Some, length, slice_get, slice_set, inl, inr, refl, sym, ap, ap₂, subst, ◌∙◌, arith, append-nil, append_assoc, length-append}
+use Rattle.std.proofs.Common.{◌≡◌, ℕ, suc, ◌+◌, ◌*◌, ◌<◌, ◌≤◌, ◌==◌, if◌then◌else◌, Bool, true, false, List, [], ◌∷◌, ◌++◌, Option, None, Some, length, slice_get, slice_set, inl, inr, refl, sym, ap, ap₂, subst, ◌∙◌, arith, append-nil, append_assoc, length-append}
 use Rattle.std.specs.List.{concat}
 use Rattle.std.proofs.lemmas.Bool.Decides.{nat_tests}
 use Rattle.std.proofs.lemmas.List.Folds.{concat-append}
@@ -33,7 +33,7 @@ use Rattle.rtp_h261.specs.Events.{Event, Lost, Shown, Refused, AreUnitEvents, Ha
 -- ---- pages
 
 pub adds-none : (page : Page) → Adds [] page page
-adds-none page = record { bytes = sym (append-nil page.text.bytes); counted = refl }
+adds-none page = record { bytes = sym (append-nil page.text.bytes); counted = omega arith }
 
 pub adds-both : (xs ys : List (List ℕ)) (a b c : Page) → Adds xs a b → Adds ys b c → Adds (xs ++ ys) a c
 adds-both xs ys a b c x y = record {
@@ -165,7 +165,7 @@ lines-of-both place lane n (x ∷ xs) ys =
     ap (λ (ls : List (List ℕ)). event_line place lane n x ∷ ls)
     (lines-of-both place lane (n + 1) xs ys ∙ ap (λ (k : ℕ). event_lines place lane (n + 1) xs ++ event_lines place lane k ys) (one-more n (length xs)))
   where
-    one-more : (n m : ℕ) → n + 1 + m ≡ n + (m + 1)
+    one-more : (n m : ℕ) → n + 1 + m ≡ n + suc m
     one-more n m = omega arith
 
 -- ---- a packet

@@ -8,12 +8,26 @@ use Rattle.bridge_replay.specs.declared.telling.LineTally.{LineTally}
 use Rattle.bridge_replay.specs.declared.ends.ReplayStop.{ReplayStop}
 use Rattle.bridge_replay.specs.declared.ends.ReplayStop.TheVariants.{WriteFault}
 use Rattle.bridge_replay.specs.Account.{AreLines}
-use Rattle.bridge_replay.specs.FileHistory.{IsHistory}
-use Rattle.bridge_replay.specs.Replays.{StoppedFor, StoppedEarly}
+use Rattle.bridge_replay.specs.FileHistory.{oldest_first, IsHistory}
+use Rattle.bridge_replay.specs.Replays.{EndsThere, StoppedFor, StoppedEarly}
 use Rattle.conf_file.specs.Entries.{Content}
+use Rattle.conf_file.specs.File.{Whole, Conference, IsFile, HasRead}
 use Rattle.io_edge.specs.Causes.{Rose}
-use Rattle.io_edge.specs.Outside.{Output, Outside, NoWriteFails}
+use Rattle.io_edge.specs.Outside.{Output, Outside, NoReadFails}
 use Rattle.pel_model.specs.History.{History}
+
+-- the header and these whole entries, the last of which may be the end
+abbrev pub TookEntries : (octets : List ℕ) → (lanes : ℕ) → (entries : List Content) → Type 0
+TookEntries octets lanes entries =
+    HasRead octets lanes (oldest_first entries) (length octets) []
+    ⊎ (IsFile octets (Conference lanes (oldest_first entries) Whole) × EndsThere octets lanes entries)
+
+-- as for a replay; but each entry has lines, so the sink may fail at any, the end too
+abbrev pub StopsTelling : ReplayStop → (budget : ℕ) → (before after : Outside) → (octets : List ℕ) → (lanes : ℕ)
+    → (entries : List Content) → Type 0
+StopsTelling WriteFault budget before after octets lanes entries =
+    TookEntries octets lanes entries × NoReadFails before after
+StopsTelling stop budget before after octets lanes entries = StoppedFor stop budget before after octets lanes entries
 
 -- What was written: all lines. Where the sink failed, it did so at the lines of the last entry: what was written is a front
 -- of all lines and not all, and has those before them. `whole` are the lines that are counted.
@@ -34,10 +48,10 @@ pub record Tells (budget : ℕ) (before after : Outside) (end : HistoryEnd) : Ty
   pub octets : List ℕ
   pub taken : Consumes before.source.left after.source.left octets
   pub within : length octets ≤ budget
-  -- the number of lanes that they tell, their whole entries, the newest first, and what ends them, as for a replay
+  -- the number of lanes that they tell, their whole entries, the newest first, and what ends them
   pub lanes : ℕ
   pub entries : List Content
-  pub stopped : StoppedFor end.stop budget before after octets lanes entries
+  pub stopped : StopsTelling end.stop budget before after octets lanes entries
   -- the history of these entries, which a replay has too, and its lines
   pub history : History
   pub steps : IsHistory lanes entries history

@@ -2,8 +2,9 @@ use Rattle.std.proofs.Common.{◌≡◌, ◌∙◌, ap, ap₂, List, ℕ, ◌++�
 use Rattle.bridge_replay.specs.Lines.{size_words}
 use Rattle.bridge_replay.proofs.lines.push_size.Goals as goal
 
-four : (line a b c d : List ℕ) → (((line ++ a) ++ b) ++ c) ++ d ≡ line ++ (a ++ (b ++ (c ++ d)))
-four line a b c d = append_assoc ((line ++ a) ++ b) c d ∙ append_assoc (line ++ a) b (c ++ d) ∙ append_assoc line a (b ++ (c ++ d))
+four : (line a b c d : List ℕ) → line ++ a ++ b ++ c ++ d ≡ line ++ (a ++ b ++ c ++ d)
+four line a b c d =
+    ap (λ (xs : List ℕ). xs ++ d) (ap (λ (xs : List ℕ). xs ++ c) (append_assoc line a b) ∙ append_assoc line (a ++ b) c) ∙ append_assoc line (a ++ b ++ c) d
 
 pub returns-clause-bytes : goal.returns-clause-bytes
 unfolding size_words
