@@ -1,5 +1,5 @@
 -- What was told of a file after an entry, and what a telling did where it stops.
-use Rattle.std.proofs.Common.{◌≡◌, ℕ, ◌+◌, ◌*◌, ◌<◌, ◌≤◌, min, List, [], ◌∷◌, ◌++◌, Option, None, Some, Result, Ok, Err, length, take, inl, inr, refl, sym, ap, ap₂, subst, ◌∙◌, arith, length-append}
+use Rattle.std.proofs.Common.{◌≡◌, ℕ, ◌+◌, ◌*◌, ◌<◌, ◌≤◌, nat_le, ◌&&◌, Bool, true, false, is_some, IsTrue, map, List, [], ◌∷◌, ◌++◌, Option, None, Some, Result, Ok, Err, length, take, inl, inr, refl, sym, ap, ap₂, subst, ◌∙◌, arith, length-append}
 use Rattle.std.proofs.KnownBytes.{Consumes-trans, Appends-trans, Appends-nil}
 use Rattle.std.proofs.Math.Seq.{take-append_seam}
 use Rattle.std.proofs.lemmas.List.{take_all, length-take, take-append-le}
@@ -20,7 +20,8 @@ use Rattle.bridge_replay.specs.UnderWay.{IsOpen, StaysOpen}
 use Rattle.bridge_replay.proofs.Calls.{says}
 use Rattle.bridge_replay.proofs.OneHistory.{one-history}
 use Rattle.bridge_replay.proofs.Stopping.{IsNoWriteFault, failed-behind}
-use Rattle.chair_words.specs.Line.{has_sayable_lane}
+use Rattle.chair_words.specs.Line.{a_place, a_lane, number_spelt, is_in, is_good, AreGood, Says, has_sayable_lane}
+use Rattle.chair_words.specs.Words.{Word}
 use Rattle.conf_file.specs.declared.answers.EntryEnd.{EntryEnd}
 use Rattle.conf_file.specs.declared.answers.EntryEnd.TheVariants.{Bad, Cut, Fault, Limit}
 use Rattle.conf_file.specs.Entries.{Content, Packet, Chair, Tick as TickEntry, End}
@@ -29,7 +30,10 @@ use Rattle.conf_file.specs.Header.{header_of}
 use Rattle.conf_file.specs.Reading.{ReaderState, ReadsEntry, lanes_after}
 use Rattle.io_edge.specs.Causes.{Rose}
 use Rattle.io_edge.specs.Outside.{Input, Output, Outside, outside}
+use Rattle.pel_model.specs.declared.chair.Command.{Command}
+use Rattle.pel_model.specs.declared.chair.Command.TheVariants.{Place, Clear, Swap, Speaker, Pin, Unpin}
 use Rattle.pel_model.specs.History.{History}
+use Rattle.pel_model.specs.Regions.{number_of}
 
 -- ---- lines of a longer file
 
@@ -107,6 +111,49 @@ all-told budget before now reader a tally t ended =
     }
 
 -- ---- one call of the reader
+
+-- what a line says has a lane that a line can say
+both-true : (a b : Bool) → IsTrue (a && b) → IsTrue b
+both-true true b e = e
+both-true false b e = absurd (not-so e)
+  where
+    not-so : false ≡ true → ⊥
+    not-so h = cc
+
+lane-good : (c : ℕ) (w : Word) → IsTrue (is_good a_lane w) → number_spelt w.text ≡ Some c → IsTrue (nat_le c 15)
+lane-good c w good is = both-true (nat_le 0 c) (nat_le c 15) (subst (λ (n : Option ℕ). IsTrue (is_in a_lane n)) is good)
+
+after-place : (c : ℕ) (first : Option ℕ) (numbers : List Word) → AreGood (a_place ∷ a_lane ∷ []) numbers
+    → map (λ (w : Word). number_spelt w.text) numbers ≡ first ∷ Some c ∷ [] → IsTrue (nat_le c 15)
+after-place c first [] good values = absurd good
+after-place c first (v ∷ []) good values = absurd good.1
+after-place c first (v ∷ w ∷ ws) good values = lane-good c w good.1.0 (second values)
+  where
+    second : {x y a b : Option ℕ} {xs ys : List (Option ℕ)} → x ∷ a ∷ xs ≡ y ∷ b ∷ ys → a ≡ b
+    second e = cc
+
+alone : (c : ℕ) (numbers : List Word) → AreGood (a_lane ∷ []) numbers → map (λ (w : Word). number_spelt w.text) numbers ≡ Some c ∷ [] → IsTrue (nat_le c 15)
+alone c [] good values = absurd good
+alone c (w ∷ ws) good values = lane-good c w good.0 (first values)
+  where
+    first : {a b : Option ℕ} {xs ys : List (Option ℕ)} → a ∷ xs ≡ b ∷ ys → a ≡ b
+    first e = cc
+
+sayable-so : (line : List ℕ) (command : Command) → Says line command → IsTrue (has_sayable_lane command)
+sayable-so line (Place q c) says = after-place c (Some (number_of q)) says.numbers says.good says.values
+sayable-so line (Clear q) says = refl
+sayable-so line (Swap p q) says = refl
+sayable-so line (Speaker c) says = alone c says.numbers says.good says.values
+sayable-so line (Pin q) says = refl
+sayable-so line (Unpin q) says = refl
+
+pub reading-so : (l : Option ℕ) (lanes : ℕ) (entries : List Content) (history : History) (octets : List ℕ) → is_some l ≡ true
+    → HasReadTo l lanes entries history octets → l ≡ Some lanes
+reading-so None lanes entries history octets e h = absurd (none-there e)
+  where
+    none-there : false ≡ true → ⊥
+    none-there e = cc
+reading-so (Some n) lanes entries history octets e h = ap (λ (m : ℕ). Some m) h.0
 
 module _ (law : LawOfReading) (budget : ℕ) (before old : Outside) (reader : ReaderState) (a : Account) (tally : LineTally)
     (t : ToldSoFar budget before old reader a tally) (reading : reader.lanes ≡ Some t.lanes) (source : Input) (new : ReaderState) where
@@ -235,6 +282,23 @@ module _ (law : LawOfReading) (budget : ℕ) (before old : Outside) (reader : Re
   room-so content k = record {
     going = read-here.2;
     room = omega (arith, t.room, t.taken, law.moves t.lanes old.source source reader new content k, k.takes.takes.within, budget-so _ k, t.least);
+  }
+
+  pub fits-so : (content : Content) (k : ReadsEntry t.lanes old.source source reader new (Ok content)) → CanBeTold t.lanes content
+  fits-so (Packet lane packet) k = k.takes.answer.0.1
+  fits-so (Chair command) k = sayable-so k.takes.answer.0.0 command k.takes.answer.0.3
+  fits-so (TickEntry step) k = k.takes.answer.0.1
+  fits-so End k = tt
+
+  -- an entry that was read may be told
+  pub may-tell : (content : Content) (k : ReadsEntry t.lanes old.source source reader new (Ok content)) → MayTell content a
+  may-tell content k = record {
+    lanes = t.lanes;
+    entries = t.entries;
+    history = t.history;
+    keeps = t.keeps;
+    room = room-so content k;
+    fits = fits-so content k;
   }
 
   -- the lines of all entries with those of this one
