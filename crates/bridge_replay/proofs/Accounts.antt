@@ -4,7 +4,7 @@ use Rattle.std.proofs.lemmas.Bool.Decides.{nat_tests}
 use Rattle.std.proofs.lemmas.List.{map-append}
 use Rattle.std.proofs.lemmas.Option.{slice_get_read}
 use Rattle.bridge_replay.specs.declared.idle.Idle.{Idle}
-use Rattle.bridge_replay.specs.declared.idle.Idle.TheVariants.{Unusable, Repeated, Late}
+use Rattle.bridge_replay.specs.declared.idle.Idle.TheVariants.{Repeated, Late}
 use Rattle.bridge_replay.specs.Account.{idle_behind, why_idle}
 use Rattle.bridge_replay.specs.FileHistory.{packets_in}
 use Rattle.bridge_replay.specs.Recounting.{AreCounted, AreLasts, Judges, last_number}

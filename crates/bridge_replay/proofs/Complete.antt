@@ -115,7 +115,7 @@ pub complete-telling : LawOfOneReading → LawOfFileFronts → (budget : ℕ) (b
 complete-telling one fronts budget before after end ends file more lanes list told is short no_read no_write =
     ⊎_elim (λ (n : TellsNothing budget before after end). by-early one fronts file more lanes list is budget before after told short no_read no_write end.stop n.octets n.taken n.stopped)
     (λ (r : Tells budget before after end). by-telling end.stop r.octets r.lanes r.entries r.taken r.stopped
-    (λ (failed : end.stop ≡ WriteFault). no_write (subst (λ (s : ReplayStop). WroteLines s before.sink after.sink r.lines r.whole) failed r.output).2.2.2.2)) ends
+    (λ (failed : end.stop ≡ WriteFault). no_write (subst (λ (s : ReplayStop). WroteLines s before.sink after.sink r.lines r.whole) failed r.output).5)) ends
   where
     as-replay : (s : ReplayStop) (octets : List ℕ) (l : ℕ) (entries : List Content) → StopsTelling s budget before after octets l entries → s ≢ WriteFault
         → StoppedFor s budget before after octets l entries

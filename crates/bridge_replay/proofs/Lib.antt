@@ -2,6 +2,7 @@ pub mod Accounts
 pub mod Calls
 pub mod Complete
 pub mod Counting
+pub mod OneAccount
 pub mod OneHistory
 pub mod PacketCuts
 pub mod PacketPieces
@@ -17,4 +18,5 @@ pub mod Ticks
 pub mod Told
 pub mod Units
 pub mod WorkedReplay
+mod WorkedTelling
 mod WrittenReadsBack

@@ -1,12 +1,11 @@
 -- What is told of a coded picture is what its picture has.
-use Rattle.std.proofs.Common.{◌≡◌, ℕ, Bool, true, false, List, length, IsTrue, ◌↔◌, refl, sym, ◌∙◌, ap, ap₂}
+use Rattle.std.proofs.Common.{◌≡◌, ℕ, Bool, true, false, length, IsTrue, ◌↔◌, refl, sym, ◌∙◌, ap, ap₂}
 use Rattle.bridge_replay.specs.Lines.{shown_line, event_line}
 use Rattle.h261_pic.proofs.GroupMarks.{length-group_marks}
 use Rattle.h261_pic.specs.Coded.{Coding, coding}
 use Rattle.pel_model.specs.declared.Format.TheVariants.{Qcif}
 use Rattle.pel_model.specs.Records.{Picture}
-use Rattle.pel_model.specs.Refresh.{is_refresh, sent_macroblocks, IsRefresh}
-use Rattle.pel_model.specs.Text.{text}
+use Rattle.pel_model.specs.Refresh.{is_refresh, IsRefresh}
 use Rattle.rtp_h261.specs.Events.{Shown}
 
 same-test : (b c : Bool) → (IsTrue b ↔ (c ≡ true)) → b ≡ c

@@ -1,15 +1,15 @@
 -- What an entry makes of a conference of which is told, and of the page of its lines.
-use Rattle.std.proofs.Common.{◌≡◌, ℕ, suc, ◌+◌, ◌*◌, ◌<◌, ◌≤◌, ◌==◌, if◌then◌else◌, Bool, true, false, List, [], ◌∷◌, ◌++◌, Option, None, Some, length, slice_get, slice_set, inl, inr, refl, sym, ap, ap₂, subst, ◌∙◌, arith, append-nil, append_assoc, length-append}
+use Rattle.std.proofs.Common.{◌≡◌, ℕ, suc, ◌+◌, ◌<◌, ◌≤◌, ◌==◌, if◌then◌else◌, Bool, true, false, List, [], ◌∷◌, ◌++◌, Option, None, Some, length, slice_get, slice_set, inl, inr, refl, sym, ap, ap₂, subst, ◌∙◌, arith, append-nil, append_assoc, length-append}
 use Rattle.std.specs.List.{concat}
 use Rattle.std.proofs.lemmas.Bool.Decides.{nat_tests}
 use Rattle.std.proofs.lemmas.List.Folds.{concat-append}
 use Rattle.bridge_replay.specs.declared.account.Account.{Account}
 use Rattle.bridge_replay.specs.declared.account.Page.{Page}
 use Rattle.bridge_replay.specs.declared.idle.Idle.{Idle}
-use Rattle.bridge_replay.specs.Account.{why_idle, idle_lines, AreEntryLines}
-use Rattle.bridge_replay.specs.FileHistory.{packets_in, after_loss, AfterUnit, AfterEntry, IsHistory}
+use Rattle.bridge_replay.specs.Account.{idle_lines, AreEntryLines}
+use Rattle.bridge_replay.specs.FileHistory.{packets_in, after_loss, AfterUnit, AfterEntry}
 use Rattle.bridge_replay.specs.Lines.{event_line, event_lines}
-use Rattle.bridge_replay.specs.Recounting.{HasLines, Adds, AreCounted, AreLasts, last_number, Follows, MayCome, IsSameAccount, TellsIn, TellsUnit, with_events, step_in, Keeps, Hears, TookEntry}
+use Rattle.bridge_replay.specs.Recounting.{Adds, AreCounted, AreLasts, last_number, Follows, MayCome, IsSameAccount, TellsIn, TellsUnit, with_events, step_in, Keeps, Hears, TookEntry}
 use Rattle.bridge_replay.specs.UnderWay.{IsOpen, IsFedQcif, AreFed, StaysOpen}
 use Rattle.bridge_replay.proofs.Accounts.{ComesIn, gap-comes, post-comes, counted-further}
 use Rattle.bridge_replay.proofs.Units.{may-post}
@@ -19,16 +19,15 @@ use Rattle.hall_core.specs.Hall.{HallView, lanes_of, IsSameConference}
 use Rattle.hall_core.specs.Stands.{StandsFor, Steps, KeepsRules, IsQcifHand}
 use Rattle.pel_model.specs.declared.Fault.{Fault}
 use Rattle.pel_model.specs.declared.Format.TheVariants.{Qcif}
-use Rattle.pel_model.specs.History.{History, Step, Post, Gap, arrivals, has_ended}
+use Rattle.pel_model.specs.History.{History, Step, arrivals, has_ended}
 use Rattle.pel_model.specs.Lanes.{Arrival}
 use Rattle.pel_model.specs.Legal.{Legal, IsPostable}
 use Rattle.pel_model.specs.Records.{Picture}
 use Rattle.pel_model.specs.Valid.{limit}
 use Rattle.rtp_h261.specs.declared.depack.Fed.{Fed}
-use Rattle.rtp_h261.specs.declared.depack.Unit.{Unit as Ended}
 use Rattle.rtp_h261.specs.declared.depack.Unit.TheVariants as unit
-use Rattle.rtp_h261.specs.Depack.{HasUnit, given_behind}
-use Rattle.rtp_h261.specs.Events.{Event, Lost, Shown, Refused, AreUnitEvents, Happens, lost_events}
+use Rattle.rtp_h261.specs.Depack.{given_behind}
+use Rattle.rtp_h261.specs.Events.{Event, Lost, Shown, Refused, AreUnitEvents, lost_events}
 
 -- ---- pages
 

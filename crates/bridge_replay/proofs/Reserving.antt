@@ -8,7 +8,6 @@ use Rattle.bridge_replay.specs.UnderWay.{most_steps, IsFedQcif, AreFed, beginnin
 use Rattle.bridge_replay.specs.Recounting.{Keeps}
 use Rattle.cif_pack.specs.declared.packer.Settings.{Settings}
 use Rattle.cif_pack.specs.declared.tally.Tally.{Tally}
-use Rattle.cif_pack.specs.State.{PackerState}
 use Rattle.cif_pack.specs.Tallies.{nothing_counted}
 use Rattle.cif_pack.proofs.ListLaws.{nothing-sent}
 use Rattle.h261_pic.specs.Coded.{Coding, nothing}

@@ -1,5 +1,5 @@
 -- What was told of a file after an entry, and what a telling did where it stops.
-use Rattle.std.proofs.Common.{◌≡◌, ℕ, ◌+◌, ◌*◌, ◌<◌, ◌≤◌, nat_le, ◌&&◌, Bool, true, false, is_some, IsTrue, map, List, [], ◌∷◌, ◌++◌, Option, None, Some, Result, Ok, Err, length, take, inl, inr, refl, sym, ap, ap₂, subst, ◌∙◌, arith, length-append}
+use Rattle.std.proofs.Common.{◌≡◌, ℕ, ◌+◌, ◌^◌, ◌<◌, ◌≤◌, nat_le, ◌&&◌, Bool, true, false, is_some, IsTrue, map, List, [], ◌∷◌, ◌++◌, Option, None, Some, Result, Ok, Err, length, take, inl, inr, refl, sym, ap, ap₂, subst, ◌∙◌, arith, append-nil, length-append}
 use Rattle.std.proofs.KnownBytes.{Consumes-trans, Appends-trans, Appends-nil}
 use Rattle.std.proofs.Math.Seq.{take-append_seam}
 use Rattle.std.proofs.lemmas.List.{take_all, length-take, take-append-le}
@@ -11,10 +11,10 @@ use Rattle.bridge_replay.specs.declared.account.Page.{Page}
 use Rattle.bridge_replay.specs.declared.ends.ReplayStop.{ReplayStop}
 use Rattle.bridge_replay.specs.declared.ends.ReplayStop.TheVariants as stop
 use Rattle.bridge_replay.specs.declared.telling.LineTally.{LineTally}
-use Rattle.bridge_replay.specs.Account.{StandsBehind, AreEntryLines, AreLines}
-use Rattle.bridge_replay.specs.FileHistory.{oldest_first, AfterEntry, IsHistory}
+use Rattle.bridge_replay.specs.Account.{StandsBehind, AreLines}
+use Rattle.bridge_replay.specs.FileHistory.{oldest_first, AfterEntry}
 use Rattle.bridge_replay.specs.ReadsFile.{replay_stop}
-use Rattle.bridge_replay.specs.Recounting.{HasLines, CanBeTold, MayTell, TookEntry, HasReadTo, ToldSoFar, TellsTo, IsTelling}
+use Rattle.bridge_replay.specs.Recounting.{HasLines, CanBeTold, Keeps, MayTell, TookEntry, HasReadTo, ToldSoFar}
 use Rattle.bridge_replay.specs.Telling.{TookEntries, StopsTelling, WroteLines, counted_lines, Tells}
 use Rattle.bridge_replay.specs.UnderWay.{IsOpen, StaysOpen}
 use Rattle.bridge_replay.proofs.Calls.{says}
@@ -27,7 +27,8 @@ use Rattle.conf_file.specs.declared.answers.EntryEnd.TheVariants.{Bad, Cut, Faul
 use Rattle.conf_file.specs.Entries.{Content, Packet, Chair, Tick as TickEntry, End}
 use Rattle.conf_file.specs.File.{CutAt, Conference as FileOf, IsFile, HasRead, AfterNext, LawOfReading}
 use Rattle.conf_file.specs.Header.{header_of}
-use Rattle.conf_file.specs.Reading.{ReaderState, ReadsEntry, lanes_after}
+use Rattle.conf_file.specs.Reading.{ReaderState, CallsStart, ReadsEntry, lanes_after}
+use Rattle.io_edge.specs.Allowance.{unused}
 use Rattle.io_edge.specs.Causes.{Rose}
 use Rattle.io_edge.specs.Outside.{Input, Output, Outside, outside}
 use Rattle.pel_model.specs.declared.chair.Command.{Command}
@@ -87,7 +88,49 @@ wrote-all (stop.BadRecord place why) before after lines fine wrote kept = (refl,
 wrote-all stop.Limit before after lines fine wrote kept = (refl, wrote, kept)
 wrote-all stop.NoMemory before after lines fine wrote kept = (refl, wrote, kept)
 
--- ---- a file to its end
+-- ---- a file from its header to its end
+
+-- a telling stands before the first entry
+pub begins-telling : (budget : ℕ) (before after : Input) (sink : Output) (old new : ReaderState) (lanes : ℕ) (a : Account) → old ≡ record { allowance = unused budget; lanes = None }
+    → budget ≤ 2 ^ 40 → CallsStart before after old new (Ok lanes) → Keeps lanes [] [] a
+    → ToldSoFar budget (outside before sink) (outside after sink) new a (counted_lines [])
+begins-telling budget before after sink old new lanes a fresh least k keeps =
+    let header = k.header.answer in
+    let took = k.header.took in
+    let budget_is : new.allowance.budget ≡ budget = k.header.takes.budget ∙ ap (λ (r : ReaderState). r.allowance.budget) fresh in
+    let long : new.allowance.taken ≡ length took = omega (arith, k.header.takes.taken, ap (λ (r : ReaderState). r.allowance.taken) fresh) in
+    record {
+      lanes = lanes;
+      entries = [];
+      history = [];
+      octets = took;
+      lines = [];
+      keeps = keeps;
+      told = (refl, refl);
+      written = Appends-nil sink.written;
+      writes = refl;
+      counted = refl;
+      budget_is = budget_is;
+      least = least;
+      taken = long;
+      within = omega (arith, k.header.takes.within, budget_is, long);
+      bytes = k.header.takes.bytes;
+      faults = header.2;
+      reads = subst (λ (l : Option ℕ). HasReadTo l lanes [] [] took) (sym k.lanes) (
+        refl,
+        record {
+          octets = [];
+          header = header.0 ∙ sym (append-nil (header_of lanes));
+          lanes_fit = header.1;
+          begins = record { entries = []; cut = refl; spelled = tt; counted = ap length header.0 };
+          going_on = tt;
+        },
+        refl,
+      );
+      room = omega arith;
+      few_lines = omega arith;
+      few_octets = omega arith;
+    }
 
 -- a telling that stands where the end was read is done
 pub all-told : (budget : ℕ) (before now : Outside) (reader : ReaderState) (a : Account) (tally : LineTally) → ToldSoFar budget before now reader a tally

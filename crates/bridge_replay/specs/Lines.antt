@@ -13,7 +13,6 @@ use Rattle.pel_model.specs.declared.note.TickNote.{TickNote}
 use Rattle.pel_model.specs.declared.Why.{Why}
 use Rattle.pel_model.specs.declared.Why.TheVariants.{NoStart, WrongFormat, StillImage, BadGroup, BadQuant, TooLong, NoCode}
 use Rattle.pel_model.specs.declared.Why.TheVariants.{Cut, BadAddress, BadVector, VectorOutside, BadDc, BadLevel, TooMany}
-use Rattle.pel_model.specs.Records.{Picture}
 use Rattle.pel_model.specs.Refresh.{sent_macroblocks, is_refresh}
 use Rattle.pel_model.specs.Text.{text}
 use Rattle.rtp_h261.specs.Events.{Event, Lost, Shown, Refused}

@@ -1,6 +1,6 @@
 -- Inner contracts alone use this; nothing here has to be believed.
 -- A conference of which is told, and what an entry makes of it and of the page of its lines.
-use Rattle.std.specs.Prelude.{◌≡◌, ℕ, ◌+◌, ◌*◌, ◌^◌, ◌<◌, ◌≤◌, Bool, false, Option, None, Some, List, [], ◌∷◌, ◌++◌, length, map, option_map, slice_get, slice_set, IsTrue, Result, Ok, Err, IfOk}
+use Rattle.std.specs.Prelude.{◌≡◌, ℕ, ◌+◌, ◌*◌, ◌^◌, ◌<◌, ◌≤◌, Bool, false, Option, None, Some, List, [], ◌∷◌, ◌++◌, length, map, option_map, slice_get, IsTrue, Result, Ok, Err, IfOk}
 use Rattle.std.specs.List.{concat}
 use Rattle.std.specs.Io.KnownBytes.{Consumes, Appends}
 use Rattle.arrayvec.specs.ArrayString.{array_string_len}
@@ -29,7 +29,7 @@ use Rattle.pel_model.specs.History.{History, Step, Post, Gap, arrivals, has_ende
 use Rattle.pel_model.specs.Legal.{Legal}
 use Rattle.rtp_h261.specs.declared.depack.Fed.{Fed}
 use Rattle.rtp_h261.specs.declared.depack.Unit.{Unit as Ended}
-use Rattle.rtp_h261.specs.Depack.{Held, HasUnit, AnswersGiven, given_behind}
+use Rattle.rtp_h261.specs.Depack.{HasUnit, AnswersGiven, given_behind}
 use Rattle.rtp_h261.specs.Events.{Event, Lost, Shown, Refused, AreUnitEvents}
 use Rattle.rtp_h261.specs.OneByOne.{last_member}
 use Rattle.rtp_h261.specs.Packets.{piece_of}

@@ -16,7 +16,7 @@ pub use cif_pack::{Settings, Tally};
 pub use ends::{ReplayEnd, ReplayStop};
 pub use idle::Idle;
 pub use job::replay;
-pub use laws::{one_history, packets_are_read_back, worked_replay};
+pub use laws::{one_account, one_history, packets_are_read_back, worked_replay};
 pub use telling::{HistoryEnd, LineTally, history};
 
 #[cfg(test)]

@@ -1,8 +1,7 @@
-use Rattle.std.proofs.Common.{ℕ, ◌<◌, Option, List, Some, ◌≡◌, length, slice_get, slice_set, refl, sym, ap, subst, ◌∙◌, arith}
+use Rattle.std.proofs.Common.{ℕ, Some, ◌≡◌, length, slice_get, slice_set, refl, sym, ap, subst, ◌∙◌, arith}
 use Rattle.std.proofs.lemmas.Option.{slice_get_read}
-use Rattle.bridge_replay.specs.Recounting.{AreLasts, Judges}
+use Rattle.bridge_replay.specs.Recounting.{Judges}
 use Rattle.bridge_replay.proofs.Accounts.{none-where, judged-last, judged-idle}
-use Rattle.conf_file.specs.Entries.{Content}
 use Rattle.bridge_replay.proofs.account.judge.Goals as goal
 
 pub returns-then-is_none : goal.returns-then-is_none

@@ -1,10 +1,10 @@
 -- The header is there, and the octets behind it have as many bits as it takes away.
-use Rattle.std.proofs.Common.{◌≡◌, ℕ, zero, suc, ◌+◌, ◌-◌, ◌*◌, ◌<◌, ◌≤◌, ◌^◌, nat_le, Bool, true, false, ◌&&◌, List, length, take, drop, min, refl, sym, ap, ap₂, subst, ◌∙◌, arith, length-take}
+use Rattle.std.proofs.Common.{◌≡◌, ℕ, zero, suc, ◌+◌, ◌-◌, ◌*◌, ◌<◌, ◌≤◌, ◌^◌, nat_le, Bool, ◌&&◌, List, length, take, drop, min, ap, ◌∙◌, arith, length-take}
 use Rattle.std.proofs.lemmas.Bool.Decides.{nat_tests}
 use Rattle.std.proofs.lemmas.List.{drop-take, take-take}
 use Rattle.pel_bits.specs.Bits.{bits, number}
 use Rattle.pel_bits.proofs.Fields.{number_below}
-use Rattle.rtp_h261.specs.Packets.{sbit, ebit, is_usable}
+use Rattle.rtp_h261.specs.Packets.{sbit, ebit}
 use Rattle.bridge_replay.proofs.idle.is_usable.Goals as goal
 
 -- three bits spell less than 8

@@ -1,5 +1,5 @@
 -- What is read of the octets says what they bring.
-use Rattle.std.proofs.Common.{Bool, ℕ, Result, Option, option_map, None, Some, if◌then◌else◌, refl, sym, ap, ◌∙◌}
+use Rattle.std.proofs.Common.{Bool, ℕ, Result, Option, option_map, None, Some, if◌then◌else◌, sym, ap, ◌∙◌}
 use Rattle.rtp_wire.specs.Rtp.{Fields, seen}
 use Rattle.rtp_wire.specs.declared.header.PacketFault.{PacketFault}
 use Rattle.rtp_h261.specs.Packets.{piece_of, piece_of_read, piece_of_fields}

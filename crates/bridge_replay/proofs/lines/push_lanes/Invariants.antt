@@ -1,4 +1,4 @@
-use Rattle.std.proofs.Common.{◌≡◌, ℕ, ◌+◌, ◌*◌, ◌-◌, ◌≤◌, ◌++◌}
+use Rattle.std.proofs.Common.{◌≡◌, ◌+◌, ◌*◌, ◌-◌, ◌≤◌, ◌++◌}
 use Rattle.arrayvec.specs.ArrayString.{array_string_len}
 use Rattle.bridge_replay.specs.Lines.{waited_below}
 use Rattle.bridge_replay.proofs.lines.push_lanes.Given as goal

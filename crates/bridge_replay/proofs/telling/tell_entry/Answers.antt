@@ -1,4 +1,4 @@
-use Rattle.std.proofs.Common.{◌≡◌, ◌+◌, ◌<◌, ℕ, List, Option, Result, Ok, Err, length, take, sym, subst, ◌∙◌}
+use Rattle.std.proofs.Common.{◌≡◌, ◌+◌, ◌<◌, ℕ, List, Result, Ok, Err, length, take, sym, subst, ◌∙◌}
 use Rattle.std.specs.Io.KnownBytes.{Appends}
 use Rattle.bridge_replay.specs.declared.ends.ReplayStop.{ReplayStop}
 use Rattle.bridge_replay.specs.Recounting.{ToldSoFar}
