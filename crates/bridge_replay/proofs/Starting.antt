@@ -13,7 +13,7 @@ use Rattle.conf_file.specs.declared.answers.EntryEnd.{EntryEnd}
 use Rattle.conf_file.specs.declared.answers.EntryEnd.TheVariants.{Bad, Cut, Fault, Limit}
 use Rattle.conf_file.specs.Header.{header_of, header_size, IsNoHeader}
 use Rattle.conf_file.specs.Reading.{ReaderState, CallsStart}
-use Rattle.io_edge.specs.Allowance.{unused}
+use Rattle.io_edge.specs.Allowance.{AllowanceState, unused}
 use Rattle.io_edge.specs.Outside.{Input, Output, Outside, outside}
 
 -- there was no memory to begin with

@@ -8,7 +8,7 @@ use Rattle.bridge_replay.specs.declared.ends.ReplayStop.{ReplayStop}
 use Rattle.bridge_replay.specs.declared.ends.ReplayStop.TheVariants as stop
 use Rattle.bridge_replay.specs.FileHistory.{oldest_first, IsHistory}
 use Rattle.bridge_replay.specs.ReadsFile.{replay_stop, HasReadSoFar, StandsAt}
-use Rattle.bridge_replay.specs.Replays.{StoppedFor, WroteTicks, Replays}
+use Rattle.bridge_replay.specs.Replays.{EndsAtFault, StoppedFor, WroteTicks, Replays}
 use Rattle.bridge_replay.specs.UnderWay.{Progress, UnderWay, IsOpen, StaysOpen, with_entry, Entered, Broke, EntryFits, MayEnter}
 use Rattle.bridge_replay.proofs.Calls.{says}
 use Rattle.cif_pack.specs.declared.packer.Settings.{Settings}

@@ -1,27 +1,28 @@
 -- A tick: what its places took, and what is written of it.
-use Rattle.std.proofs.Common.{◌≡◌, ℕ, ◌^◌, ◌<◌, ◌≤◌, false, ◌∷◌, Result, Ok, Err, refl, sym, ap, ap₂, subst, ◌∙◌, arith}
+use Rattle.std.proofs.Common.{◌≡◌, ℕ, ◌+◌, ◌^◌, ◌<◌, ◌≤◌, false, List, [], ◌∷◌, ◌++◌, Option, Result, Ok, Err, refl, sym, ap, ap₂, subst, ◌∙◌, arith}
 use Rattle.std.specs.Prelude.{IsErr}
 use Rattle.bridge_replay.specs.declared.conference.Conference.{Conference}
 use Rattle.bridge_replay.specs.FileHistory.{IsHistory}
-use Rattle.bridge_replay.specs.UnderWay.{FollowsHistory, PlacesTake, Progress, UnderWay, Entered, Broke, ComesAt, IsOpen, AreFed}
+use Rattle.bridge_replay.specs.UnderWay.{CountsSteps, FollowsHistory, IsSameBeside, PlacesTake, Progress, UnderWay, Entered, Broke, ComesAt, IsOpen, AreFed}
 use Rattle.cif_mix.specs.Shows.{IsComposed}
 use Rattle.cif_mix.specs.Taken.{Took}
 use Rattle.cif_pack.specs.declared.packer.Sent.{Sent}
 use Rattle.cif_pack.specs.declared.tally.Tally.{Tally}
 use Rattle.cif_pack.specs.PicturesWritten.{picture_at, pictures_written}
-use Rattle.cif_pack.specs.State.{PackerState, SendsPicture, HasSent, HasSentNext}
+use Rattle.cif_pack.specs.State.{PackerState, AreFew, SendsPicture, HasSent, HasSentNext}
 use Rattle.cif_pack.specs.Tallies.{steps_counted, sent_of, with_sent}
 use Rattle.cif_pack.proofs.ListLaws.{one-more-is-sent}
 use Rattle.cif_pack.proofs.Totals.{totals-are-small}
 use Rattle.conf_file.specs.Entries.{Content, Tick as TickEntry}
 use Rattle.h261_pic.specs.Coded.{Coding, coding}
 use Rattle.h261_pic.specs.Hand.{HasTaken}
-use Rattle.hall_core.specs.Stands.{TakesLaw}
+use Rattle.hall_core.specs.Hall.{HallView, lanes_of}
+use Rattle.hall_core.specs.Stands.{StandsFor, TakesInto, IsQcifHand, TakesLaw}
 use Rattle.io_edge.specs.declared.edges.Failed.{Failed}
 use Rattle.io_edge.specs.Outside.{Output}
 use Rattle.pel_model.specs.declared.Format.TheVariants.{Cif}
 use Rattle.pel_model.specs.declared.note.TickNote.{TickNote}
-use Rattle.pel_model.specs.History.{Tick}
+use Rattle.pel_model.specs.History.{History, Tick, has_ended, total_of}
 use Rattle.pel_model.specs.Written.{written_picture}
 
 -- where a conference stands somewhere, and its places took their pictures

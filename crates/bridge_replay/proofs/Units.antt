@@ -16,7 +16,8 @@ use Rattle.hall_core.specs.Hall.{HallView, lanes_of}
 use Rattle.hall_core.specs.Stands.{StandsFor, IsQcifHand}
 use Rattle.io_edge.specs.Outside.{Output}
 use Rattle.pel_model.specs.declared.Fault.{Fault}
-use Rattle.pel_model.specs.declared.Format.TheVariants.{Qcif}
+use Rattle.pel_model.specs.declared.Format.{Format}
+use Rattle.pel_model.specs.declared.Format.TheVariants.{Qcif, Cif}
 use Rattle.pel_model.specs.Accepts.{Accepts}
 use Rattle.pel_model.specs.History.{History, Step, Post, Gap, has_ended}
 use Rattle.pel_model.specs.Legal.{IsPostable}

@@ -19,7 +19,7 @@ use Rattle.conf_file.specs.File.{Whole, WrongAt, CutAt, Conference, WrongHeader,
 use Rattle.conf_file.specs.Header.{header_of, header_size, HasLanes}
 use Rattle.conf_file.specs.Reading.{behind_fault, MayFailBehind}
 use Rattle.io_edge.specs.Causes.{Rose}
-use Rattle.io_edge.specs.Outside.{Input, Outside, NoReadFails, NoWriteFails}
+use Rattle.io_edge.specs.Outside.{Input, Output, Outside, NoReadFails, NoWriteFails}
 use Rattle.pel_model.specs.declared.note.TickNote.{TickNote}
 use Rattle.pel_model.specs.Headline.{Headline}
 use Rattle.pel_model.specs.History.{History, Tick}

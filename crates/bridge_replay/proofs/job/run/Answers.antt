@@ -1,4 +1,4 @@
-use Rattle.std.proofs.Common.{inr}
+use Rattle.std.proofs.Common.{inr, refl, ap, subst}
 use Rattle.bridge_replay.specs.UnderWay.{beginning}
 use Rattle.io_edge.specs.Outside.{outside}
 use Rattle.bridge_replay.proofs.Starting.{begins-so}

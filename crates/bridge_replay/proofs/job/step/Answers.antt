@@ -1,4 +1,4 @@
-use Rattle.std.proofs.Common.{Result, Ok, Err, sym, subst}
+use Rattle.std.proofs.Common.{ℕ, Result, Ok, Err, refl, sym, subst}
 use Rattle.bridge_replay.specs.declared.ends.ReplayStop.{ReplayStop}
 use Rattle.bridge_replay.specs.Replays.{Replays}
 use Rattle.bridge_replay.specs.UnderWay.{with_entry}

@@ -1,5 +1,10 @@
-use Rattle.std.proofs.Common.{arith}
+use Rattle.std.proofs.Common.{◌∷◌, arith, refl, ap}
+use Rattle.bridge_replay.specs.UnderWay.{FollowsHistory, IsSameBeside}
 use Rattle.bridge_replay.proofs.Counting.{few-steps}
+use Rattle.bridge_replay.proofs.Units.{step-enters}
+use Rattle.conf_file.specs.Entries.{Chair}
+use Rattle.pel_model.specs.declared.chair.Reply.{Reply}
+use Rattle.pel_model.specs.History.{Order}
 use Rattle.bridge_replay.proofs.conference.Conference.order.Goals as goal
 
 pub overflow_add-self : goal.overflow_add-self

@@ -1,7 +1,7 @@
-use Rattle.std.proofs.Common.{ℕ, refl}
+use Rattle.std.proofs.Common.{◌≡◌, ℕ, refl, ap, arith}
 use Rattle.bridge_replay.specs.declared.conference.Conference.{Conference}
 use Rattle.bridge_replay.specs.UnderWay.{MayEnter, PlacesTake}
-use Rattle.bridge_replay.proofs.Ticks.{Ticking, took-so, total-so, usable-so, composed-so, ticked, broken, broke-of}
+use Rattle.bridge_replay.proofs.Ticks.{Ticking, took-so, total-so, usable-so, composed-so, packets-so, octets-so, ticked, broken, broke-of}
 use Rattle.conf_file.specs.Entries.{Tick as TickEntry}
 use Rattle.pel_model.specs.declared.note.TickNote.{TickNote}
 use Rattle.bridge_replay.proofs.conference.Conference.tick.Goals as goal
