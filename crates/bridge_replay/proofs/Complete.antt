@@ -1,12 +1,14 @@
 -- A run over a valid file whose source and sink do not fail is done, or wants memory.
-use Rattle.std.proofs.Common.{◌≡◌, ◌⊎◌, ⊎_elim, ℕ, ◌≤◌, List, ◌++◌, Option, None, Some, length, take, drop, inl, inr, refl, sym, ap, subst, ◌∙◌, arith, append-nil, take-append-drop}
+use Rattle.std.proofs.Common.{◌≡◌, ◌≢◌, ◌⊎◌, ⊎_elim, ℕ, ◌≤◌, List, ◌++◌, Option, None, Some, length, take, drop, inl, inr, refl, sym, ap, subst, ◌∙◌, arith, append-nil, take-append-drop}
 use Rattle.std.proofs.Math.Seq.{take-append_seam}
 use Rattle.std.proofs.lemmas.List.{take-append-le}
 use Rattle.std.specs.Io.KnownBytes.{Consumes, IsAtEnd}
 use Rattle.bridge_replay.specs.declared.ends.ReplayEnd.{ReplayEnd}
 use Rattle.bridge_replay.specs.declared.ends.ReplayStop.{ReplayStop}
 use Rattle.bridge_replay.specs.declared.ends.ReplayStop.TheVariants.{Done, ReadFault, WriteFault, Cut, BadRecord, Limit, NoMemory}
-use Rattle.bridge_replay.specs.Replays.{StoppedFor, WroteTicks, Replays, StoppedEarly, NoneRead, ReplayEnds, DoneOnWholeFile}
+use Rattle.bridge_replay.specs.Replays.{StoppedFor, WroteTicks, Replays, StoppedEarly, NoneRead, ReplayEnds, DoneWhereWhole, DoneOnWholeFile}
+use Rattle.bridge_replay.specs.declared.telling.HistoryEnd.{HistoryEnd}
+use Rattle.bridge_replay.specs.Telling.{StopsTelling, WroteLines, Tells, TellsNothing, HistoryEnds}
 use Rattle.io_edge.specs.Outside.{Outside}
 use Rattle.bridge_replay.specs.FileHistory.{oldest_first}
 use Rattle.cif_pack.specs.declared.packer.Settings.{Settings}
@@ -14,7 +16,6 @@ use Rattle.conf_file.specs.declared.answers.EntryWhy.{EntryWhy}
 use Rattle.conf_file.specs.Entries.{Content}
 use Rattle.conf_file.specs.File.{Said, Whole, WrongAt, CutAt, Conference, WrongHeader, CutHeader, IsFile, IsDecided, LawOfOneReading, LawOfFileFronts}
 use Rattle.io_edge.specs.Causes.{Rose}
-use Rattle.pel_model.specs.History.{History}
 
 -- of what was told, these octets were taken, and the others are left
 left-of : (file octets : List ℕ) (left : Option (List ℕ)) → Consumes (Some file) left octets → (rest : List ℕ) × (left ≡ Some rest) × (file ≡ octets ++ rest)
@@ -75,19 +76,19 @@ module _ (one_reading : LawOfOneReading) (fronts_decide : LawOfFileFronts) (file
     consumed : (octets : List ℕ) → Consumes before.source.left after.source.left octets → Consumes (Some (file ++ more)) after.source.left octets
     consumed octets taken = subst (λ (l : Option (List ℕ)). Consumes l after.source.left octets) told taken
 
-    by-stop : (s : ReplayStop) (octets : List ℕ) (l : ℕ) (entries : List Content) (set : Settings) (history whole : History) → Consumes before.source.left after.source.left octets
-        → StoppedFor s budget before after octets l entries → WroteTicks s set before after l history whole → (s ≡ Done) ⊎ (s ≡ NoMemory)
-    by-stop Done octets l entries set history whole taken stopped wrote = inl refl
-    by-stop ReadFault octets l entries set history whole taken stopped wrote = absurd (no_read stopped.1)
-    by-stop WriteFault octets l entries set history whole taken stopped wrote = absurd (no_write wrote.2.failed)
-    by-stop (Cut place) octets l entries set history whole taken stopped wrote =
+    by-stop : (s : ReplayStop) (octets : List ℕ) (l : ℕ) (entries : List Content) → Consumes before.source.left after.source.left octets
+        → StoppedFor s budget before after octets l entries → (s ≢ WriteFault) → (s ≡ Done) ⊎ (s ≡ NoMemory)
+    by-stop Done octets l entries taken stopped fine = inl refl
+    by-stop ReadFault octets l entries taken stopped fine = absurd (no_read stopped.1)
+    by-stop WriteFault octets l entries taken stopped fine = absurd (fine refl)
+    by-stop (Cut place) octets l entries taken stopped fine =
         absurd (not-cut lanes l list (oldest_first entries) place (all-say octets after.source.left (Conference l (oldest_first entries) (CutAt place)) (consumed octets taken) stopped.1 stopped.0))
-    by-stop (BadRecord place why) octets l entries set history whole taken stopped wrote =
+    by-stop (BadRecord place why) octets l entries taken stopped fine =
         absurd (not-wrong lanes l list (oldest_first entries) place why (front-says octets after.source.left (Conference l (oldest_first entries) (WrongAt place why)) tt (consumed octets taken) stopped.0))
-    by-stop Limit octets l entries set history whole taken stopped wrote =
+    by-stop Limit octets l entries taken stopped fine =
         absurd (not-cut lanes l list (oldest_first entries) budget
         (long-says octets after.source.left (Conference l (oldest_first entries) (CutAt budget)) (omega (arith, short, stopped.1)) (consumed octets taken) stopped.0))
-    by-stop NoMemory octets l entries set history whole taken stopped wrote = inr refl
+    by-stop NoMemory octets l entries taken stopped fine = inr refl
 
     by-early : (s : ReplayStop) (octets : List ℕ) → Consumes before.source.left after.source.left octets → StoppedEarly s budget before after octets → (s ≡ Done) ⊎ (s ≡ NoMemory)
     by-early Done octets taken stopped = inl refl
@@ -105,4 +106,28 @@ pub complete : LawOfOneReading → LawOfFileFronts → (set : Settings) (budget 
 complete one fronts set budget before after end ends file more lanes list told is short no_read no_write =
     ⊎_elim (λ (n : NoneRead budget before after end). by-early one fronts file more lanes list is budget before after told short no_read no_write end.stop n.octets n.taken n.stopped)
     (λ (r : Replays set budget before after end).
-    by-stop one fronts file more lanes list is budget before after told short no_read no_write end.stop r.octets r.lanes r.entries set r.history r.whole r.taken r.stopped r.output) ends
+    by-stop one fronts file more lanes list is budget before after told short no_read no_write end.stop r.octets r.lanes r.entries r.taken r.stopped
+    (λ (failed : end.stop ≡ WriteFault). no_write (subst (λ (s : ReplayStop). WroteTicks s set before after r.lanes r.history r.whole) failed r.output).2.failed)) ends
+
+-- the same of a telling
+pub complete-telling : LawOfOneReading → LawOfFileFronts → (budget : ℕ) (before after : Outside) (end : HistoryEnd)
+    → HistoryEnds budget before after end → DoneWhereWhole budget before after end.stop
+complete-telling one fronts budget before after end ends file more lanes list told is short no_read no_write =
+    ⊎_elim (λ (n : TellsNothing budget before after end). by-early one fronts file more lanes list is budget before after told short no_read no_write end.stop n.octets n.taken n.stopped)
+    (λ (r : Tells budget before after end). by-telling end.stop r.octets r.lanes r.entries r.taken r.stopped
+    (λ (failed : end.stop ≡ WriteFault). no_write (subst (λ (s : ReplayStop). WroteLines s before.sink after.sink r.lines r.whole) failed r.output).5)) ends
+  where
+    as-replay : (s : ReplayStop) (octets : List ℕ) (l : ℕ) (entries : List Content) → StopsTelling s budget before after octets l entries → s ≢ WriteFault
+        → StoppedFor s budget before after octets l entries
+    as-replay Done octets l entries stopped fine = stopped
+    as-replay ReadFault octets l entries stopped fine = stopped
+    as-replay WriteFault octets l entries stopped fine = absurd (fine refl)
+    as-replay (Cut place) octets l entries stopped fine = stopped
+    as-replay (BadRecord place why) octets l entries stopped fine = stopped
+    as-replay Limit octets l entries stopped fine = stopped
+    as-replay NoMemory octets l entries stopped fine = stopped
+
+    by-telling : (s : ReplayStop) (octets : List ℕ) (l : ℕ) (entries : List Content) → Consumes before.source.left after.source.left octets
+        → StopsTelling s budget before after octets l entries → s ≢ WriteFault → (s ≡ Done) ⊎ (s ≡ NoMemory)
+    by-telling s octets l entries taken stopped fine =
+        by-stop one fronts file more lanes list is budget before after told short no_read no_write s octets l entries taken (as-replay s octets l entries stopped fine) fine

@@ -155,7 +155,7 @@ not-end : (note : TickNote) (history before : History) → Tick note ∷ history
 not-end note history before e = cc
 
 -- the same of a count that stood as another
-failed-behind : (why : EntryWhy) (first before after : Input) → before.faults ≡ first.faults → MayFailBehind why before after → MayFailBehind why first after
+pub failed-behind : (why : EntryWhy) (first before after : Input) → before.faults ≡ first.faults → MayFailBehind why before after → MayFailBehind why first after
 failed-behind Header first before after is m = m ∙ is
 failed-behind Kind first before after is m = m ∙ is
 failed-behind Lane first before after is m = m

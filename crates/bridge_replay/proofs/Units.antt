@@ -118,12 +118,12 @@ still-follows lanes history c d hall tally follows = record {
 
 -- ---- depacketisers
 
-get-set_same : {X : Type 0} (xs : List X) (i : ℕ) (x : X) → i < length xs → slice_get (slice_set xs i x) i ≡ Some x
+pub get-set_same : {X : Type 0} (xs : List X) (i : ℕ) (x : X) → i < length xs → slice_get (slice_set xs i x) i ≡ Some x
 get-set_same [] i x below = absurd (omega (arith, below))
 get-set_same (y ∷ ys) zero x below = refl
 get-set_same (y ∷ ys) (suc i) x below = get-set_same ys i x (omega (arith, below))
 
-get-set_other : {X : Type 0} (xs : List X) (i j : ℕ) (x : X) → i ≢ j → slice_get (slice_set xs i x) j ≡ slice_get xs j
+pub get-set_other : {X : Type 0} (xs : List X) (i j : ℕ) (x : X) → i ≢ j → slice_get (slice_set xs i x) j ≡ slice_get xs j
 get-set_other [] i j x apart = refl
 get-set_other (y ∷ ys) zero zero x apart = absurd (apart refl)
 get-set_other (y ∷ ys) zero (suc j) x apart = refl

@@ -22,7 +22,7 @@ takes-none Two = refl
 takes-none Three = refl
 takes-none Four = refl
 
-is-note : IsNote 1 [] note
+pub is-note : IsNote 1 [] note
 is-note = record { low = omega arith; high = omega arith; total = refl; takes = takes-none; waits = refl }
 
 goes-on : TickEntry 1 ≡ EndEntry → ⊥

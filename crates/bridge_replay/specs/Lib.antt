@@ -1,6 +1,10 @@
+pub mod Account
 pub mod FileHistory
+pub mod Lines
 pub mod ReadingBack
 pub mod ReadsFile
+pub mod Recounting
 pub mod Replays
+pub mod Telling
 pub mod UnderWay
 pub mod Worked

@@ -143,12 +143,15 @@ ReplayEnds set budget before after end = NoneRead budget before after end ⊎ Re
 
 -- Where the source tells a file that goes up to its end entry within the budget, and neither the source nor the sink fails,
 -- the run is done, or wants memory.
-abbrev pub DoneOnWholeFile : (budget : ℕ) → (before after : Outside) → ReplayEnd → Type 0
-DoneOnWholeFile budget before after end =
+abbrev pub DoneWhereWhole : (budget : ℕ) → (before after : Outside) → ReplayStop → Type 0
+DoneWhereWhole budget before after stop =
     (file more : List ℕ) (lanes : ℕ) (list : List Content) → before.source.left ≡ Some (file ++ more)
     → IsFile file (Conference lanes list Whole) → length file ≤ budget
     → (Rose before.source.faults after.source.faults → ⊥) → (Rose before.sink.faults after.sink.faults → ⊥)
-    → (end.stop ≡ Done) ⊎ (end.stop ≡ NoMemory)
+    → (stop ≡ Done) ⊎ (stop ≡ NoMemory)
+
+abbrev pub DoneOnWholeFile : (budget : ℕ) → (before after : Outside) → ReplayEnd → Type 0
+DoneOnWholeFile budget before after end = DoneWhereWhole budget before after end.stop
 
 -- ---- what is written reads back
 

@@ -26,7 +26,7 @@ use rtp_h261::{Depack, Unit};
 use std::alloc::Global;
 
 /// The most steps of a conference.
-const MOST_STEPS: u64 = 0x200_0000_0000;
+pub const MOST_STEPS: u64 = 0x200_0000_0000;
 
 /// What a conference has: its hall, a depacketiser for each lane, the pictures that a tick took, the picture composed of
 /// them, its packer, and the tally.
@@ -210,8 +210,8 @@ impl Conference {
     }
 }
 
-// A depacketiser for each lane.
-fn empty_depacks(alloc: Global, lanes: u8) -> Result<Vec<Depack>, NoMemory>
+/// A depacketiser for each lane.
+pub fn empty_depacks(alloc: Global, lanes: u8) -> Result<Vec<Depack>, NoMemory>
     ensures { IfOk result (λ depacks. AreFed lanes [] depacks.items) }
 {
     let mut depacks = Vec::new(alloc);

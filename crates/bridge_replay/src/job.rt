@@ -84,7 +84,7 @@ fn stopped_early(stop: ReplayStop) -> ReplayEnd
 }
 
 /// Why a replay stops where its reader ended so.
-fn replay_stop(end: EntryEnd) -> ReplayStop
+pub fn replay_stop(end: EntryEnd) -> ReplayStop
     ensures { result ≡ replay_stop end }
 {
     match end {

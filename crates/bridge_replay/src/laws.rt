@@ -1,4 +1,5 @@
 //! Laws of replays: functions whose contracts are the laws, and which compute nothing.
+ghost use Rattle.bridge_replay.specs.Account.{LawOfOneAccount};
 ghost use Rattle.bridge_replay.specs.FileHistory.{LawOfOneHistory};
 ghost use Rattle.bridge_replay.specs.ReadingBack.{PacketsAreSent, PacketsGiveTexts, EachPacketGives, OctetsGivePictures, TextIsItsPicture};
 ghost use Rattle.bridge_replay.specs.Worked.{OneEmptyTick};
@@ -8,6 +9,11 @@ use rtp_wire::{one_stream, written_headers_are_read};
 /// Entries have one history at most, so that what is written for a file depends on the file alone.
 pub fn one_history()
     ensures { LawOfOneHistory }
+{}
+
+/// One list of lines at most is told of entries, so that what is told of a file depends on the file alone.
+pub fn one_account()
+    ensures { LawOfOneAccount }
 {}
 
 /// A conference of one lane and one tick of one step: what its file says, its history, the 61 octets that are written for it,

@@ -11,7 +11,7 @@ use std::test::Fail;
 
 /// A QCIF picture with TR 1 and quantiser 8.
 #[derive(Clone, Copy)]
-enum Sample {
+pub enum Sample {
     /// All macroblocks are Intra, of INTRADC 255: 6,545 bits.
     Grey,
     /// One macroblock, which is not Intra: 120 bits.
@@ -104,13 +104,13 @@ fn packed(alloc: Global, before: u32, bits: &[u8]) -> Result<Vec<u8>, AllocError
 
 /// The octets of a conference file.
 #[derive(Drop)]
-struct File {
+pub struct File {
     alloc: Global,
-    octets: Vec<u8>,
+    pub octets: Vec<u8>,
 }
 
 impl File {
-    fn new(alloc: Global, lanes: u8) -> Result<File, AllocError> {
+    pub fn new(alloc: Global, lanes: u8) -> Result<File, AllocError> {
         let mut octets = Vec::new(alloc);
         octets.extend_from_slice(b"H261CONF\x01")?;
         octets.push(lanes)?;
@@ -118,7 +118,7 @@ impl File {
     }
 
     // A packet of a lane with these bits, of which the first stands behind `before` others in its octet.
-    fn part(
+    pub fn part(
         &mut self,
         lane: u8,
         number: u16,
@@ -141,23 +141,23 @@ impl File {
     }
 
     // A picture of a lane in one packet.
-    fn picture(&mut self, lane: u8, number: u16, sample: Sample) -> Result<(), AllocError> {
+    pub fn picture(&mut self, lane: u8, number: u16, sample: Sample) -> Result<(), AllocError> {
         let bits = picture(self.alloc, sample)?;
         self.part(lane, number, true, 0, &bits)
     }
 
     // A command of the chair.
-    fn order(&mut self, line: &[u8]) -> Result<(), AllocError> {
+    pub fn order(&mut self, line: &[u8]) -> Result<(), AllocError> {
         self.octets.push(b'C')?;
         self.octets.push(line.len().min(255) as u8)?;
         self.octets.extend_from_slice(line)
     }
 
-    fn tick(&mut self, step: u8) -> Result<(), AllocError> {
+    pub fn tick(&mut self, step: u8) -> Result<(), AllocError> {
         self.octets.extend_from_slice(&[b'T', step])
     }
 
-    fn end(&mut self) -> Result<(), AllocError> {
+    pub fn end(&mut self) -> Result<(), AllocError> {
         self.octets.push(b'E')?;
         Ok(())
     }
