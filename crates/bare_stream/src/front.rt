@@ -1,11 +1,12 @@
 //! What stands at the front of bits: a picture up to the start code of the next one, one picture that is all of them, or a
 //! first fault.
-ghost use Rattle.std.specs.Prelude.{◌≡◌, ℕ, ◌+◌, ◌-◌, ◌<◌, ◌≤◌, ◌⊎◌, List, Bool, length, take, drop, IfSome, MatchOption, true, IsTrue};
+ghost use Rattle.std.specs.Prelude.{◌≡◌, ℕ, ◌+◌, ◌-◌, ◌^◌, ◌<◌, ◌≤◌, ◌⊎◌, List, Bool, length, take, drop, MatchOption};
 ghost use Rattle.bare_stream.specs.Front.{IsFront};
 ghost use Rattle.bare_stream.specs.Streams.{EndsAtStart, StartsAt};
 ghost use Rattle.bare_stream.specs.Tries.{IsTried, LastsBefore};
 ghost use Rattle.h261_pic.specs.Coded.{nothing, HoldsAccepted, IsFinished};
 ghost use Rattle.pel_model.specs.Codes.{picture_start_code, is_prefix};
+ghost use Rattle.pel_model.specs.Valid.{limit};
 
 use h261_pic::{Coded, parse};
 use pel_bits::Bits;
@@ -62,6 +63,7 @@ pub fn read_front(bits: Bits<'_>, format: Format, into: &mut Coded) -> Front
 // Up to seven zero bits may stand before it.
 fn picture_before(bits: &Bits<'_>, format: Format, fault: u32, into: &mut Coded) -> Option<u32>
     requires into { into.old ≡ nothing format }
+    requires small { fault ≤ limit format }
     ensures { MatchOption result ((into.new ≡ nothing format) × ((e : ℕ) → IsTried fault e → EndsAtStart format bits.now e → ⊥))
         (λ e. EndsAtStart format bits.now e × HoldsAccepted format (take e bits.now) into.new × IsFinished into.new
         × ((other : ℕ) → IsTried fault other → EndsAtStart format bits.now other → e ≤ other)) }
@@ -80,7 +82,6 @@ fn picture_before(bits: &Bits<'_>, format: Format, fault: u32, into: &mut Coded)
 // Whether a picture ends at bit `e` and another begins there. The picture is then in `into`, which else is empty.
 fn picture_ends(bits: &Bits<'_>, format: Format, e: u32, into: &mut Coded) -> bool
     requires into { into.old ≡ nothing format }
-    requires small { e < 2 ^ 32 - 32 }
     ensures { LastsBefore format bits.now e result into.new }
 {
     e > 0 && starts_at(bits, e) && parse(bits.slice(0, e), format, into).is_ok()
