@@ -1,7 +1,7 @@
 -- Where a picture ends and the start code of another follows, the bits have their first fault near that place.
-use Rattle.std.proofs.Common.{◌≡◌, ◌⊎◌, ℕ, zero, suc, ◌+◌, ◌-◌, ◌*◌, ◌<◌, ◌≤◌, ◌&&◌, not, Bool, true, false, cond, List, [], ◌∷◌, ◌++◌, length, take, drop, replicate, Option, Some, None, nat_lt, refl, sym, ◌∙◌, ap, subst, inl, inr, append_assoc, append-nil, arith}
+use Rattle.std.proofs.Common.{◌≡◌, ◌⊎◌, ℕ, zero, suc, ◌+◌, ◌-◌, ◌*◌, ◌<◌, ◌≤◌, ◌&&◌, not, Bool, true, false, cond, List, [], ◌∷◌, ◌++◌, length, take, drop, replicate, Option, Some, None, nat_lt, refl, sym, ◌∙◌, ap, subst, inl, inr, append_assoc, append-nil, ap₂, ◌==◌, eqb-true, arith}
 use Rattle.std.specs.List.{list_any}
-use Rattle.std.proofs.lemmas.Bool.{ltb-true, ltb-false, cases_Bool, and_parts, not-true, le-ltb}
+use Rattle.std.proofs.lemmas.Bool.{ltb-true, ltb-false, cases_Bool, and_parts, not-true, le-ltb, false≢true}
 use Rattle.std.proofs.lemmas.List.{length-append, length-replicate, length-take-le, length-drop, take-append-drop, drop-append-le}
 use Rattle.bare_stream.specs.Streams.{StartsAt, EndsAtStart}
 use Rattle.bare_stream.specs.Tries.{IsTried}
@@ -10,7 +10,9 @@ use Rattle.pel_model.specs.declared.Format.TheVariants.{Qcif, Cif}
 use Rattle.pel_model.specs.declared.Why.{Why}
 use Rattle.pel_model.specs.declared.Why.TheVariants.{NoCode, BadGroup, TooLong, Cut}
 use Rattle.pel_model.specs.Accepts.{Accepts}
-use Rattle.pel_model.specs.Bits.{number}
+use Rattle.pel_bits.specs.Bits.{number, field}
+use Rattle.pel_model.specs.Bits.{number as number_spelled}
+use Rattle.pel_bits.proofs.Fields.{field-number}
 use Rattle.pel_model.specs.Codes.{is_prefix, picture_start_code, group_start_code, mba_table}
 use Rattle.pel_model.specs.Valid.{limit}
 use Rattle.pel_model.specs.Walk.{Standing, Good, Stop, Bad, skipped, start, after, Goes, FirstFault, read, judged, verdict}
@@ -22,6 +24,7 @@ use Rattle.picture_laws.proofs.Slots.{Takes}
 use Rattle.picture_laws.proofs.Pictures.{accepted-read}
 use Rattle.picture_laws.proofs.ReadPictures.{stopped}
 use Rattle.vlc_codes.proofs.FoundRows.{is_prefix-front}
+use Rattle.vlc_codes.proofs.WordLaws.{is_prefix-cut, is_prefix_longer}
 
 -- ---- longer bits
 
@@ -140,7 +143,7 @@ group-read format before place tail may = elim (ending (slot before) may) [
 
 -- and behind it no group has the number 0
 zero-read : (tail : List Bool) → read (rows AtGn) (false ∷ false ∷ false ∷ false ∷ tail) ≡ Good (Gn 0) 4
-unfolding rows number
+unfolding rows number_spelled
 zero-read tail =
     ap (λ (b : Bool). cond b (Bad Cut) (Good (Gn 0) 4)) (le-ltb (length (false ∷ false ∷ false ∷ false ∷ tail)) 4 (omega arith))
 
@@ -278,3 +281,41 @@ fault-within format bits place why f =
     headers_fit : (format : Format) → counted format [] 0 ≤ limit format
     headers_fit Qcif = omega arith
     headers_fit Cif = omega arith
+
+-- ---- PSC by its number
+
+is-start : (xs : List Bool) → length xs ≡ 20 → number xs ≡ 16 → xs ≡ picture_start_code
+unfolding field
+is-start xs long h = sym (field-number xs) ∙ ap₂ (λ (n : ℕ) (w : ℕ). field n w) h long
+
+start-number : number picture_start_code ≡ 16
+unfolding number
+start-number = refl
+
+prefix-of : (xs : List Bool) → 20 ≤ length xs → is_prefix picture_start_code xs ≡ is_prefix picture_start_code (take 20 xs)
+prefix-of xs long = sym (ap (λ (t : List Bool). is_prefix picture_start_code (take 20 t)) (sym (append-nil xs)) ∙ is_prefix-cut picture_start_code xs [] 20 (omega arith) (omega (arith, long)))
+
+starts-of : (xs : List Bool) → length xs ≡ 20 → (number xs == 16) ≡ is_prefix picture_start_code xs
+starts-of xs long = elim (cases_Bool (is_prefix picture_start_code xs)) [
+  | inl yes_ ↦
+      let split = is_prefix-front picture_start_code xs yes_ in
+      let nothing_more : drop 20 xs ≡ [] = no_more (drop 20 xs) (omega (arith, length-drop 20 xs, long)) in
+      let is : xs ≡ picture_start_code = split ∙ ap (λ (t : List Bool). picture_start_code ++ t) nothing_more ∙ append-nil picture_start_code in
+      ap (λ (t : List Bool). number t == 16) is ∙ ap (λ (n : ℕ). n == 16) start-number ∙ sym yes_
+  | inr no_ ↦ elim (cases_Bool (number xs == 16)) [
+    | inl is ↦ absurd (false≢true (sym no_ ∙ ap (is_prefix picture_start_code) (is-start xs long (eqb-true (number xs) 16 is)) ∙ refl))
+    | inr not_ ↦ not_ ∙ sym no_
+  ]
+]
+  where
+    no_more : (ys : List Bool) → length ys ≡ 0 → ys ≡ []
+    no_more [] h = refl
+    no_more (y ∷ ys) h = absurd (omega (arith, h))
+
+pub start-is : (bits : List Bool) (e n : ℕ) → e + 20 ≤ length bits → n ≡ number (take 20 (drop e bits)) → (n == 16) ≡ is_prefix picture_start_code (drop e bits)
+start-is bits e n inside is =
+    let long : 20 ≤ length (drop e bits) = omega (arith, inside, length-drop e bits) in
+    ap (λ (k : ℕ). k == 16) is ∙ starts-of (take 20 (drop e bits)) (length-take-le 20 (drop e bits) long) ∙ sym (prefix-of (drop e bits) long)
+
+pub no-start : (bits : List Bool) (e : ℕ) → length bits - e < 20 → false ≡ is_prefix picture_start_code (drop e bits)
+no-start bits e short = sym (is_prefix_longer picture_start_code (drop e bits) (omega (arith, short, length-drop e bits)))

@@ -84,12 +84,15 @@ fn picture_ends(bits: &Bits<'_>, format: Format, e: u32, into: &mut Coded) -> bo
     requires into { into.old ≡ nothing format }
     ensures { LastsBefore format bits.now e result into.new }
 {
-    e > 0 && starts_at(bits, e) && parse(bits.slice(0, e), format, into).is_ok()
+    if e == 0 || !starts_at(bits, e) {
+        return false;
+    }
+    parse(bits.slice(0, e), format, into).is_ok()
 }
 
 // Whether PSC begins at bit `e`.
 fn starts_at(bits: &Bits<'_>, e: u32) -> bool
     ensures { result ≡ is_prefix picture_start_code (drop e bits.now) }
 {
-    e <= bits.len() && bits.len() - e >= START_LENGTH && bits.number(e, START_LENGTH) == START_NUMBER
+    bits.len().saturating_sub(e) >= START_LENGTH && bits.number(e, START_LENGTH) == START_NUMBER
 }

@@ -1,5 +1,17 @@
 -- Bits and their first fault.
 use Rattle.std.proofs.Common.{◌≡◌, refl}
-use Rattle.bare_stream.proofs.Nexts.{walk-longer}
-use Rattle.bare_stream.proofs.PackedLemmas.{spelled-bits}
+use Rattle.bare_stream.proofs.Fronts.{near-fault, none-in-whole}
+use Rattle.bare_stream.proofs.Nexts.{fault-within}
 use Rattle.bare_stream.proofs.front.read_front.Goals as goal
+
+pub picture_before-requires-clause-small : goal.picture_before-requires-clause-small
+picture_before-requires-clause-small c = fault-within c.args.format c.args.bits c.in-Err.fault.place c.in-Err.fault.why ?
+
+pub returns-in-Ok-clause-front : goal.returns-in-Ok-clause-front
+returns-in-Ok-clause-front c = ?
+
+pub returns-in-Some-clause-front : goal.returns-in-Some-clause-front
+returns-in-Some-clause-front c = ?
+
+pub returns-in-None-clause-front : goal.returns-in-None-clause-front
+returns-in-None-clause-front c = ?
