@@ -10,9 +10,8 @@ use Rattle.pel_model.specs.Grammar.{next_within_limit}
 use Rattle.pel_model.specs.Records.{Picture}
 use Rattle.pel_model.specs.Accepts.{Accepts}
 use Rattle.pel_model.specs.Walk.{FirstFault}
-use Rattle.picture_laws.specs.Laws.{NeverBoth, OneFault}
-use Rattle.picture_laws.proofs.Answers.{never-both, one-fault}
-use Rattle.bare_stream.proofs.Nexts.{fault-near, FaultNear}
+use Rattle.picture_laws.specs.Laws.{NeverBoth}
+use Rattle.picture_laws.proofs.Answers.{never-both}
 
 pub ends-tried : (format : Format) (bits : List Bool) (e : ℕ) (result : Result Unit Fault) (into : Coding) → 0 < e → StartsAt e bits
     → IfOk result (λ _. HoldsAccepted format (take e bits) into) → IfOk result (λ _. IsFinished into)
@@ -23,13 +22,3 @@ ends-tried format bits e (Ok u) into above starts holds whole refused =
 ends-tried format bits e (Err f) into above starts holds whole refused =
     (λ place. never-both format (take e bits) place.picture f.place f.why place.accepted refused.0, refused.1)
 
--- a place at which a picture ends is one of those that are tried at the first fault
-pub near-fault : (format : Format) (bits : List Bool) (place : ℕ) (why : Why) (e : ℕ) → FirstFault (next_within_limit format) bits place why → EndsAtStart format bits e → IsTried place e
-near-fault format bits place why e fault here =
-    let near = fault-near format bits e here in
-    subst (λ (p : ℕ). IsTried p e) (one-fault format bits near.place place near.why why near.fault fault).0 near.near
-
--- accepted bits go on with no other picture
-pub none-in-whole : (format : Format) (bits : List Bool) (p : Picture) → Accepts format bits p → HasNoNext format bits
-none-in-whole format bits p accepted e here =
-    let near = fault-near format bits e here in never-both format bits p near.place near.why accepted near.fault

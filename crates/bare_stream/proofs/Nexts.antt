@@ -2,13 +2,13 @@
 use Rattle.std.proofs.Common.{◌≡◌, ◌⊎◌, ℕ, zero, suc, ◌+◌, ◌-◌, ◌*◌, ◌<◌, ◌≤◌, ◌&&◌, not, Bool, true, false, cond, List, [], ◌∷◌, ◌++◌, length, take, drop, replicate, Option, Some, None, nat_lt, refl, sym, ◌∙◌, ap, subst, inl, inr, append_assoc, append-nil, ap₂, ◌==◌, eqb-true, arith}
 use Rattle.std.specs.List.{list_any}
 use Rattle.std.proofs.lemmas.Bool.{ltb-true, ltb-false, cases_Bool, and_parts, not-true, le-ltb, false≢true}
-use Rattle.std.proofs.lemmas.List.{length-append, length-replicate, length-take-le, length-drop, take-append-drop, drop-append-le}
-use Rattle.bare_stream.specs.Streams.{StartsAt, EndsAtStart}
+use Rattle.std.proofs.lemmas.List.{length-append, length-replicate, length-take-le, length-drop, take-append-drop, drop-append-le, drop-drop}
+use Rattle.bare_stream.specs.Streams.{StartsAt, EndsAtStart, IsNext, HasNoNext}
 use Rattle.bare_stream.specs.Tries.{IsTried}
 use Rattle.pel_model.specs.declared.Format.{Format}
 use Rattle.pel_model.specs.declared.Format.TheVariants.{Qcif, Cif}
 use Rattle.pel_model.specs.declared.Why.{Why}
-use Rattle.pel_model.specs.declared.Why.TheVariants.{NoCode, BadGroup, TooLong, Cut}
+use Rattle.pel_model.specs.declared.Why.TheVariants.{NoStart, WrongFormat, StillImage, NoCode, BadGroup, BadQuant, TooLong, Cut, BadAddress, BadVector, VectorOutside, BadDc, BadLevel, TooMany}
 use Rattle.pel_model.specs.Accepts.{Accepts}
 use Rattle.pel_bits.specs.Bits.{number, field}
 use Rattle.pel_model.specs.Bits.{number as number_spelled}
@@ -17,7 +17,8 @@ use Rattle.pel_model.specs.Codes.{is_prefix, picture_start_code, group_start_cod
 use Rattle.pel_model.specs.Valid.{limit}
 use Rattle.pel_model.specs.Walk.{Standing, Good, Stop, Bad, skipped, start, after, Goes, FirstFault, read, judged, verdict}
 use Rattle.pel_model.specs.Grammar.{Element, Gbsc, Gn, Slot, AtPsc, AtTr, AtPtype, AtPei, AtPspare, AtGroup, AtGn, AtGquant, AtGei, AtGspare, AtMacroblock, AtMtype, AtMquant, AtMvd, AtCbp, AtDc, AtFirst, AtCoefficient, slot, rows, mba_rows, gbsc_row, faults, first_why, may_end, is_end, at_slot, next, next_within_limit, counted}
-use Rattle.h261_pic.proofs.Comings.{at-macroblock, at-group}
+use Rattle.pel_model.specs.Records.{Picture}
+use Rattle.picture_laws.proofs.Answers.{never-both, one-fault}
 use Rattle.picture_laws.proofs.Chains.{word_in, next-is, next-good}
 use Rattle.picture_laws.proofs.Limits.{picture-next, picture-good, picture-bad, picture-long, picture-stop, goes-within}
 use Rattle.picture_laws.proofs.Slots.{Takes}
@@ -60,6 +61,14 @@ walk-length format before r (e ∷ es) end h =
     omega (arith, walk-length format (e ∷ before) (skipped h.0 r) es end h.2, longer.1, length-drop h.0 r.0)
 
 -- ---- a start code behind a picture
+
+at-macroblock : (left : List Bool) → is_end left ≡ false → at_slot AtMacroblock left ≡ read (mba_rows ++ gbsc_row ∷ []) left
+unfolding rows
+at-macroblock left is = ap (λ (b : Bool). cond b Stop (read (mba_rows ++ gbsc_row ∷ []) left)) is
+
+at-group : (left : List Bool) → is_end left ≡ false → at_slot AtGroup left ≡ read (gbsc_row ∷ []) left
+unfolding rows
+at-group left is = ap (λ (b : Bool). cond b Stop (read (gbsc_row ∷ []) left)) is
 
 all_false : (bits : List Bool) → list_any (λ b. b) bits ≡ false → bits ≡ replicate (length bits) false
 all_false [] h = refl
@@ -160,23 +169,50 @@ group-refused format before place tail =
 
 -- ---- the first fault
 
--- bits have their first fault where a picture that ends at `e` was tried
+-- what stands behind the elements of a picture that ends at `e`, where PSC begins: zeros, and PSC
+pub record StartBehind (bits : List Bool) (e : ℕ) : Type 0 where
+  pub place : ℕ
+  pub zeros : ℕ
+  pub tail : List Bool
+  pub few : zeros < 8
+  pub sum : place + zeros ≡ e
+  pub left : drop place bits ≡ replicate zeros false ++ (picture_start_code ++ tail)
+
+-- why that is at fault, and where: the zeros are no word; or PSC is read as the start code of a group, which is too long, or
+-- which a number follows that no group has
+abbrev pub IsNearBy : (place : ℕ) → Why → (begin some : ℕ) → Type 0
+IsNearBy place NoCode begin some = (place ≡ begin) × (0 < some)
+IsNearBy place TooLong begin some = (place ≡ begin) × (some ≡ 0)
+IsNearBy place BadGroup begin some = (place ≡ begin + 16) × (some ≡ 0)
+IsNearBy place _ begin some = ⊥
+
+-- bits have their first fault near where a picture ends
 pub record FaultNear (format : Format) (bits : List Bool) (e : ℕ) : Type 0 where
+  pub behind : StartBehind bits e
   pub place : ℕ
   pub why : Why
   pub fault : FirstFault (next_within_limit format) bits place why
-  pub near : IsTried place e
+  pub near : IsNearBy place why behind.place behind.zeros
 
--- what is read of a picture, and the zeros behind it
+-- what is read of a picture, and what stands behind it
 record PictureBefore (format : Format) (bits : List Bool) (e : ℕ) : Type 0 where
+  behind : StartBehind bits e
   elements : List Element
-  place : ℕ
-  zeros : ℕ
-  tail : List Bool
-  few : zeros < 8
-  sum : place + zeros ≡ e
   may : may_end (slot (after [] elements)) ≡ true
-  walk : Goes (next_within_limit format) [] (start bits) elements (replicate zeros false ++ (picture_start_code ++ tail), place)
+  walk : Goes (next_within_limit format) [] (start bits) elements (replicate behind.zeros false ++ (picture_start_code ++ behind.tail), behind.place)
+
+-- what a walk leaves stands from its place on
+walk-left : (format : Format) (before : List Element) (r : List Bool × ℕ) (es : List Element) (end : List Bool × ℕ)
+    → Goes (next_within_limit format) before r es end → (k : ℕ) × (end.1 ≡ r.1 + k) × (end.0 ≡ drop k r.0)
+walk-left format before r [] end h = (0, omega (arith, ap (λ (x : List Bool × ℕ). x.1) h), ap (λ (x : List Bool × ℕ). x.0) h)
+walk-left format before r (e ∷ es) end h =
+    let t = walk-left format (e ∷ before) (skipped h.0 r) es end h.2 in
+    (h.0 + t.0, omega (arith, t.1), t.2 ∙ (drop-drop t.0 h.0 r.0))
+
+walk-behind : (format : Format) (bits : List Bool) (es : List Element) (end : List Bool × ℕ) → Goes (next_within_limit format) [] (start bits) es end → end.0 ≡ drop end.1 bits
+walk-behind format bits es end h =
+    let t = walk-left format [] (start bits) es end h in
+    t.2 ∙ ap (λ (k : ℕ). drop k bits) (omega (arith, t.1))
 
 picture-before : (format : Format) (bits : List Bool) (e : ℕ) → EndsAtStart format bits e → PictureBefore format bits e
 picture-before format bits e here =
@@ -190,17 +226,21 @@ picture-before format bits e here =
     let longer = walk-longer format [] (take e bits) (drop e bits) 0 read_.0 end read_.1.walk in
     let left : end.0 ++ drop e bits ≡ replicate (length end.0) false ++ (picture_start_code ++ tail) =
     ap (λ (t : List Bool). t ++ drop e bits) zs.1 ∙ ap (λ (t : List Bool). replicate (length end.0) false ++ t) split in
+    let walk : Goes (next_within_limit format) [] (start bits) read_.0 (replicate (length end.0) false ++ (picture_start_code ++ tail), end.1) =
+    subst (λ (t : List Bool). Goes (next_within_limit format) [] (start bits) read_.0 (t, end.1)) left
+    (subst (λ (t : List Bool). Goes (next_within_limit format) [] (start t) read_.0 (end.0 ++ drop e bits, end.1)) (take-append-drop e bits) longer) in
     record {
+      behind = record {
+        place = end.1;
+        zeros = length end.0;
+        tail = tail;
+        few = zs.0;
+        sum = omega (arith, walk-length format [] (start (take e bits)) read_.0 end read_.1.walk, length-take-le e bits inside);
+        left = sym (walk-behind format bits read_.0 (replicate (length end.0) false ++ (picture_start_code ++ tail), end.1) walk);
+      };
       elements = read_.0;
-      place = end.1;
-      zeros = length end.0;
-      tail = tail;
-      few = zs.0;
-      sum = omega (arith, walk-length format [] (start (take e bits)) read_.0 end read_.1.walk, length-take-le e bits inside);
       may = ends.0;
-      walk =
-          subst (λ (t : List Bool). Goes (next_within_limit format) [] (start bits) read_.0 (t, end.1)) left
-          (subst (λ (t : List Bool). Goes (next_within_limit format) [] (start t) read_.0 (end.0 ++ drop e bits, end.1)) (take-append-drop e bits) longer);
+      walk = walk;
     }
 
 goes-on : (format : Format) (before : List Element) (r mid end : List Bool × ℕ) (es : List Element) (e : Element) (n : ℕ) → Goes (next_within_limit format) before r es mid
@@ -213,10 +253,14 @@ after-snoc before [] e = refl
 after-snoc before (x ∷ es) e = after-snoc (x ∷ before) es e
 
 -- PSC right behind the picture: the start code of a group is too long there, or a group has the number 0
-near-start : (format : Format) (bits : List Bool) (e place : ℕ) (tail : List Bool) (elements : List Element) → place ≡ e → may_end (slot (after [] elements)) ≡ true
-    → Goes (next_within_limit format) [] (start bits) elements (picture_start_code ++ tail, place) → FaultNear format bits e
-near-start format bits e place tail elements is may walk = elim (cases_Bool (nat_lt (limit format) (counted format (Gbsc ∷ after [] elements) (place + 16)))) [
+near-start : (format : Format) (bits : List Bool) (e : ℕ) (behind : StartBehind bits e) (elements : List Element) → behind.zeros ≡ 0 → may_end (slot (after [] elements)) ≡ true
+    → Goes (next_within_limit format) [] (start bits) elements (picture_start_code ++ behind.tail, behind.place) → FaultNear format bits e
+near-start format bits e behind elements none may walk =
+    let place = behind.place in
+    let tail = behind.tail in
+    elim (cases_Bool (nat_lt (limit format) (counted format (Gbsc ∷ after [] elements) (place + 16)))) [
   | inl long ↦ record {
+    behind = behind;
     place = place;
     why = TooLong;
     fault = record {
@@ -227,9 +271,10 @@ near-start format bits e place tail elements is may walk = elim (cases_Bool (nat
           (ltb-true (limit format) (counted format (Gbsc ∷ after [] elements) (place + 16)) long);
       place_is = refl;
     };
-    near = inr (omega (arith, is), omega (arith, is));
+    near = (refl, none);
   }
   | inr fits ↦ record {
+    behind = behind;
     place = place + 16;
     why = BadGroup;
     fault = record {
@@ -245,32 +290,115 @@ near-start format bits e place tail elements is may walk = elim (cases_Bool (nat
           ∙ group-refused format (after [] elements) (place + 16) tail);
       place_is = refl;
     };
-    near = inl (omega (arith, is));
+    near = (refl, none);
   }
 ]
 
-near-by : (format : Format) (bits : List Bool) (e : ℕ) (p : PictureBefore format bits e) (z : ℕ) → p.zeros ≡ z → FaultNear format bits e
-near-by format bits e p (suc z) is = record {
-  place = p.place;
-  why = NoCode;
-  fault = record {
-    elements = p.elements;
-    end = (replicate p.zeros false ++ (picture_start_code ++ p.tail), p.place);
-    walk = p.walk;
-    bad =
-        picture-bad format (after [] p.elements) (replicate p.zeros false ++ (picture_start_code ++ p.tail), p.place) NoCode
-        (zeros-unread format (after [] p.elements) p.place p.zeros p.tail p.may (omega (arith, is)) p.few);
-    place_is = refl;
-  };
-  near = inr (omega (arith, p.sum), omega (arith, p.sum, p.few));
-}
+near-by : (format : Format) (bits : List Bool) (e : ℕ) (p : PictureBefore format bits e) (z : ℕ) → p.behind.zeros ≡ z → FaultNear format bits e
+near-by format bits e p (suc z) is =
+    let b = p.behind in
+    record {
+      behind = b;
+      place = b.place;
+      why = NoCode;
+      fault = record {
+        elements = p.elements;
+        end = (replicate b.zeros false ++ (picture_start_code ++ b.tail), b.place);
+        walk = p.walk;
+        bad =
+            picture-bad format (after [] p.elements) (replicate b.zeros false ++ (picture_start_code ++ b.tail), b.place) NoCode
+            (zeros-unread format (after [] p.elements) b.place b.zeros b.tail p.may (omega (arith, is)) b.few);
+        place_is = refl;
+      };
+      near = (refl, omega (arith, is));
+    }
 near-by format bits e p zero is =
-    near-start format bits e p.place p.tail p.elements (omega (arith, p.sum, is)) p.may
-    (subst (λ (z : ℕ). Goes (next_within_limit format) [] (start bits) p.elements (replicate z false ++ (picture_start_code ++ p.tail), p.place)) is p.walk)
+    near-start format bits e p.behind p.elements is p.may
+    (subst (λ (z : ℕ). Goes (next_within_limit format) [] (start bits) p.elements (replicate z false ++ (picture_start_code ++ p.behind.tail), p.behind.place)) is p.walk)
 
 -- where a picture ends and another begins, there is the first fault, or near it
 pub fault-near : (format : Format) (bits : List Bool) (e : ℕ) → EndsAtStart format bits e → FaultNear format bits e
-fault-near format bits e here = let p = picture-before format bits e here in near-by format bits e p p.zeros refl
+fault-near format bits e here = let p = picture-before format bits e here in near-by format bits e p p.behind.zeros refl
+
+tried-near : (place : ℕ) (why : Why) (begin some e : ℕ) → IsNearBy place why begin some → begin + some ≡ e → some < 8 → IsTried place e
+tried-near place NoCode begin some e near sum few = inr (omega (arith, near.0, sum), omega (arith, near.0, sum, few))
+tried-near place TooLong begin some e near sum few = inr (omega (arith, near.0, near.1, sum), omega (arith, near.0, near.1, sum))
+tried-near place BadGroup begin some e near sum few = inl (omega (arith, near.0, near.1, sum))
+tried-near place NoStart begin some e near sum few = absurd near
+tried-near place WrongFormat begin some e near sum few = absurd near
+tried-near place StillImage begin some e near sum few = absurd near
+tried-near place BadQuant begin some e near sum few = absurd near
+tried-near place Cut begin some e near sum few = absurd near
+tried-near place BadAddress begin some e near sum few = absurd near
+tried-near place BadVector begin some e near sum few = absurd near
+tried-near place VectorOutside begin some e near sum few = absurd near
+tried-near place BadDc begin some e near sum few = absurd near
+tried-near place BadLevel begin some e near sum few = absurd near
+tried-near place TooMany begin some e near sum few = absurd near
+
+-- a place at which a picture ends is one of those that are tried at the first fault
+pub near-fault : (format : Format) (bits : List Bool) (place : ℕ) (why : Why) (e : ℕ) → FirstFault (next_within_limit format) bits place why → EndsAtStart format bits e → IsTried place e
+near-fault format bits place why e fault here =
+    let n = fault-near format bits e here in
+    subst (λ (p : ℕ). IsTried p e) (one-fault format bits n.place place n.why why n.fault fault).0
+    (tried-near n.place n.why n.behind.place n.behind.zeros e n.near n.behind.sum n.behind.few)
+
+-- accepted bits go on with no other picture
+pub none-in-whole : (format : Format) (bits : List Bool) (p : Picture) → Accepts format bits p → HasNoNext format bits
+none-in-whole format bits p accepted e here =
+    let n = fault-near format bits e here in never-both format bits p n.place n.why accepted n.fault
+
+-- ---- there is one such place at most
+
+leading : List Bool → ℕ
+leading (false ∷ bits) = suc (leading bits)
+leading _ = 0
+
+leading-zeros : (z : ℕ) (bits : List Bool) → leading (replicate z false ++ bits) ≡ z + leading bits
+unfolding leading
+leading-zeros zero bits = omega arith
+leading-zeros (suc z) bits = omega (arith, leading-zeros z bits)
+
+same-zeros : (z y : ℕ) (t u : List Bool) → replicate z false ++ (picture_start_code ++ t) ≡ replicate y false ++ (picture_start_code ++ u) → z ≡ y
+unfolding leading
+same-zeros z y t u is =
+    let a : leading (replicate z false ++ (picture_start_code ++ t)) ≡ z + 15 = leading-zeros z (picture_start_code ++ t) in
+    let b : leading (replicate y false ++ (picture_start_code ++ u)) ≡ y + 15 = leading-zeros y (picture_start_code ++ u) in
+    omega (arith, a, b, ap leading is)
+
+same-begin : (place : ℕ) (why : Why) (a y b z : ℕ) → IsNearBy place why a y → IsNearBy place why b z → a ≡ b
+same-begin place NoCode a y b z f g = omega (arith, f.0, g.0)
+same-begin place TooLong a y b z f g = omega (arith, f.0, g.0)
+same-begin place BadGroup a y b z f g = omega (arith, f.0, g.0)
+same-begin place NoStart a y b z f g = absurd f
+same-begin place WrongFormat a y b z f g = absurd f
+same-begin place StillImage a y b z f g = absurd f
+same-begin place BadQuant a y b z f g = absurd f
+same-begin place Cut a y b z f g = absurd f
+same-begin place BadAddress a y b z f g = absurd f
+same-begin place BadVector a y b z f g = absurd f
+same-begin place VectorOutside a y b z f g = absurd f
+same-begin place BadDc a y b z f g = absurd f
+same-begin place BadLevel a y b z f g = absurd f
+same-begin place TooMany a y b z f g = absurd f
+
+-- bits have one place at most at which a picture ends and another begins
+pub one-end : (format : Format) (bits : List Bool) (e f : ℕ) → EndsAtStart format bits e → EndsAtStart format bits f → e ≡ f
+one-end format bits e f he hf =
+    let n = fault-near format bits e he in
+    let m = fault-near format bits f hf in
+    let same = one-fault format bits n.place m.place n.why m.why n.fault m.fault in
+    let near : IsNearBy m.place m.why n.behind.place n.behind.zeros =
+    subst (λ (w : Why). IsNearBy m.place w n.behind.place n.behind.zeros) same.1
+    (subst (λ (p : ℕ). IsNearBy p n.why n.behind.place n.behind.zeros) same.0 n.near) in
+    let begin : n.behind.place ≡ m.behind.place = same-begin m.place m.why n.behind.place n.behind.zeros m.behind.place m.behind.zeros near m.near in
+    let zeros : n.behind.zeros ≡ m.behind.zeros =
+    same-zeros n.behind.zeros m.behind.zeros n.behind.tail m.behind.tail (sym n.behind.left ∙ (ap (λ (p : ℕ). drop p bits) begin ∙ m.behind.left)) in
+    omega (arith, n.behind.sum, m.behind.sum, begin, zeros)
+
+-- so it is the least one
+pub is-next : (format : Format) (bits : List Bool) (e : ℕ) → EndsAtStart format bits e → IsNext format bits e
+is-next format bits e here = record { place = here; least = λ f other. omega (arith, one-end format bits e f here other) }
 
 -- a first fault stands within the limit
 pub fault-within : (format : Format) (bits : List Bool) (place : ℕ) (why : Why) → FirstFault (next_within_limit format) bits place why → place ≤ limit format

@@ -1,8 +1,9 @@
 -- Bare streams: coded pictures one after the other, with no packets and no frames round them (H.261, 4.2). A picture ends where
 -- the start code of the next one begins, and nothing else says how long it is.
 use Rattle.std.specs.Prelude.{◌≡◌, ℕ, ◌+◌, ◌-◌, ◌<◌, ◌≤◌, Bool, true, List, [], ◌∷◌, ◌++◌, length, take, drop}
-use Rattle.std.specs.List.{flat_map}
+use Rattle.std.specs.List.{AllByRecursion, flat_map}
 use Rattle.bare_stream.specs.Packed.{octets_spelled, filled}
+use Rattle.pel_bits.specs.Bits.{bits}
 use Rattle.pel_model.specs.declared.Format.{Format}
 use Rattle.pel_model.specs.declared.Why.{Why}
 use Rattle.pel_model.specs.Accepts.{Accepts}
@@ -10,6 +11,7 @@ use Rattle.pel_model.specs.Codes.{picture_start_code, is_prefix}
 use Rattle.pel_model.specs.Grammar.{next_within_limit}
 use Rattle.pel_model.specs.Records.{Picture}
 use Rattle.pel_model.specs.Text.{text}
+use Rattle.pel_model.specs.Valid.{IsValid, limit}
 use Rattle.pel_model.specs.Walk.{FirstFault}
 
 -- PSC, the start code of a picture (4.2.1.1), begins at bit e
@@ -62,6 +64,11 @@ pub record IsBareStream (format : Format) (bits : List Bool) (pictures : List Pi
   pub cuts : Cuts format bits former rest
   pub ends : EndsWith format (length bits - length rest) rest last stop
 
+-- a picture that can be sent: valid, and its strict text no longer than its format allows
+pub record IsSendable (format : Format) (picture : Picture) : Type 0 where
+  pub valid : IsValid format picture
+  pub short : length (text format picture) ≤ limit format
+
 -- the strict texts of pictures, one behind the other
 abbrev pub texts : Format → List Picture → List Bool
 texts format pictures = flat_map (text format) pictures
@@ -77,3 +84,10 @@ abbrev pub LawOfOneBareStream : Type 0
 LawOfOneBareStream =
     (format : Format) (bits : List Bool) (ps qs : List Picture) (stop other : StreamStop)
     → IsBareStream format bits ps stop → IsBareStream format bits qs other → (ps ≡ qs) × (stop ≡ other)
+
+-- the stream of pictures that can be sent is read as these pictures
+abbrev pub LawOfBareReadBack : Type 0
+LawOfBareReadBack =
+    (format : Format) (pictures : List Picture)
+    → AllByRecursion (IsSendable format) pictures
+    → IsBareStream format (bits (bare format pictures)) pictures AtEnd

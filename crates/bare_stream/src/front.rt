@@ -58,15 +58,14 @@ pub fn read_front(bits: Bits<'_>, format: Format, into: &mut Coded) -> Front
     }
 }
 
-// The least place at which a picture ends and another begins, near the first fault of the bits: where the elements of the
-// picture end, the start code of the next one is at fault, alone or behind its first 16 bits, which are those of a group's.
-// Up to seven zero bits may stand before it.
+// The place at which a picture ends and another begins, near the first fault of the bits: where the elements of the picture
+// end, the start code of the next one is at fault, alone or behind its first 16 bits, which are those of a group's. Up to
+// seven zero bits may stand before it. No bits have two such places.
 fn picture_before(bits: &Bits<'_>, format: Format, fault: u32, into: &mut Coded) -> Option<u32>
     requires into { into.old ≡ nothing format }
     requires small { fault ≤ limit format }
     ensures { MatchOption result ((into.new ≡ nothing format) × ((e : ℕ) → IsTried fault e → EndsAtStart format bits.now e → ⊥))
-        (λ e. EndsAtStart format bits.now e × HoldsAccepted format (take e bits.now) into.new × IsFinished into.new
-        × ((other : ℕ) → IsTried fault other → EndsAtStart format bits.now other → e ≤ other)) }
+        (λ e. EndsAtStart format bits.now e × HoldsAccepted format (take e bits.now) into.new × IsFinished into.new) }
 {
     if fault >= GROUP_START_LENGTH && picture_ends(bits, format, fault - GROUP_START_LENGTH, into) {
         return Some(fault - GROUP_START_LENGTH);

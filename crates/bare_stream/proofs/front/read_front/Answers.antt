@@ -1,7 +1,6 @@
 -- Bits and their first fault.
 use Rattle.std.proofs.Common.{◌≡◌, refl}
-use Rattle.bare_stream.proofs.Fronts.{near-fault, none-in-whole}
-use Rattle.bare_stream.proofs.Nexts.{fault-within}
+use Rattle.bare_stream.proofs.Nexts.{near-fault, none-in-whole, is-next, fault-within}
 use Rattle.bare_stream.proofs.front.read_front.Goals as goal
 
 pub picture_before-requires-clause-small : goal.picture_before-requires-clause-small

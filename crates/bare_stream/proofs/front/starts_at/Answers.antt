@@ -9,4 +9,4 @@ returns-then-saturating_sub-ge-START_LENGTH c =
 
 pub returns-else-saturating_sub-ge-START_LENGTH : goal.returns-else-saturating_sub-ge-START_LENGTH
 returns-else-saturating_sub-ge-START_LENGTH c =
-    c.if-saturating_sub-ge-START_LENGTH.false ∙ no-start c.args.bits.now c.args.e ?
+    no-start c.args.bits.now c.args.e (omega (arith, c.if-saturating_sub-ge-START_LENGTH.false, c.saturating_sub.ensures, c.len.ensures))
