@@ -7,4 +7,4 @@ use Rattle.bare_stream.proofs.front.picture_before.Given as goal
 
 abbrev pub invariant-loop-zeros : goal.invariant-loop-zeros
 invariant-loop-zeros l =
-    (l.into ≡ nothing l.fn.format) × ((e : ℕ) → IsTried l.fn.fault e → e < l.fn.fault + l.zeros → EndsAtStart l.fn.format l.fn.bits.now e → ⊥)
+    (l.into ≡ nothing l.fn.format) × ((e : ℕ) → IsTried l.fn.fault e → e < l.fn.fault + l.zeros → EndsAtStart l.fn.format l.fn.bits e → ⊥)

@@ -1,5 +1,6 @@
 -- PSC by its number.
 use Rattle.std.proofs.Common.{◌≡◌, ◌∙◌, ◌+◌, arith}
+use Rattle.std.proofs.lemmas.Bool.{lt-leb}
 use Rattle.bare_stream.proofs.Nexts.{start-is, no-start}
 use Rattle.bare_stream.proofs.front.starts_at.Goals as goal
 
@@ -9,4 +10,4 @@ returns-then-saturating_sub-ge-START_LENGTH c =
 
 pub returns-else-saturating_sub-ge-START_LENGTH : goal.returns-else-saturating_sub-ge-START_LENGTH
 returns-else-saturating_sub-ge-START_LENGTH c =
-    no-start c.args.bits.now c.args.e (omega (arith, c.if-saturating_sub-ge-START_LENGTH.false, c.saturating_sub.ensures, c.len.ensures))
+    lt-leb 20 c.saturating_sub.result c.if-saturating_sub-ge-START_LENGTH.false ∙ no-start c.args.bits.now c.args.e (omega (arith, c.if-saturating_sub-ge-START_LENGTH.false, c.saturating_sub.ensures, c.len.ensures))
