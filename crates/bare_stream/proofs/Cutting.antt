@@ -24,7 +24,7 @@ use Rattle.bare_stream.specs.Tries.{IsTried}
 
 -- ---- PSC in longer bits
 
-starts-inside : (bits : List Bool) (e : ℕ) → StartsAt e bits → e + 20 ≤ length bits
+pub starts-inside : (bits : List Bool) (e : ℕ) → StartsAt e bits → e + 20 ≤ length bits
 starts-inside bits e h = omega (arith, is_prefix_length picture_start_code (drop e bits) h, length-drop e bits)
 
 starts-prefix : (xs more : List Bool) → is_prefix picture_start_code xs ≡ true → is_prefix picture_start_code (xs ++ more) ≡ true

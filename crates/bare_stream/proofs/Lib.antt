@@ -1,4 +1,6 @@
+pub mod Buffers
 pub mod Cutting
 pub mod Fronts
 pub mod Nexts
 pub mod PackedLemmas
+pub mod Readings

@@ -1,7 +1,8 @@
 //! The pictures of a source that is a bare stream, one by one.
-ghost use Rattle.std.specs.Prelude.{◌≡◌, ◌+◌, ◌*◌, ◌^◌, ◌≤◌, ◌<◌, ◌⊎◌, ℕ, [], ◌++◌, false, None, IfOk, length, take, drop};
-ghost use Rattle.bare_stream.specs.Filling.{Fills, TakesOn, HasEnough, GivesLast, IsEndAt, window};
+ghost use Rattle.std.specs.Prelude.{◌≡◌, ◌+◌, ◌-◌, ◌*◌, ◌^◌, ◌≤◌, ◌<◌, ◌⊎◌, ℕ, [], ◌++◌, false, None, IfOk, MatchBool, length, take, drop};
+ghost use Rattle.bare_stream.specs.Filling.{Fills, TakesOn, HasEnough, HasGivenAll, GivesLast, IsEarlyEnd, IsEndAt, window};
 ghost use Rattle.bare_stream.specs.Reading.{CallsBare, Gives};
+ghost use Rattle.bare_stream.specs.declared.reader.BareEnd.TheVariants.{Bad};
 ghost use Rattle.io_edge.specs.Allowance.{unused};
 ghost use Rattle.pel_bits.specs.Bits.{bits};
 ghost use Rattle.picture_laws.specs.Laws.{kept_length};
@@ -59,7 +60,8 @@ impl Model for Bare {
     } };
 
     ghost invariant = { λ b. (b.from ≤ 8 * b.filled) × (b.filled ≤ vec_len b.octets)
-        × (vec_len b.octets ≡ 2 * window b.format) × (b.filled ≤ b.allowance.taken) };
+        × (vec_len b.octets ≡ 2 * window b.format) × (b.filled ≤ b.allowance.taken)
+        × (b.allowance.taken ≤ b.allowance.budget) };
 }
 
 impl Bare {
@@ -99,30 +101,34 @@ impl Bare {
     fn fill<S: Source>(&mut self, source: &mut S)
         ensures { Fills (S.tells source.old) (S.tells source.new) self.old self.new }
     {
-        if self.pause.is_some() || self.len() >= longest_kept(self.format) as usize {
+        if self.has_enough() {
             return;
         }
-        self.move_to_front();
         self.take_octets(source);
     }
 
-    // Moves the octets of the rest to the front of the buffer. They are fewer than those that were given since they were
-    // taken, so that over a whole stream no more octets are moved than are taken.
-    fn move_to_front(&mut self)
-        requires { length self.old.rest < kept_length self.old.format }
-        ensures same { self.new ≡ self.old }
+    // Whether nothing more is needed, or nothing more can be had.
+    fn has_enough(&self) -> bool
+        ensures within { self.now.allowance.taken ≤ self.now.allowance.budget }
+        ensures enough { MatchBool result (HasEnough self.now) (self.now.pause ≡ None) }
+    {
+        match self.pause {
+            Some(_) => true,
+            None => self.len() >= longest_kept(self.format) as usize,
+        }
+    }
+
+    // Moves the octets of the rest to the front of the buffer, and takes octets behind them until it is full. Those that are
+    // moved are fewer than those that were given since they were taken, so that over a whole stream no more octets are moved
+    // than are taken.
+    fn take_octets<S: Source>(&mut self, source: &mut S)
+        requires { self.old.pause ≡ None }
+        ensures { TakesOn (S.tells source.old) (S.tells source.new) self.old self.new }
     {
         let given = self.from / 8;
         self.octets.copy_within(given..self.filled, 0);
         self.filled -= given;
         self.from %= 8;
-    }
-
-    // Takes octets until the buffer is full.
-    fn take_octets<S: Source>(&mut self, source: &mut S)
-        requires { self.old.pause ≡ None }
-        ensures { TakesOn (S.tells source.old) (S.tells source.new) self.old self.new }
-    {
         match self.allowance.fetch(source, &mut self.octets[self.filled..]) {
             Ok(()) => self.filled = self.octets.len(),
             Err(short) => {
@@ -148,10 +154,10 @@ impl Bare {
         ensures kept { self.new ≡ record self.old { rest = self.new.rest } }
         ensures format { into.new.format ≡ self.old.format }
     {
-        let len = self.len() as u32;
-        if len == 0 && self.pause == Some(Pause::End) {
+        if self.has_given_all() {
             return Err(BareEnd::End);
         }
+        let len = self.len() as u32;
         let bits = Bits::new(&self.octets[..self.filled], self.from as u32, len);
         match read_front(bits, self.format, into) {
             Front::Next(e) => {
@@ -163,18 +169,25 @@ impl Bare {
         }
     }
 
+    // Whether the source is at its end, and all its bits were given.
+    fn has_given_all(&self) -> bool
+        ensures { MatchBool result (HasGivenAll self.now) (HasGivenAll self.now → ⊥) }
+    {
+        match self.pause {
+            Some(Pause::End) => self.len() == 0,
+            _ => false,
+        }
+    }
+
     // All bits that are there are a picture: the last one, unless more may follow.
     fn give_last(&mut self) -> Result<(), BareEnd>
         ensures { GivesLast result self.old self.new }
     {
-        match self.pause {
-            Some(Pause::Fault) => Err(BareEnd::Fault),
-            Some(Pause::Limit) => Err(BareEnd::Limit),
-            Some(Pause::End) | None => {
-                self.from = 8 * self.filled;
-                Ok(())
-            }
+        if let Some(end) = early_end(self.pause) {
+            return Err(end);
         }
+        self.from = 8 * self.filled;
+        Ok(())
     }
 
     // The bits that are there are no picture, with this first fault: so it is, unless more octets could change it.
@@ -183,18 +196,38 @@ impl Bare {
         requires place { fault.place < 2 ^ 32 }
         ensures { IsEndAt fault result self.now }
     {
-        if self.len() < longest_kept(self.format) as usize {
-            match self.pause {
-                Some(Pause::Fault) => return BareEnd::Fault,
-                Some(Pause::Limit) => return BareEnd::Limit,
-                Some(Pause::End) | None => {}
+        let len = self.len();
+        if len < longest_kept(self.format) as usize {
+            if let Some(end) = early_end(self.pause) {
+                return end;
             }
         }
-        let begin = 8 * self.allowance.taken() - self.len() as u64;
+        self.bad_at(len, fault)
+    }
+
+    // The end at a fault of the last `len` bits that were taken.
+    fn bad_at(&self, len: usize, fault: Fault) -> BareEnd
+        requires len { len ≡ length self.now.rest }
+        requires few { self.now.allowance.budget ≤ 2 ^ 40 }
+        requires place { fault.place < 2 ^ 32 }
+        ensures { result ≡ Bad (8 * self.now.allowance.taken - len + fault.place) fault.why }
+    {
+        let begin = 8 * self.allowance.taken() - len as u64;
         BareEnd::Bad {
             place: begin + u64::from(fault.place),
             why: fault.why,
         }
+    }
+}
+
+// How a reader ends whose source gives no more, and is not known to be at its end.
+fn early_end(pause: Option<Pause>) -> Option<BareEnd>
+    ensures { IsEarlyEnd pause result }
+{
+    match pause {
+        Some(Pause::Fault) => Some(BareEnd::Fault),
+        Some(Pause::Limit) => Some(BareEnd::Limit),
+        Some(Pause::End) | None => None,
     }
 }
 
