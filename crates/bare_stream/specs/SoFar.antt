@@ -3,7 +3,7 @@ use Rattle.std.specs.Prelude.{◌≡◌, ◌⊎◌, ℕ, Bool, false, List, [], 
 use Rattle.bare_stream.specs.declared.reader.BareEnd.{BareEnd}
 use Rattle.bare_stream.specs.declared.reader.BareEnd.TheVariants.{End, Bad, Fault, Limit}
 use Rattle.bare_stream.specs.Reading.{BareReading, CallsBare}
-use Rattle.bare_stream.specs.Streams.{Cuts, HasNoNext, IsBareStream, IsSendable, AtEnd, BadAt}
+use Rattle.bare_stream.specs.Streams.{Cuts, HasNoNext, IsBareStream, AtEnd, BadAt}
 use Rattle.h261_pic.specs.Coded.{Coding, coding}
 use Rattle.io_edge.specs.Allowance.{AllowanceState, TakesOctets, Paused, unused}
 use Rattle.io_edge.specs.declared.allowance.Pause.{Pause}
@@ -44,7 +44,6 @@ pub record GivesOneMore (format : Format) (budget : ℕ) (before now : Input) (r
     (pictures : List Picture) (coded : Coding) : Type 0 where
   pub picture : Picture
   pub coded_is : coded ≡ coding format picture
-  pub sendable : IsSendable format picture
   pub so_far : StreamSoFar format budget before now reader (pictures ++ picture ∷ [])
 
 -- these are the pictures of the bits that have PSC behind them

@@ -9,7 +9,7 @@ mod tool_end;
 mod writer;
 
 pub use front::{Front, read_front};
-pub use laws::one_bare_stream;
+pub use laws::{bare_stream_is_read_back, one_bare_stream, pictures_one_by_one};
 pub use reader::{Bare, BareEnd};
 pub use tool_end::{ToolEnd, ToolStop};
 pub use writer::TextWriter;
