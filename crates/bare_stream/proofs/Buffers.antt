@@ -54,10 +54,10 @@ rest-more octets items front out more filled from n below inside moved_ long is 
     let first : take left front ≡ drop given (take filled octets) = moved_ in
     let size : length (drop given (take filled octets)) ≡ left = omega (arith, length-drop given (take filled octets), held) in
     let taken : take (left + n) items ≡ drop given (take filled octets) ++ take n out =
-      ap (take (left + n)) (is ∙ ap (λ (t : List ℕ). t ++ (out ++ more)) first)
-      ∙ (ap (λ (k : ℕ). take (k + n) (drop given (take filled octets) ++ (out ++ more))) (sym size)
-      ∙ take-behind (drop given (take filled octets)) (out ++ more) n
-      ∙ ap (λ (t : List ℕ). drop given (take filled octets) ++ t) (take-append-le n out more few)) in
+    ap (take (left + n)) (is ∙ ap (λ (t : List ℕ). t ++ (out ++ more)) first)
+    ∙ (ap (λ (k : ℕ). take (k + n) (drop given (take filled octets) ++ (out ++ more))) (sym size)
+    ∙ take-behind (drop given (take filled octets)) (out ++ more) n
+    ∙ ap (λ (t : List ℕ). drop given (take filled octets) ++ t) (take-append-le n out more few)) in
     ap (λ (t : List ℕ). drop (from % 8) (bits t)) taken
     ∙ (ap (drop (from % 8)) (bits-append (drop given (take filled octets)) (take n out))
     ∙ (drop-append-le (from % 8) (bits (drop given (take filled octets))) (bits (take n out)) (omega (arith, length-bits (drop given (take filled octets)), size, below))

@@ -56,8 +56,10 @@ ends-shorter format bits more e inside h = record {
   where
     same_front : (xs more : List Bool) → 20 ≤ length xs → take 20 (xs ++ more) ≡ take 20 xs
     same_front xs more long = take-append-le 20 xs more long
+
     by_front : (xs : List Bool) → is_prefix picture_start_code xs ≡ true → take 20 xs ≡ picture_start_code
     by_front xs h = ap (take 20) (is_prefix-front picture_start_code xs h)
+
     shorter : (xs more : List Bool) → 20 ≤ length xs → is_prefix picture_start_code (xs ++ more) ≡ true → is_prefix picture_start_code xs ≡ true
     shorter xs more long h =
         let front : take 20 xs ≡ picture_start_code = sym (same_front xs more long) ∙ by_front (xs ++ more) h in
@@ -82,6 +84,7 @@ none-longer format bits more place why long fault none e here =
   where
     trans : {a b c : ℕ} → a ≤ b → b ≤ c → a ≤ c
     trans p q = omega (arith, p, q)
+
     near_end : (place e : ℕ) → IsTried place e → (most : ℕ) → place ≤ most → e + 20 ≤ most + 64
     near_end place e tried most within = elim tried [
       | inl before ↦ omega (arith, before, within)
@@ -172,8 +175,7 @@ one-bare-stream format bits ps qs stop other a b =
 pub cuts-longer : (format : Format) (bits more : List Bool) (ps : List Picture) (rest : List Bool) → Cuts format bits ps rest → Cuts format (bits ++ more) ps (rest ++ more)
 cuts-longer format bits more [] rest h = ap (λ (t : List Bool). t ++ more) h
 cuts-longer format bits more (p ∷ ps) rest h =
-    let inside = starts-inside bits h.0 h.1.place.starts in
-    (
+    let inside = starts-inside bits h.0 h.1.place.starts in (
       h.0,
       next-longer format bits more h.0 h.1,
       subst (λ (t : List Bool). Accepts format t p) (sym (take-append-le h.0 bits more (omega (arith, inside)))) h.2,

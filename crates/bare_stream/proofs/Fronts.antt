@@ -23,7 +23,6 @@ ends-tried format bits e (Ok u) into above starts holds whole refused =
 ends-tried format bits e (Err f) into above starts holds whole refused =
     (λ place. never-both format (take e bits) place.picture f.place f.why place.accepted refused.0, refused.1)
 
-
 -- no picture ends at the places tried so far, nor at the next one
 pub one-more : (format : Format) (bits : List Bool) (fault k : ℕ) → ((e : ℕ) → IsTried fault e → e < fault + k → EndsAtStart format bits e → ⊥)
     → (EndsAtStart format bits (fault + k) → ⊥) → (e : ℕ) → IsTried fault e → e < fault + (k + 1) → EndsAtStart format bits e → ⊥

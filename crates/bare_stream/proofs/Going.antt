@@ -69,15 +69,22 @@ given-more : (format : Format) (taken seen rest : List Bool) (pictures : List Pi
     → (p : Picture) × (coded ≡ coding format p) × AreGiven format taken (pictures ++ p ∷ []) rest paused
 given-more format taken seen rest pictures paused coded cuts (inl next) =
     (next.2.0, next.2.2, inl (subst (λ (t : List Bool). Cuts format taken (pictures ++ next.2.0 ∷ []) t) (sym next.3) (cuts-on format taken pictures seen next.2.0 next.0 cuts next.1 next.2.1)))
-given-more format taken seen rest pictures paused coded cuts (inr last) =
-    (last.2.0, last.2.2, inr (last.0, last.3, record {
+given-more format taken seen rest pictures paused coded cuts (inr last) = (
+  last.2.0,
+  last.2.2,
+  inr (
+    last.0,
+    last.3,
+    record {
       former = pictures;
       last = last.2.0 ∷ [];
       rest = seen;
       order = refl;
       cuts = cuts;
       ends = (last.1, last.2.1);
-    }))
+    },
+  ),
+)
 
 longer : (format : Format) (took more : List ℕ) (pictures : List Picture) (rest : List Bool) → Cuts format (bits took) pictures rest
     → Cuts format (bits (took ++ more)) pictures (rest ++ bits more)
@@ -147,16 +154,14 @@ stays-bad format took more pictures seen place fault why cuts none some first is
 reading-ends : (end : BareEnd) (format : Format) (took : List ℕ) (pictures : List Picture) (seen : List Bool) (before after : Input) (allowance : AllowanceState) (paused : Option Pause)
     → allowance.taken ≡ length took → PausedSince paused before after allowance → Cuts format (bits took) pictures seen
     → GivesNone end format seen (8 * allowance.taken - length seen) paused → ReadingEnds end format took pictures before after allowance
-reading-ends End format took pictures seen before after allowance paused size since cuts gives =
-    (
-      record { former = pictures; last = []; rest = seen; order = sym (append-nil pictures); cuts = cuts; ends = gives.1 },
-      paused-by paused pause.End before after allowance gives.0 since,
-    )
+reading-ends End format took pictures seen before after allowance paused size since cuts gives = (
+  record { former = pictures; last = []; rest = seen; order = sym (append-nil pictures); cuts = cuts; ends = gives.1 },
+  paused-by paused pause.End before after allowance gives.0 since,
+)
 reading-ends (Bad place why) format took pictures seen before after allowance paused size since cuts gives =
     let fault = gives.2.0 in
     let first = gives.2.1 in
-    let is : place ≡ 8 * length took - length seen + fault = omega (arith, gives.2.2, size) in
-    (
+    let is : place ≡ 8 * length took - length seen + fault = omega (arith, gives.2.2, size) in (
       bad-stream format took pictures seen place fault why cuts gives.0 gives.1 first is,
       λ more left. elim gives.3 [
         | inl at ↦

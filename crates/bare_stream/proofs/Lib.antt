@@ -6,3 +6,4 @@ pub mod Nexts
 pub mod PackedLemmas
 pub mod ReadBack
 pub mod Readings
+mod WorkedStreams

@@ -34,7 +34,7 @@ good-longer : (format : Format) (before : List Element) (xs more : List Bool) (p
 good-longer format before xs more p e n h =
     let s = next-is format before (xs, p) e n h in (
       ap (λ (t : List Bool). next format before (t, p)) (ap (λ (t : List Bool). t ++ more) s.1.front ∙ append_assoc (word_in before e) (drop n xs) more)
-      ∙ next-good format before e (drop n xs ++ more) p s.0 ∙ ap (Good e) (sym s.1.size),
+          ∙ next-good format before e (drop n xs ++ more) p s.0 ∙ ap (Good e) (sym s.1.size),
       omega (arith, s.1.size, ap length s.1.front, length-append (word_in before e) (drop n xs)),
     )
 
@@ -48,7 +48,7 @@ walk-longer format before xs more p (e ∷ es) end h =
       h.0,
       picture-good format before (xs ++ more, p) e h.0 longer.0 here.1,
       subst (λ (t : List Bool). Goes (next_within_limit format) (e ∷ before) (t, p + h.0) es (end.0 ++ more, end.1)) (sym (drop-append-le h.0 xs more longer.1))
-      (walk-longer format (e ∷ before) (drop h.0 xs) more (p + h.0) es end h.2),
+          (walk-longer format (e ∷ before) (drop h.0 xs) more (p + h.0) es end h.2),
     )
 
 -- what is left is as long as what was not read
@@ -259,40 +259,40 @@ near-start format bits e behind elements none may walk =
     let place = behind.place in
     let tail = behind.tail in
     elim (cases_Bool (nat_lt (limit format) (counted format (Gbsc ∷ after [] elements) (place + 16)))) [
-  | inl long ↦ record {
-    behind = behind;
-    place = place;
-    why = TooLong;
-    fault = record {
-      elements = elements;
-      end = (picture_start_code ++ tail, place);
-      walk = walk;
-      bad = picture-long format (after [] elements) (picture_start_code ++ tail, place) Gbsc 16 (group-read format (after [] elements) place tail may)
-          (ltb-true (limit format) (counted format (Gbsc ∷ after [] elements) (place + 16)) long);
-      place_is = refl;
-    };
-    near = (refl, none);
-  }
-  | inr fits ↦ record {
-    behind = behind;
-    place = place + 16;
-    why = BadGroup;
-    fault = record {
-      elements = elements ++ Gbsc ∷ [];
-      end = (false ∷ false ∷ false ∷ false ∷ tail, place + 16);
-      walk =
-          goes-on format [] (start bits) (picture_start_code ++ tail, place) (false ∷ false ∷ false ∷ false ∷ tail, place + 16) elements Gbsc 16 walk
-          (picture-good format (after [] elements) (picture_start_code ++ tail, place) Gbsc 16 (group-read format (after [] elements) place tail may)
-          (ltb-false (limit format) (counted format (Gbsc ∷ after [] elements) (place + 16)) fits)) refl;
-      bad =
-          picture-bad format (after [] (elements ++ Gbsc ∷ [])) (false ∷ false ∷ false ∷ false ∷ tail, place + 16) BadGroup
-          (ap (λ (before : List Element). next format before (false ∷ false ∷ false ∷ false ∷ tail, place + 16)) (after-snoc [] elements Gbsc)
-          ∙ group-refused format (after [] elements) (place + 16) tail);
-      place_is = refl;
-    };
-    near = (refl, none);
-  }
-]
+      | inl long ↦ record {
+        behind = behind;
+        place = place;
+        why = TooLong;
+        fault = record {
+          elements = elements;
+          end = (picture_start_code ++ tail, place);
+          walk = walk;
+          bad = picture-long format (after [] elements) (picture_start_code ++ tail, place) Gbsc 16 (group-read format (after [] elements) place tail may)
+              (ltb-true (limit format) (counted format (Gbsc ∷ after [] elements) (place + 16)) long);
+          place_is = refl;
+        };
+        near = (refl, none);
+      }
+      | inr fits ↦ record {
+        behind = behind;
+        place = place + 16;
+        why = BadGroup;
+        fault = record {
+          elements = elements ++ Gbsc ∷ [];
+          end = (false ∷ false ∷ false ∷ false ∷ tail, place + 16);
+          walk =
+              goes-on format [] (start bits) (picture_start_code ++ tail, place) (false ∷ false ∷ false ∷ false ∷ tail, place + 16) elements Gbsc 16 walk
+              (picture-good format (after [] elements) (picture_start_code ++ tail, place) Gbsc 16 (group-read format (after [] elements) place tail may)
+              (ltb-false (limit format) (counted format (Gbsc ∷ after [] elements) (place + 16)) fits)) refl;
+          bad =
+              picture-bad format (after [] (elements ++ Gbsc ∷ [])) (false ∷ false ∷ false ∷ false ∷ tail, place + 16) BadGroup
+              (ap (λ (before : List Element). next format before (false ∷ false ∷ false ∷ false ∷ tail, place + 16)) (after-snoc [] elements Gbsc)
+              ∙ group-refused format (after [] elements) (place + 16) tail);
+          place_is = refl;
+        };
+        near = (refl, none);
+      }
+    ]
 
 near-by : (format : Format) (bits : List Bool) (e : ℕ) (p : PictureBefore format bits e) (z : ℕ) → p.behind.zeros ≡ z → FaultNear format bits e
 near-by format bits e p (suc z) is =

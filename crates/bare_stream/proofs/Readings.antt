@@ -52,7 +52,7 @@ pub gives-last : (result : Result Unit BareEnd) (old new : BareReading) (coded :
 gives-last (Ok u) old new coded gives enough is =
     let short = accepted-short old.format old.rest is.1.0 is.1.1 in
     subst (λ (n : BareReading). Gives (Ok u) old n old.rest coded) (sym gives.1)
-    (inr (elim gives.0 [ | inl ended ↦ ended | inr more ↦ absurd (omega (arith, enough more, short)) ], is.0, is.1, refl), is.2, refl)
+    (inr (elim gives.0 [ inl ended ↦ ended | inr more ↦ absurd (omega (arith, enough more, short)) ], is.0, is.1, refl), is.2, refl)
 gives-last (Err end.Fault) old new coded gives enough is =
     subst (λ (n : BareReading). Gives (Err end.Fault) old n old.rest coded) (sym gives.1)
     ((is.0, accepted-short old.format old.rest is.1.0 is.1.1, gives.0), refl)
@@ -67,13 +67,12 @@ pub gives-none : (fault : Fault) (stop : BareEnd) (old : BareReading) (coded : C
     → IsFront old.format old.rest (front.Bad fault) coded → GivesNone stop old.format old.rest (8 * old.allowance.taken - length old.rest) old.pause
 gives-none fault (end.Bad place why) old coded at enough unless_all is =
     let decided : (old.pause ≡ Some pause.End) ⊎ (kept_length old.format ≤ length old.rest) =
-      elim at.2 [
-        | inl early ↦ elim early [ | inl ended ↦ inl ended | inr more ↦ inr (enough more) ]
-        | inr long ↦ inr long
-      ] in
-    (
+    elim at.2 [
+      | inl early ↦ elim early [ inl ended ↦ inl ended | inr more ↦ inr (enough more) ]
+      | inr long ↦ inr long
+    ] in (
       is.0,
-      some-bits old.rest (elim decided [ | inl ended ↦ inl (λ none. unless_all (ended, none)) | inr long ↦ inr (omega (arith, long)) ]),
+      some-bits old.rest (elim decided [ inl ended ↦ inl (λ none. unless_all (ended, none)) | inr long ↦ inr (omega (arith, long)) ]),
       (fault.place, subst (λ w. FirstFault (next_within_limit old.format) old.rest fault.place w) (sym at.1) is.1, at.0),
       decided,
     )

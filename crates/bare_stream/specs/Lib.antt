@@ -5,4 +5,3 @@ pub mod Reading
 pub mod SoFar
 pub mod Streams
 pub mod Tries
-pub mod Worked

@@ -52,11 +52,11 @@ impl Model for Bare {
     ghost Value = { BareReading };
 
     ghost view = { λ b. record {
-        format = b.format;
-        allowance = b.allowance;
-        rest = drop b.from (bits (take b.filled b.octets.items));
-        pause = b.pause;
-        ended = b.ended;
+      format = b.format;
+      allowance = b.allowance;
+      rest = drop b.from (bits (take b.filled b.octets.items));
+      pause = b.pause;
+      ended = b.ended;
     } };
 
     ghost invariant = { λ b. (b.from ≤ 8 * b.filled) × (b.filled ≤ vec_len b.octets)
@@ -68,7 +68,12 @@ impl Bare {
     /// A reader of nothing so far, which may take `budget` octets. It takes all its memory here; NoMemory where there is none.
     pub fn reserve(alloc: Global, format: Format, budget: u64) -> Result<Bare, NoMemory>
         ensures { IfOk result (λ bare. bare ≡ record {
-            format = format; allowance = unused budget; rest = []; pause = None; ended = false }) }
+          format = format;
+          allowance = unused budget;
+          rest = [];
+          pause = None;
+          ended = false;
+        }) }
     {
         Ok(Bare {
             format,
@@ -129,7 +134,10 @@ impl Bare {
         self.octets.copy_within(given..self.filled, 0);
         self.filled -= given;
         self.from %= 8;
-        match self.allowance.fetch(source, &mut self.octets[self.filled..]) {
+        match self
+            .allowance
+            .fetch(source, &mut self.octets[self.filled..])
+        {
             Ok(()) => self.filled = self.octets.len(),
             Err(short) => {
                 self.filled += short.count;

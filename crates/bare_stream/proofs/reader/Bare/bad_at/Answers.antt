@@ -10,8 +10,14 @@ overflow_mul-begin c =
 pub overflow_sub-begin : goal.overflow_sub-begin
 overflow_sub-begin c =
     let b = c.self.inside in
-    omega (arith, c.taken.ensures, c.self.invariant.3, ap (λ r. length r.rest) c.self.view_is, c.requires.len,
-    rest-length b.octets.items b.filled b.from (omega (arith, c.self.invariant.1, b.octets.ok.0)))
+    omega (
+      arith,
+      c.taken.ensures,
+      c.self.invariant.3,
+      ap (λ r. length r.rest) c.self.view_is,
+      c.requires.len,
+      rest-length b.octets.items b.filled b.from (omega (arith, c.self.invariant.1, b.octets.ok.0)),
+    )
 
 pub overflow_add-result : goal.overflow_add-result
 overflow_add-result c =

@@ -9,9 +9,8 @@ use Rattle.bare_stream.proofs.reader.Bare.give_last.Goals as goal
 pub returns : goal.returns
 returns c =
     let b = c.self.inside in
-    let none = none-left b.octets.items b.filled (omega (arith, c.self.invariant.1, b.octets.ok.0)) in
-    (
+    let none = none-left b.octets.items b.filled (omega (arith, c.self.invariant.1, b.octets.ok.0)) in (
       subst (λ (w : Option Pause). (w ≡ Some pause.End) ⊎ (w ≡ None)) (ap (λ (r : BareReading). r.pause) c.self.view_is) c.in_default.ensures,
       ap (λ (r : List Bool). record { format = b.format; allowance = b.allowance; rest = r; pause = b.pause; ended = b.ended }) none
-      ∙ ap (λ (r : BareReading). record { format = r.format; allowance = r.allowance; rest = []; pause = r.pause; ended = r.ended }) c.self.view_is,
+          ∙ ap (λ (r : BareReading). record { format = r.format; allowance = r.allowance; rest = []; pause = r.pause; ended = r.ended }) c.self.view_is,
     )

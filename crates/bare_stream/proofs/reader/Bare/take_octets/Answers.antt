@@ -27,10 +27,10 @@ returns-in-Ok g c =
     let behind = post_of left (length lent - left) lent in
     let long : length (put_mid left (length lent - left) lent out) ≡ v.len = same_len_mid left (length lent - left) lent out c.fetch.auto.out ∙ c.deref_mut.ensures.len in
     let items : (with_items v (put_mid left (length lent - left) lent out)).items ≡ take left v.items ++ (out ++ behind) =
-      with_items_is v (put_mid left (length lent - left) lent out) long ∙ ap (λ (t : List ℕ). take left t ++ (out ++ behind)) c.deref_mut.ensures.value in
+    with_items_is v (put_mid left (length lent - left) lent out) long ∙ ap (λ (t : List ℕ). take left t ++ (out ++ behind)) c.deref_mut.ensures.value in
     let rest =
-      rest-all b.octets.items (with_items v (put_mid left (length lent - left) lent out)).items v.items out behind b.filled b.from c.len-self-inside.result c.self.invariant.0 inside front (omega (arith, inside, same)) items
-      (omega (arith, c.len-self-inside.ensures, c.fetch.auto.out, c.deref_mut.ensures.len, length-drop left lent, length-take (length lent - left) (drop left lent), inside, same, c.deref_mut.ensures.value)) in
+    rest-all b.octets.items (with_items v (put_mid left (length lent - left) lent out)).items v.items out behind b.filled b.from c.len-self-inside.result c.self.invariant.0 inside front (omega (arith, inside, same)) items
+    (omega (arith, c.len-self-inside.ensures, c.fetch.auto.out, c.deref_mut.ensures.len, length-drop left lent, length-take (length lent - left) (drop left lent), inside, same, c.deref_mut.ensures.value)) in
     record {
       took = out;
       takes = subst (λ (a : AllowanceState). TakesOctets (g.S.Source.tells c.args.source.now) (g.S.Source.tells c.fetch.new.source) a c.fetch.new.self out) (ap (λ (r : BareReading). r.allowance) c.self.view_is) c.in-Ok.ensures.0;
@@ -39,8 +39,8 @@ returns-in-Ok g c =
           (sym (ap (λ (r : BareReading). r.pause) c.self.view_is ∙ c.requires)) c.in-Ok.ensures.1;
       rest = rest ∙ ap (λ (r : BareReading). r.rest ++ bits out) c.self.view_is;
       enough = λ going. all-enough (with_items v (put_mid left (length lent - left) lent out)).items c.len-self-inside.result b.from b.format
-      (omega (arith, c.len-self-inside.ensures, long, ap length items, ap length (with_items_is v (put_mid left (length lent - left) lent out) long)))
-      (omega (arith, c.len-self-inside.ensures, c.copy_within.ensures.len, c.self.invariant.2));
+          (omega (arith, c.len-self-inside.ensures, long, ap length items, ap length (with_items_is v (put_mid left (length lent - left) lent out) long)))
+          (omega (arith, c.len-self-inside.ensures, c.copy_within.ensures.len, c.self.invariant.2));
       format = ap (λ (r : BareReading). r.format) c.self.view_is;
       ended = ap (λ (r : BareReading). r.ended) c.self.view_is;
     }
@@ -59,10 +59,10 @@ returns-in-Err g c =
     let behind = post_of left (length lent - left) lent in
     let long : length (put_mid left (length lent - left) lent out) ≡ v.len = same_len_mid left (length lent - left) lent out c.fetch.auto.out ∙ c.deref_mut.ensures.len in
     let items : (with_items v (put_mid left (length lent - left) lent out)).items ≡ take left v.items ++ (out ++ behind) =
-      with_items_is v (put_mid left (length lent - left) lent out) long ∙ ap (λ (t : List ℕ). take left t ++ (out ++ behind)) c.deref_mut.ensures.value in
+    with_items_is v (put_mid left (length lent - left) lent out) long ∙ ap (λ (t : List ℕ). take left t ++ (out ++ behind)) c.deref_mut.ensures.value in
     let rest =
-      rest-more b.octets.items (with_items v (put_mid left (length lent - left) lent out)).items v.items out behind b.filled b.from count c.self.invariant.0 inside front (omega (arith, inside, same)) items
-      (omega (arith, c.in-Err.ensures.0)) in
+    rest-more b.octets.items (with_items v (put_mid left (length lent - left) lent out)).items v.items out behind b.filled b.from count c.self.invariant.0 inside front (omega (arith, inside, same)) items
+    (omega (arith, c.in-Err.ensures.0)) in
     record {
       took = take count out;
       takes = subst (λ (a : AllowanceState). TakesOctets (g.S.Source.tells c.args.source.now) (g.S.Source.tells c.fetch.new.source) a c.fetch.new.self (take count out)) (ap (λ (r : BareReading). r.allowance) c.self.view_is) c.in-Err.ensures.1;
