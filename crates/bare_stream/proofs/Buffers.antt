@@ -1,9 +1,9 @@
 -- The octets of a buffer that are filled, as bits.
-use Rattle.std.proofs.Common.{◌≡◌, ℕ, suc, ◌+◌, ◌-◌, ◌*◌, ◌/◌, ◌%◌, ◌<◌, ◌≤◌, Bool, List, [], ◌∷◌, ◌++◌, length, take, drop, refl, sym, ◌∙◌, ap, arith, length-append, length-drop, append_assoc}
+use Rattle.std.proofs.Common.{◌≡◌, ℕ, suc, ◌+◌, ◌-◌, ◌*◌, ◌/◌, ◌%◌, ◌≤◌, Bool, List, [], ◌∷◌, ◌++◌, length, take, drop, sym, ◌∙◌, ap, arith, length-drop}
 use lib.Seq.{paste}
 use Rattle.std.proofs.lemmas.List.{drop_all, length-take-le, drop-drop, drop-take, drop-append-le, take-append-le}
 use Rattle.std.proofs.Math.Seq.{take-length}
-use Rattle.std.proofs.lemmas.List.Edits.{take-paste, length-paste}
+use Rattle.std.proofs.lemmas.List.Edits.{take-paste}
 use Rattle.bare_stream.specs.Filling.{window}
 use Rattle.picture_laws.specs.Laws.{kept_length}
 use Rattle.pel_bits.specs.Bits.{bits}

@@ -1,17 +1,13 @@
 -- What stands at the front of bits, by the places that were tried.
-use Rattle.std.proofs.Common.{◌≡◌, ◌⊎◌, ℕ, ◌+◌, ◌<◌, ◌≤◌, Bool, true, false, List, take, drop, Result, Ok, Err, IfOk, IfErr, is_ok, refl, sym, subst, ap, inl, inr, arith}
+use Rattle.std.proofs.Common.{◌≡◌, ℕ, ◌+◌, ◌<◌, Bool, List, take, Result, Ok, Err, IfOk, IfErr, is_ok, subst, inl, inr, arith}
 use Rattle.std.proofs.lemmas.Bool.{cases_lt}
-use Rattle.bare_stream.specs.Streams.{StartsAt, EndsAtStart, IsNext, HasNoNext}
+use Rattle.bare_stream.specs.Streams.{StartsAt, EndsAtStart}
 use Rattle.bare_stream.specs.Tries.{IsTried, LastsBefore}
 use Rattle.h261_pic.specs.Coded.{Coding, nothing, HoldsAccepted, IsFinished}
 use Rattle.pel_model.specs.declared.Fault.{Fault}
 use Rattle.pel_model.specs.declared.Format.{Format}
-use Rattle.pel_model.specs.declared.Why.{Why}
 use Rattle.pel_model.specs.Grammar.{next_within_limit}
-use Rattle.pel_model.specs.Records.{Picture}
-use Rattle.pel_model.specs.Accepts.{Accepts}
 use Rattle.pel_model.specs.Walk.{FirstFault}
-use Rattle.picture_laws.specs.Laws.{NeverBoth}
 use Rattle.picture_laws.proofs.Answers.{never-both}
 
 pub ends-tried : (format : Format) (bits : List Bool) (e : ℕ) (result : Result Unit Fault) (into : Coding) → 0 < e → StartsAt e bits

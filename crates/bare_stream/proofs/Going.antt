@@ -1,12 +1,12 @@
 -- A stream read picture by picture.
-use Rattle.std.proofs.Common.{◌≡◌, ◌⊎◌, ℕ, ◌+◌, ◌-◌, ◌*◌, ◌<◌, ◌≤◌, Bool, List, [], ◌∷◌, ◌++◌, length, take, drop, Option, Some, None, Ok, Err, refl, sym, ◌∙◌, ap, ap₂, subst, inl, inr, arith, append_assoc, append-nil, length-append}
+use Rattle.std.proofs.Common.{◌≡◌, ℕ, ◌+◌, ◌-◌, ◌*◌, ◌<◌, ◌≤◌, Bool, List, [], ◌∷◌, ◌++◌, length, Option, Some, None, refl, sym, ◌∙◌, ap, ap₂, subst, inl, inr, arith, append-nil, length-append}
 use Rattle.std.specs.Io.KnownBytes.{IsAtEnd}
 use Rattle.bare_stream.specs.declared.reader.BareEnd.{BareEnd}
 use Rattle.bare_stream.specs.declared.reader.BareEnd.TheVariants.{End, Bad, Fault, Limit}
-use Rattle.bare_stream.specs.Reading.{BareReading, Asked, CallsBare, GivesNone, GivesPicture}
-use Rattle.bare_stream.specs.SoFar.{PausedSince, AreGiven, StreamSoFar, GivesOneMore, AreFollowed, ReadingEnds, StreamEnded, LawOfStreamBegun, LawOfPictureGiven, LawOfStreamEnded}
-use Rattle.bare_stream.specs.Streams.{IsNext, HasNoNext, Cuts, IsBareStream, AtEnd, BadAt}
-use Rattle.h261_pic.specs.Coded.{Coding, coding, HoldsAccepted}
+use Rattle.bare_stream.specs.Reading.{Asked, GivesNone, GivesPicture}
+use Rattle.bare_stream.specs.SoFar.{PausedSince, AreGiven, ReadingEnds, LawOfStreamBegun, LawOfPictureGiven, LawOfStreamEnded}
+use Rattle.bare_stream.specs.Streams.{HasNoNext, Cuts, IsBareStream, AtEnd, BadAt}
+use Rattle.h261_pic.specs.Coded.{Coding, coding}
 use Rattle.io_edge.specs.Allowance.{AllowanceState, TakesOctets, Paused, unused}
 use Rattle.io_edge.specs.declared.allowance.Pause.{Pause}
 use Rattle.io_edge.specs.declared.allowance.Pause.TheVariants as pause

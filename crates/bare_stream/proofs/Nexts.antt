@@ -1,9 +1,9 @@
 -- Where a picture ends and the start code of another follows, the bits have their first fault near that place.
-use Rattle.std.proofs.Common.{◌≡◌, ◌⊎◌, ℕ, zero, suc, ◌+◌, ◌-◌, ◌*◌, ◌<◌, ◌≤◌, ◌&&◌, not, Bool, true, false, cond, List, [], ◌∷◌, ◌++◌, length, take, drop, replicate, Option, Some, None, nat_lt, refl, sym, ◌∙◌, ap, subst, inl, inr, append_assoc, append-nil, ap₂, ◌==◌, eqb-true, arith}
+use Rattle.std.proofs.Common.{◌≡◌, ◌⊎◌, ℕ, zero, suc, ◌+◌, ◌-◌, ◌<◌, ◌≤◌, ◌&&◌, not, Bool, true, false, cond, List, [], ◌∷◌, ◌++◌, length, take, drop, replicate, Some, nat_lt, refl, sym, ◌∙◌, ap, subst, inl, inr, append_assoc, append-nil, ap₂, ◌==◌, eqb-true, arith}
 use Rattle.std.specs.List.{list_any}
 use Rattle.std.proofs.lemmas.Bool.{ltb-true, ltb-false, cases_Bool, and_parts, not-true, le-ltb, false≢true}
-use Rattle.std.proofs.lemmas.List.{length-append, length-replicate, length-take-le, length-drop, take-append-drop, drop-append-le, drop-drop}
-use Rattle.bare_stream.specs.Streams.{StartsAt, EndsAtStart, IsNext, HasNoNext}
+use Rattle.std.proofs.lemmas.List.{length-append, length-take-le, length-drop, take-append-drop, drop-append-le, drop-drop}
+use Rattle.bare_stream.specs.Streams.{EndsAtStart, IsNext, HasNoNext}
 use Rattle.bare_stream.specs.Tries.{IsTried}
 use Rattle.pel_model.specs.declared.Format.{Format}
 use Rattle.pel_model.specs.declared.Format.TheVariants.{Qcif, Cif}
@@ -13,9 +13,9 @@ use Rattle.pel_model.specs.Accepts.{Accepts}
 use Rattle.pel_bits.specs.Bits.{number, field}
 use Rattle.pel_model.specs.Bits.{number as number_spelled}
 use Rattle.pel_bits.proofs.Fields.{field-number}
-use Rattle.pel_model.specs.Codes.{is_prefix, picture_start_code, group_start_code, mba_table}
+use Rattle.pel_model.specs.Codes.{is_prefix, picture_start_code, mba_table}
 use Rattle.pel_model.specs.Valid.{limit}
-use Rattle.pel_model.specs.Walk.{Standing, Good, Stop, Bad, skipped, start, after, Goes, FirstFault, read, judged, verdict}
+use Rattle.pel_model.specs.Walk.{Good, Stop, Bad, skipped, start, after, Goes, FirstFault, read, judged, verdict}
 use Rattle.pel_model.specs.Grammar.{Element, Gbsc, Gn, Slot, AtPsc, AtTr, AtPtype, AtPei, AtPspare, AtGroup, AtGn, AtGquant, AtGei, AtGspare, AtMacroblock, AtMtype, AtMquant, AtMvd, AtCbp, AtDc, AtFirst, AtCoefficient, slot, rows, mba_rows, gbsc_row, faults, first_why, may_end, is_end, at_slot, next, next_within_limit, counted}
 use Rattle.pel_model.specs.Records.{Picture}
 use Rattle.picture_laws.proofs.Answers.{never-both, one-fault}

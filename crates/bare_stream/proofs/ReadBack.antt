@@ -1,11 +1,11 @@
 -- The stream of pictures is read as these pictures.
-use Rattle.std.proofs.Common.{◌≡◌, ℕ, ◌+◌, ◌-◌, ◌*◌, ◌/◌, ◌<◌, ◌≤◌, Bool, true, false, List, [], ◌∷◌, ◌++◌, length, take, drop, map, replicate, refl, sym, ◌∙◌, ap, ap₂, subst, arith, append_assoc, append-nil, length-append}
+use Rattle.std.proofs.Common.{◌≡◌, ℕ, ◌+◌, ◌-◌, ◌*◌, ◌/◌, ◌<◌, Bool, true, false, List, [], ◌∷◌, ◌++◌, length, take, drop, map, replicate, refl, sym, ◌∙◌, ap, ap₂, subst, arith, append_assoc, append-nil, length-append}
 use Rattle.std.specs.List.{AllByRecursion}
 use Rattle.std.proofs.Math.Seq.{take-append_seam}
 use Rattle.std.proofs.lemmas.List.{length-replicate, drop_at}
 use Rattle.bare_stream.specs.Packed.{octets_spelled, left_over, filled}
-use Rattle.bare_stream.specs.Streams.{StartsAt, EndsAtStart, Cuts, AtEnd, EndsWith, IsBareStream, IsSendable, texts, bare, LawOfBareReadBack}
-use Rattle.pel_bits.specs.Bits.{bits, number, field}
+use Rattle.bare_stream.specs.Streams.{EndsAtStart, Cuts, AtEnd, EndsWith, IsBareStream, IsSendable, texts, LawOfBareReadBack}
+use Rattle.pel_bits.specs.Bits.{bits}
 use Rattle.pel_bits.specs.Reading.{zeros}
 use Rattle.pel_bits.proofs.Fields.{field-number}
 use Rattle.pel_model.specs.declared.Format.{Format}
@@ -13,10 +13,9 @@ use Rattle.pel_model.specs.Accepts.{Accepts, left_out}
 use Rattle.pel_model.specs.Codes.{picture_start_code, is_prefix}
 use Rattle.pel_model.specs.Headers.{picture_header_text}
 use Rattle.pel_model.specs.Records.{Picture, Group}
-use Rattle.pel_model.specs.Spelling.{strict_form, strict_group, sent_text}
+use Rattle.pel_model.specs.Spelling.{strict_form, strict_group}
 use Rattle.pel_model.specs.Text.{text}
 use Rattle.picture_laws.proofs.Strict.{strict-spelling, text_strict}
-use Rattle.vlc_codes.proofs.WordLaws.{is_prefix_self}
 use Rattle.bare_stream.proofs.Nexts.{none-in-whole, is-next}
 use Rattle.bare_stream.proofs.PackedLemmas.{spelled-length, left-short}
 

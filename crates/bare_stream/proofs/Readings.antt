@@ -1,21 +1,19 @@
 -- A call of a reader, from what was taken and what stands in front of the bits that are then there.
-use Rattle.std.proofs.Common.{◌≡◌, ◌⊎◌, ℕ, ◌+◌, ◌-◌, ◌*◌, ◌<◌, ◌≤◌, Bool, false, List, [], ◌∷◌, ◌++◌, length, Option, Some, None, Result, Ok, Err, IfOk, is_err, refl, sym, ◌∙◌, ap, subst, inl, inr, arith, append-nil, le_refl}
+use Rattle.std.proofs.Common.{◌≡◌, ◌⊎◌, ◌-◌, ◌*◌, ◌<◌, ◌≤◌, Bool, false, List, [], ◌∷◌, ◌++◌, length, Option, Some, None, Result, Ok, Err, IfOk, is_err, refl, sym, ◌∙◌, subst, inl, inr, arith, append-nil}
 use Rattle.std.proofs.KnownBytes.{Consumes-nil}
 use Rattle.bare_stream.specs.declared.reader.BareEnd.{BareEnd}
 use Rattle.bare_stream.specs.declared.reader.BareEnd.TheVariants as end
 use Rattle.bare_stream.specs.declared.front.Front.TheVariants as front
-use Rattle.bare_stream.specs.Filling.{Fills, HasEnough, HasGivenAll, GivesLast, IsEarlyEnd, IsEndAt}
+use Rattle.bare_stream.specs.Filling.{Fills, HasEnough, HasGivenAll, GivesLast, IsEndAt}
 use Rattle.bare_stream.specs.Front.{IsFront}
 use Rattle.bare_stream.specs.Reading.{BareReading, Asked, CallsBare, Gives, GivesNone, GivesPicture}
-use Rattle.bare_stream.specs.Streams.{HasNoNext}
-use Rattle.h261_pic.specs.Coded.{Coding, HoldsAccepted, IsFinished}
+use Rattle.h261_pic.specs.Coded.{Coding}
 use Rattle.io_edge.specs.Allowance.{AllowanceState, TakesOctets}
 use Rattle.io_edge.specs.declared.allowance.Pause.{Pause}
 use Rattle.io_edge.specs.declared.allowance.Pause.TheVariants as pause
 use Rattle.io_edge.specs.Outside.{Input}
 use Rattle.pel_bits.specs.Bits.{bits}
 use Rattle.pel_model.specs.declared.Fault.{Fault}
-use Rattle.pel_model.specs.declared.Format.{Format}
 use Rattle.pel_model.specs.Grammar.{next_within_limit}
 use Rattle.pel_model.specs.Walk.{FirstFault}
 use Rattle.picture_laws.specs.Laws.{kept_length}

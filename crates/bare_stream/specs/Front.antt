@@ -1,5 +1,5 @@
 -- What stands at the front of bits.
-use Rattle.std.specs.Prelude.{◌≡◌, ℕ, Bool, List, take}
+use Rattle.std.specs.Prelude.{◌≡◌, Bool, List, take}
 use Rattle.bare_stream.specs.declared.front.Front.{Front}
 use Rattle.bare_stream.specs.declared.front.Front.TheVariants.{Next, Whole, Bad}
 use Rattle.bare_stream.specs.Streams.{IsNext, HasNoNext}

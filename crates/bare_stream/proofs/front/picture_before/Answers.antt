@@ -1,7 +1,4 @@
 -- The place that was tried is none.
-use Rattle.std.proofs.Common.{◌≡◌, ◌⊎◌, ℕ, ◌+◌, ◌<◌, inl, inr, subst, arith}
-use Rattle.bare_stream.specs.Streams.{EndsAtStart}
-use Rattle.bare_stream.specs.Tries.{IsTried}
 use Rattle.bare_stream.proofs.Fronts.{one-more}
 use Rattle.bare_stream.proofs.front.picture_before.Goals as goal
 

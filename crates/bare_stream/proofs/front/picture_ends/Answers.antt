@@ -1,5 +1,5 @@
 -- Where PSC stands, whether the bits before it are a picture.
-use Rattle.std.proofs.Common.{◌≡◌, Bool, List, subst, sym, arith, ◌∙◌, refl, take, IfOk, IfErr}
+use Rattle.std.proofs.Common.{◌≡◌, Bool, List, subst, sym, arith, IfOk, IfErr}
 use Rattle.bare_stream.specs.Tries.{LastsBefore}
 use Rattle.bare_stream.proofs.Fronts.{ends-tried}
 use Rattle.h261_pic.specs.Coded.{nothing, HoldsAccepted}

@@ -1,5 +1,5 @@
 -- Bits and their first fault.
-use Rattle.std.proofs.Common.{◌≡◌, Bool, List, subst, ap, arith, ◌∙◌, take, length}
+use Rattle.std.proofs.Common.{◌≡◌, Bool, List, subst, ap, ◌∙◌, take, length}
 use Rattle.std.proofs.Math.Seq.{take-length}
 use Rattle.bare_stream.proofs.Nexts.{near-fault, none-in-whole, is-next, fault-within}
 use Rattle.h261_pic.specs.Coded.{HoldsAccepted}

@@ -1,5 +1,5 @@
 -- PSC by its number.
-use Rattle.std.proofs.Common.{◌≡◌, ◌∙◌, ◌+◌, arith}
+use Rattle.std.proofs.Common.{◌∙◌, arith}
 use Rattle.std.proofs.lemmas.Bool.{lt-leb}
 use Rattle.bare_stream.proofs.Nexts.{start-is, no-start}
 use Rattle.bare_stream.proofs.front.starts_at.Goals as goal

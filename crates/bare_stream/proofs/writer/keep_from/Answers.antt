@@ -1,5 +1,5 @@
 -- A number below a power of two, and the field that it spells.
-use Rattle.std.proofs.Common.{◌≡◌, ℕ, ◌-◌, Bool, List, ◌++◌, drop, take, ap, ap₂, ◌∙◌, arith}
+use Rattle.std.proofs.Common.{ℕ, ◌-◌, Bool, List, ◌++◌, drop, take, ap, ap₂, ◌∙◌, arith}
 use Rattle.pel_bits.specs.Bits.{number, field}
 use Rattle.bare_stream.proofs.PackedLemmas.{kept-fits, kept-field}
 use Rattle.bare_stream.proofs.writer.keep_from.Goals as goal

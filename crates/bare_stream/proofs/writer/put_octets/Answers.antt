@@ -1,5 +1,5 @@
 -- The octets are what their bits spell.
-use Rattle.std.proofs.Common.{◌<◌, arith}
+use Rattle.std.proofs.Common.{arith}
 use Rattle.bare_stream.proofs.PackedLemmas.{put-done, put-failed, spelled-bits}
 use Rattle.bare_stream.proofs.writer.put_octets.Goals as goal
 

@@ -1,5 +1,5 @@
 -- What is there was taken.
-use Rattle.std.proofs.Common.{◌≡◌, ◌≤◌, ◌*◌, ◌^◌, ap, length, arith}
+use Rattle.std.proofs.Common.{ap, length, arith}
 use Rattle.bare_stream.proofs.Buffers.{rest-length}
 use Rattle.bare_stream.proofs.reader.Bare.bad_at.Goals as goal
 

@@ -1,5 +1,5 @@
 -- Octets have eight bits each.
-use Rattle.std.proofs.Common.{◌≡◌, sym, ◌∙◌, ap, length, arith}
+use Rattle.std.proofs.Common.{sym, ◌∙◌, ap, length, arith}
 use Rattle.bare_stream.proofs.Buffers.{rest-length}
 use Rattle.bare_stream.proofs.reader.Bare.len.Goals as goal
 

@@ -1,5 +1,5 @@
 -- First octets, then a picture.
-use Rattle.std.proofs.Common.{◌≡◌, sym, subst, ◌∙◌}
+use Rattle.std.proofs.Common.{sym, subst, ◌∙◌}
 use Rattle.bare_stream.specs.Reading.{BareReading, CallsBare, Gives}
 use Rattle.bare_stream.proofs.Readings.{called, goes-on}
 use Rattle.bare_stream.proofs.reader.Bare.next.Goals as goal

@@ -1,13 +1,12 @@
 -- What was fetched stands behind the rest.
-use Rattle.std.proofs.Common.{◌≡◌, ℕ, ◌+◌, ◌-◌, ◌*◌, ◌/◌, ◌%◌, ◌≤◌, Bool, List, ◌++◌, Option, None, Some, length, take, drop, length-drop, length-take, refl, sym, subst, ◌∙◌, ap, arith, rules}
+use Rattle.std.proofs.Common.{◌≡◌, ℕ, ◌-◌, ◌/◌, ◌≤◌, List, ◌++◌, Option, None, Some, length, take, drop, length-drop, length-take, sym, subst, ◌∙◌, ap, arith}
 use borrow.Rule.Slice.PartMut.{put_mid, post_of, same_len_mid}
 use Rattle.std.specs.Vec.{with_items}
 use Rattle.std.proofs.lemmas.List.{with_items_is}
-use Rattle.bare_stream.specs.Filling.{window}
 use Rattle.bare_stream.specs.Reading.{BareReading, Asked}
 use Rattle.pel_bits.specs.Bits.{bits}
 use Rattle.bare_stream.proofs.Buffers.{moved, rest-more, rest-all, all-enough}
-use Rattle.io_edge.specs.Allowance.{AllowanceState, TakesOctets, Paused}
+use Rattle.io_edge.specs.Allowance.{AllowanceState, TakesOctets}
 use Rattle.io_edge.specs.declared.allowance.Pause.{Pause}
 use Rattle.bare_stream.proofs.reader.Bare.take_octets.Goals as goal
 
@@ -30,7 +29,7 @@ returns-in-Ok g c =
     with_items_is v (put_mid left (length lent - left) lent out) long ∙ ap (λ (t : List ℕ). take left t ++ (out ++ behind)) c.deref_mut.ensures.value in
     let rest =
     rest-all b.octets.items (with_items v (put_mid left (length lent - left) lent out)).items v.items out behind b.filled b.from c.len-self-inside.result c.self.invariant.0 inside front (omega (arith, inside, same)) items
-    (omega (arith, c.len-self-inside.ensures, c.fetch.auto.out, c.deref_mut.ensures.len, length-drop left lent, length-take (length lent - left) (drop left lent), inside, same, c.deref_mut.ensures.value)) in
+    (omega (arith, c.len-self-inside.ensures, c.fetch.auto.out, c.deref_mut.ensures.len, length-drop left lent, length-take (length lent - left) (drop left lent), inside, same)) in
     record {
       took = out;
       takes = subst (λ (a : AllowanceState). TakesOctets (g.S.Source.tells c.args.source.now) (g.S.Source.tells c.fetch.new.source) a c.fetch.new.self out) (ap (λ (r : BareReading). r.allowance) c.self.view_is) c.in-Ok.ensures.0;

@@ -1,5 +1,5 @@
 -- The whole octets of all bits are the first of those that hold them.
-use Rattle.std.proofs.Common.{◌≡◌, ℕ, ◌*◌, ◌/◌, Bool, List, ◌++◌, length, arith, refl, sym, ◌∙◌, ap, ap₂, length-take}
+use Rattle.std.proofs.Common.{◌*◌, ◌/◌, Bool, List, ◌++◌, arith, sym, ◌∙◌, ap, ap₂}
 use Rattle.std.proofs.lemmas.List.{length-take-le}
 use Rattle.bare_stream.specs.Packed.{octets_spelled, left_over}
 use Rattle.bare_stream.proofs.PackedLemmas.{spelled-front, left-drop, puts-same, length-filled}
