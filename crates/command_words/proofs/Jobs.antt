@@ -11,7 +11,7 @@ use Rattle.command_words.specs.Asks.{Asks, IsInRange, mtu, ticks, lanes, turns}
 use Rattle.command_words.specs.Answers.{Refuses, FindsAsked, OptionsOf, HasOptions, IsJobOf, command_of, options_of, name_of_command, option_names}
 use Rattle.command_words.proofs.Digits.{number_within}
 use Rattle.command_words.proofs.Parts.{names_within}
-use Rattle.command_words.proofs.OneJob.{Splits, splits, joins, same_command, first_text, rest_texts, one_job}
+use Rattle.command_words.proofs.OneJob.{splits, joins, same_command, first_text, rest_texts, one_job}
 
 -- where one thing that is needed is not found, nothing is
 pub lacks : {O P : Type 0} (Has : O → Type 0) (Needs : P → Type 0) (e : WordsFault) → Refuses Needs e

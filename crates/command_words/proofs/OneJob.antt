@@ -1,5 +1,5 @@
 -- Words ask for at most one job.
-use Rattle.std.proofs.Common.{◌≡◌, ℕ, List, [], ◌∷◌, Option, Some, None, refl, ap, sym, subst, ◌∙◌, codes, cond}
+use Rattle.std.proofs.Common.{◌≡◌, ℕ, List, ◌∷◌, Option, Some, None, refl, ap, sym, subst, ◌∙◌, codes, cond}
 use Rattle.std.specs.Str.{bytes_eq}
 use Rattle.pel_model.specs.declared.Format.{Format}
 use Rattle.pel_model.specs.declared.Format.TheVariants.{Qcif, Cif}
@@ -11,7 +11,7 @@ use Rattle.command_words.specs.declared.job.PacketOptions.{PacketOptions}
 use Rattle.command_words.specs.declared.job.FormatOptions.{FormatOptions}
 use Rattle.command_words.specs.declared.job.MakeOptions.{MakeOptions}
 use Rattle.command_words.specs.declared.job.LiveOptions.{LiveOptions}
-use Rattle.command_words.specs.Options.{Text, Number, given, number_given}
+use Rattle.command_words.specs.Options.{Text, Number, number_given}
 use Rattle.command_words.specs.Asks.{mtu, ssrc, seq, stamp, seed, ticks, lanes, turns, Asks, OneJob, IsCommand, IsFormat, HasPackets, HasMake, HasLive, format_name}
 use Rattle.command_words.specs.Answers.{name_of_command, option_names, command_of, OptionsOf, options_of, HasOptions}
 
