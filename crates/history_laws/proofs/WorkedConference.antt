@@ -1,7 +1,7 @@
 -- A worked conference of two lanes, with a loss, a swap and back, a refresh and the end, and one whose lane overflows: what
 -- is taken, for whom it waits, what is written and what is shown, with values that were computed apart from these
 -- definitions; and it is legal, so that the laws of legal histories speak of it.
-use Rattle.std.proofs.Common.{◌≡◌, ℕ, ◌+◌, ◌*◌, ◌<◌, ◌≤◌, Bool, true, false, List, [], ◌∷◌, ◌++◌, length, map, replicate, Option, Some, None, refl, ap, arith}
+use Rattle.std.proofs.Common.{◌≡◌, ℕ, ◌+◌, ◌*◌, ◌<◌, ◌≤◌, Bool, true, false, List, [], ◌∷◌, ◌++◌, length, map, replicate, Option, Some, None, refl, sym, ap, arith}
 use Rattle.std.proofs.lemmas.Option.{none-some}
 use Rattle.pel_model.specs.Headers.{group_header_text, picture_header_text}
 use Rattle.pel_model.specs.declared.Format.TheVariants.{Cif}
@@ -280,8 +280,23 @@ step_too_long legal = omega (arith, legal.2.high)
 pub wrong_total : Legal 2 (Tick (note_of 2 1 None None 0) ∷ []) → ⊥
 wrong_total legal = omega (arith, legal.2.total)
 
-pub nothing_taken : Legal 2 (Tick (note_of 1 1 None None 2) ∷ before_first) → ⊥
+pub nothing_taken : Legal 2 (Tick (note_of 1 1 None None 3) ∷ before_first) → ⊥
 nothing_taken legal = none-some (record { lane = 0; serial = 1 }) (legal.2.takes One)
 
 pub wrong_wait : Legal 2 (Tick (note_of 1 1 (took 0 1) None 3) ∷ before_first) → ⊥
 wrong_wait legal = let wrong : 3 ≡ 2 = legal.2.waits in omega arith
+
+-- what was not there to take, and in a place where no lane stands
+pub taken_of_nothing : Legal 2 (Tick (note_of 1 1 (took 0 1) None 0) ∷ []) → ⊥
+taken_of_nothing legal = none-some (record { lane = 0; serial = 1 }) (sym (legal.2.takes One))
+
+-- a picture that is no valid picture: TR 32
+abbrev unfit : Picture
+unfit = record { tr = 32; groups = grey.groups }
+
+pub unfit_picture : Legal 2 (Post 0 unfit ∷ []) → ⊥
+unfit_picture legal = omega (arith, legal.2.1.valid.so_far.tr)
+
+-- a step that is not legal is not made so by those behind it
+pub illegal_below : Legal 2 (Gap 0 ∷ Gap 2 ∷ []) → ⊥
+illegal_below legal = omega (arith, legal.0.2)

@@ -5,10 +5,12 @@ pub mod Steps
 pub mod Walks
 pub mod WorkedForms
 mod WorkedMarks
+mod WorkedNotes
 mod WorkedOutcomes
 mod WorkedBlocks
 mod WorkedFrames
 mod WorkedPictures
+mod WorkedPlan
 mod WorkedPlaces
 pub mod WorkedRecords
 mod WorkedRules

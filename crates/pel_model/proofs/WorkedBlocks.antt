@@ -1,5 +1,5 @@
 -- Worked values of transforms and residuals, that were computed apart from these definitions.
-use Rattle.std.specs.Prelude.{◌≡◌, ℕ, ◌/◌, ◌%◌, ℤ, pos, List, [], ◌∷◌, map, replicate, Some, None, true, false, refl}
+use Rattle.std.specs.Prelude.{◌≡◌, ℕ, ◌/◌, ◌%◌, ℤ, pos, List, [], ◌∷◌, ◌++◌, map, replicate, Some, None, true, false, refl}
 use Rattle.std.specs.List.{range_with_len}
 use Rattle.pel_model.specs.Records.{Coefficient}
 use Rattle.pel_model.specs.Residual.{reconstructed, with_zeros, transmission_order, coefficients_of, residual}
@@ -16,6 +16,39 @@ first_alone n = n ∷ replicate 63 (pos 0)
 pub evenly_spread : (in_rows (fixed (first_alone (pos 1024))) ≡ replicate 64 (pos 128)) × (in_rows (fixed (first_alone (pos 23))) ≡ replicate 64 (pos 3))
 unfolding fixed sum_below kernel_rows
 evenly_spread = (refl, refl)
+
+-- one coefficient alone, of this horizontal index: the first row that it gives, at values by which each entry of the kernel shows
+-- in both directions
+abbrev first_row : ℕ × ℤ → List ℤ
+first_row a = map (λ x. fixed (replicate a.0 (pos 0) ++ a.1 ∷ []) x 0) (range_with_len 0 8)
+
+pub kernel_values : map first_row
+    ((0, minus 4) ∷ (0, minus 1797) ∷ (1, minus 972) ∷ (1, minus 1405) ∷ (1, minus 779) ∷ (2, minus 732) ∷ (2, minus 1191)
+    ∷ (3, minus 972) ∷ (3, minus 1405) ∷ (3, minus 779) ∷ (4, minus 4) ∷ (4, minus 1797) ∷ (5, minus 972) ∷ (5, minus 1405)
+    ∷ (5, minus 779) ∷ (6, minus 732) ∷ (6, minus 1191) ∷ (7, minus 972) ∷ (7, minus 1405) ∷ (7, minus 779) ∷ [])
+    ≡ (pos 0 ∷ pos 0 ∷ pos 0 ∷ pos 0 ∷ pos 0 ∷ pos 0 ∷ pos 0 ∷ pos 0 ∷ [])
+    ∷ (minus 225 ∷ minus 225 ∷ minus 225 ∷ minus 225 ∷ minus 225 ∷ minus 225 ∷ minus 225 ∷ minus 225 ∷ [])
+    ∷ (minus 168 ∷ minus 143 ∷ minus 95 ∷ minus 34 ∷ pos 34 ∷ pos 95 ∷ pos 143 ∷ pos 168 ∷ [])
+    ∷ (minus 244 ∷ minus 207 ∷ minus 138 ∷ minus 48 ∷ pos 48 ∷ pos 138 ∷ pos 207 ∷ pos 244 ∷ [])
+    ∷ (minus 135 ∷ minus 114 ∷ minus 77 ∷ minus 27 ∷ pos 27 ∷ pos 77 ∷ pos 114 ∷ pos 135 ∷ [])
+    ∷ (minus 120 ∷ minus 49 ∷ pos 49 ∷ pos 120 ∷ pos 120 ∷ pos 49 ∷ minus 49 ∷ minus 120 ∷ [])
+    ∷ (minus 194 ∷ minus 81 ∷ pos 81 ∷ pos 194 ∷ pos 194 ∷ pos 81 ∷ minus 81 ∷ minus 194 ∷ [])
+    ∷ (minus 143 ∷ pos 34 ∷ pos 168 ∷ pos 95 ∷ minus 95 ∷ minus 168 ∷ minus 34 ∷ pos 143 ∷ [])
+    ∷ (minus 207 ∷ pos 48 ∷ pos 244 ∷ pos 138 ∷ minus 138 ∷ minus 244 ∷ minus 48 ∷ pos 207 ∷ [])
+    ∷ (minus 114 ∷ pos 27 ∷ pos 135 ∷ pos 77 ∷ minus 77 ∷ minus 135 ∷ minus 27 ∷ pos 114 ∷ [])
+    ∷ (pos 0 ∷ pos 0 ∷ pos 0 ∷ pos 0 ∷ pos 0 ∷ pos 0 ∷ pos 0 ∷ pos 0 ∷ [])
+    ∷ (minus 225 ∷ pos 225 ∷ pos 225 ∷ minus 225 ∷ minus 225 ∷ pos 225 ∷ pos 225 ∷ minus 225 ∷ [])
+    ∷ (minus 95 ∷ pos 168 ∷ minus 34 ∷ minus 143 ∷ pos 143 ∷ pos 34 ∷ minus 168 ∷ pos 95 ∷ [])
+    ∷ (minus 138 ∷ pos 244 ∷ minus 48 ∷ minus 207 ∷ pos 207 ∷ pos 48 ∷ minus 244 ∷ pos 138 ∷ [])
+    ∷ (minus 77 ∷ pos 135 ∷ minus 27 ∷ minus 114 ∷ pos 114 ∷ pos 27 ∷ minus 135 ∷ pos 77 ∷ [])
+    ∷ (minus 49 ∷ pos 120 ∷ minus 120 ∷ pos 49 ∷ pos 49 ∷ minus 120 ∷ pos 120 ∷ minus 49 ∷ [])
+    ∷ (minus 81 ∷ pos 194 ∷ minus 194 ∷ pos 81 ∷ pos 81 ∷ minus 194 ∷ pos 194 ∷ minus 81 ∷ [])
+    ∷ (minus 34 ∷ pos 95 ∷ minus 143 ∷ pos 168 ∷ minus 168 ∷ pos 143 ∷ minus 95 ∷ pos 34 ∷ [])
+    ∷ (minus 48 ∷ pos 138 ∷ minus 207 ∷ pos 244 ∷ minus 244 ∷ pos 207 ∷ minus 138 ∷ pos 48 ∷ [])
+    ∷ (minus 27 ∷ pos 77 ∷ minus 114 ∷ pos 135 ∷ minus 135 ∷ pos 114 ∷ minus 77 ∷ pos 27 ∷ [])
+    ∷ []
+unfolding fixed sum_below kernel_rows
+kernel_values = refl
 
 -- 64 coefficients that were drawn at random
 abbrev drawn : List ℤ

@@ -3,7 +3,7 @@
 use Rattle.std.specs.Prelude.{◌≡◌, ℕ, ◌+◌, ◌*◌, ◌%◌, ℤ, pos, List, [], ◌∷◌, map, replicate, Option, Some, None, false, refl}
 use Rattle.pel_model.specs.declared.Format.TheVariants.{Qcif, Cif}
 use Rattle.pel_model.specs.declared.MbKind.{MbKind}
-use Rattle.pel_model.specs.declared.MbKind.TheVariants.{Intra, Inter, InterQuant, Mc, McFil}
+use Rattle.pel_model.specs.declared.MbKind.TheVariants.{Intra, Inter, InterQuant, Mc, McCoded, McQuant, McFil, McFilCoded, McFilQuant}
 use Rattle.pel_model.specs.declared.Quad.TheVariants.{One, Two, Three, Four}
 use Rattle.pel_model.specs.Crop.{crop}
 use Rattle.pel_model.specs.Decode.{decode}
@@ -68,6 +68,48 @@ pub moved_values : samples (decode Qcif fixed uneven (pictured (moving 13 Mc (mi
     ≡ 121 ∷ 48 ∷ 73 ∷ 240 ∷ 28 ∷ 88 ∷ 216 ∷ 65 ∷ 169 ∷ 39 ∷ []
 unfolding decode residual coefficients_of with_zeros transmission_order reconstructed fixed sum_below kernel_rows
 moved_values = refl
+
+-- each kind that is predicted, with vectors of both signs, at the sides and inside of blocks: three of them are filtered
+abbrev sent_so : (address : ℕ) → MbKind → Option ℕ → (across down : ℤ) → List (Option Block) → Macroblock
+sent_so address kind mquant across down blocks = record { address = address; kind = kind; mquant = mquant; across = across; down = down; blocks = blocks }
+
+pub kinds_values : samples (decode Qcif fixed uneven (pictured
+    (sent_so 13 McFilCoded None (pos 2) (minus 1) (level_alone (pos 1))
+    ∷ sent_so 14 McFilQuant (Some 20) (minus 5) (pos 3) (level_alone (minus 2))
+    ∷ sent_so 15 McCoded None (pos 3) (pos 4) (level_alone (pos 1))
+    ∷ sent_so 16 McQuant (Some 5) (minus 3) (minus 4) (level_alone (pos 2))
+    ∷ moving 17 Mc (minus 1) (pos 2)
+    ∷ coded 18 Inter None (pos 1)
+    ∷ []) [] []))
+    ((Luminance, 16, 16) ∷ (Luminance, 18, 19) ∷ (Luminance, 23, 20) ∷ (Luminance, 26, 29) ∷ (Cb, 11, 12) ∷ (Cr, 8, 13)
+    ∷ (Luminance, 32, 16) ∷ (Luminance, 35, 18) ∷ (Luminance, 36, 23) ∷ (Cb, 17, 9) ∷ (Cr, 20, 12)
+    ∷ (Luminance, 48, 16) ∷ (Luminance, 50, 19) ∷ (Luminance, 61, 28) ∷ (Cb, 27, 13)
+    ∷ (Luminance, 66, 18) ∷ (Luminance, 71, 23) ∷ (Luminance, 70, 30) ∷ (Cr, 35, 10)
+    ∷ (Luminance, 82, 18) ∷ (Luminance, 91, 27) ∷ (Cb, 44, 11)
+    ∷ (Luminance, 98, 18) ∷ (Luminance, 101, 21) ∷ (Luminance, 107, 28) ∷ (Cb, 50, 11) ∷ [])
+    ≡ 214 ∷ 98 ∷ 21 ∷ 83 ∷ 136 ∷ 138
+    ∷ 221 ∷ 122 ∷ 156 ∷ 143 ∷ 140
+    ∷ 244 ∷ 158 ∷ 0 ∷ 134
+    ∷ 174 ∷ 68 ∷ 39 ∷ 62
+    ∷ 109 ∷ 167 ∷ 181
+    ∷ 134 ∷ 83 ∷ 37 ∷ 184 ∷ []
+unfolding decode residual coefficients_of with_zeros transmission_order reconstructed fixed sum_below kernel_rows
+kinds_values = refl
+
+-- a residual that is no two places alike: each sample of it goes to its own column and row
+abbrev levels_at : List (ℕ × ℤ) → Option Block
+levels_at levels = Some (record { dc = None; coefficients = map (λ (l : ℕ × ℤ). record { run = l.0; level = l.1; long = false }) levels })
+
+pub residual_places : samples (decode Qcif fixed (flat 128) (pictured
+    (sent_so 1 Inter None (pos 0) (pos 0)
+    (levels_at ((0, pos 6) ∷ (0, minus 3) ∷ []) ∷ None ∷ None ∷ levels_at ((2, pos 5) ∷ (0, pos 2) ∷ []) ∷ None ∷ levels_at ((1, minus 4) ∷ []) ∷ [])
+    ∷ []) [] []))
+    ((Luminance, 0, 0) ∷ (Luminance, 1, 0) ∷ (Luminance, 7, 0) ∷ (Luminance, 0, 1) ∷ (Luminance, 7, 7) ∷ (Luminance, 3, 5) ∷ (Luminance, 5, 3)
+    ∷ (Luminance, 8, 8) ∷ (Luminance, 9, 8) ∷ (Luminance, 8, 9) ∷ (Luminance, 15, 15) ∷ (Luminance, 13, 10) ∷ (Luminance, 10, 13)
+    ∷ (Cr, 0, 0) ∷ (Cr, 1, 0) ∷ (Cr, 0, 1) ∷ (Cr, 7, 3) ∷ (Cr, 3, 7) ∷ (Cb, 0, 0) ∷ [])
+    ≡ 131 ∷ 133 ∷ 150 ∷ 131 ∷ 150 ∷ 139 ∷ 146 ∷ 149 ∷ 149 ∷ 143 ∷ 119 ∷ 134 ∷ 117 ∷ 116 ∷ 118 ∷ 116 ∷ 140 ∷ 126 ∷ 128 ∷ []
+unfolding decode residual coefficients_of with_zeros transmission_order reconstructed fixed sum_below kernel_rows
+residual_places = refl
 
 -- MQUANT 20 holds for its macroblock and for those behind it in the group, and not in the next group
 pub quantiser_values : samples (decode Qcif fixed (flat 128) (pictured (coded 1 Inter None (pos 1) ∷ coded 2 InterQuant (Some 20) (pos 1) ∷ coded 3 Inter None (pos 1) ∷ coded 5 Inter None (pos 1) ∷ []) (coded 1 Inter None (pos 1) ∷ []) []))

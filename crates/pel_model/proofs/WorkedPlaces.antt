@@ -1,14 +1,16 @@
 -- Worked compositions: the text of a CIF picture with another picture in each place, and of one with a picture in one place
 -- alone, as another implementation makes them.
-use Rattle.std.specs.Prelude.{◌≡◌, ℕ, zero, suc, ◌+◌, Bool, List, [], ◌∷◌, ◌++◌, map, take, drop, replicate, None, pos, negsuc, codes, refl}
+use Rattle.std.specs.Prelude.{◌≡◌, ℕ, zero, suc, ◌+◌, Bool, List, [], ◌∷◌, ◌++◌, map, take, drop, replicate, Option, Some, None, pos, negsuc, codes, refl}
 use Rattle.pel_model.specs.Headers.{group_header_text, picture_header_text}
 use Rattle.pel_model.specs.declared.Format.TheVariants.{Cif}
 use Rattle.pel_model.specs.declared.MbKind.TheVariants.{Intra, Inter, Mc, McCoded, McFil}
+use Rattle.pel_model.specs.declared.Quad.{Quad}
 use Rattle.pel_model.specs.declared.Quad.TheVariants.{One, Two, Three, Four}
 use Rattle.pel_model.specs.Bits.{field, number}
+use Rattle.pel_model.specs.Composed.{composed_of, groups_in}
 use Rattle.pel_model.specs.Codes.{mba_table, mtype_table, mvd_table, cbp_table, tcoeff_table}
-use Rattle.pel_model.specs.Records.{Macroblock, Picture}
-use Rattle.pel_model.specs.Regions.{number_of, composed, shown_in}
+use Rattle.pel_model.specs.Records.{Macroblock, Group, Picture}
+use Rattle.pel_model.specs.Regions.{number_of, blank, composed, shown_in}
 use Rattle.pel_model.specs.Text.{text, macroblocks_text, macroblock_text, block_text, coefficient_word}
 use Rattle.pel_model.proofs.WorkedRecords.{digits, pair, coded, intra, only, none_sent, sent, group_of}
 
@@ -187,3 +189,26 @@ headers_of_the_fourth = refl
 
 pub numbers_of_places : map number_of (One ∷ Two ∷ Three ∷ Four ∷ []) ≡ 1 ∷ 2 ∷ 3 ∷ 4 ∷ []
 numbers_of_places = refl
+
+-- ---- each place gets its own picture, and a place that is shown none sends nothing
+
+abbrev each : Quad → Option Picture
+each One = Some first
+each Two = Some second
+each Three = Some third
+each Four = Some fourth
+
+pub in_each_place : composed_of 7 each ≡ composed 7 first second third fourth
+in_each_place = refl
+
+abbrev third_alone : Quad → Option Picture
+third_alone Three = Some third
+third_alone _ = None
+
+pub in_one_place : composed_of 8 third_alone ≡ composed 8 blank blank third blank
+in_one_place = refl
+
+-- the groups of a CIF picture that stand in each place
+pub groups_of_places : map (λ (q : Quad). map (λ (g : Group). g.number) (groups_in q (composed 7 first second third fourth))) (One ∷ Two ∷ Three ∷ Four ∷ [])
+    ≡ (1 ∷ 3 ∷ 5 ∷ []) ∷ (2 ∷ 4 ∷ 6 ∷ []) ∷ (7 ∷ 9 ∷ 11 ∷ []) ∷ (8 ∷ 10 ∷ 12 ∷ []) ∷ []
+groups_of_places = refl

@@ -90,6 +90,14 @@ full_blocks = (
   (refl, below 0 1 refl, (one_alone (escape 63 (pos 1)) (long_one 63 (at_most 63 63 refl)), at_most 64 64 refl)),
 )
 
+-- INTRADC 1, 127 and 129, beside what is forbidden
+pub border_blocks : IsIntraBlock (block (Some 1) []) × IsIntraBlock (block (Some 127) []) × IsIntraBlock (block (Some 129) [])
+border_blocks = (
+  ((below 0 1 refl, at_most 1 255 refl, λ h. omega (arith, h)), (All-nil IsValidCoefficient, at_most 1 64 refl)),
+  ((below 0 127 refl, at_most 127 255 refl, λ h. omega (arith, h)), (All-nil IsValidCoefficient, at_most 1 64 refl)),
+  ((below 0 129 refl, at_most 129 255 refl, λ h. omega (arith, h)), (All-nil IsValidCoefficient, at_most 1 64 refl)),
+)
+
 -- INTRADC 0, 128, 256 and none; a 65th place; a coefficient that is not valid
 pub bad_intra_blocks :
     Not (IsIntraBlock (block (Some 0) []))
