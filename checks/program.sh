@@ -178,6 +178,16 @@ try_line '{ head -c 1183 "$2"; sleep 2; } | "$1" check > "$3/report" & sleep 1; 
 ended "a lane that pauses" 0
 is "its first picture is told meanwhile" test "$(cat "$room/out")" -eq 1
 
+# How far long work has come is told where standard error is a terminal, and taken away before the line.
+try_line '{ head -c 1183 "$2"; sleep 1; } | python3 -B "$3/terminal.py" "$1" decode' \
+    "$program" "$top/examples/bars_lane.rtp" "$top/checks"
+ended "decode at a terminal" 0
+printf '\rread 0 MB\r\033[Kdone pictures 1 gaps 0 octets 152064\n' | cmp -s - "$room/err"
+judge $? "it said: $(cat -v "$room/err")"
+try_line 'python3 -B "$3/terminal.py" "$1" replay < "$2"' "$program" "$striped" "$top/checks"
+ended "short work at a terminal" 0
+is "it tells its end alone" test "$(cut -c1-5 "$room/err")" = "done "
+
 # A live conference whose standard input is closed, which no file that it opens stands for.
 printf '1\n' > "$room/step"
 fails "live, input closed" 3 "fault read" '"$1" live --lanes="$2/step" --chair=/dev/null <&-' "$program" "$room"

@@ -10,6 +10,7 @@ mod live;
 mod live_tests;
 mod notes;
 mod opening;
+mod progress;
 mod run;
 mod settings;
 mod status;
@@ -22,11 +23,12 @@ use command_words::{Command, Job, read_words, unknown_command, what_is_wrong};
 use io_edge::{Failed, FileHouse, LineTicker, MemSink, ReadEdge, WriteEdge, put_all};
 use live::{LiveEnd, live};
 use notes::{failed, note};
+use progress::Progress;
 use run::run;
 use status::Status;
 use std::env;
 use std::fs::{self, File};
-use std::io::{self, BufReader, BufWriter, ErrorKind, Read, Write};
+use std::io::{self, BufReader, BufWriter, ErrorKind, IsTerminal, Read, Write};
 use std::process::ExitCode;
 use std::sync::Wait;
 use std::thread::Threads;
@@ -150,10 +152,15 @@ fn obey(rt: &HostRuntime, threads: &(impl Threads + Wait + Sync), words: &[Strin
 
 // Runs the words from standard input into a writer. What the writer holds back is handed on before the line of notes is, so
 // that the line tells of that too.
-fn run_into(rt: &HostRuntime, words: &[String], writer: impl Write) -> Status {
+fn run_into(rt: &HostRuntime, words: &[String], writer: impl Write + Drop) -> Status {
     let alloc = rt.alloc();
-    let mut beginning = Beginning::new(rt.reader());
-    let Ok(reader) = BufReader::with_capacity(alloc, BUFFER, &mut beginning) else {
+    let mut progress = Progress::new(
+        Beginning::new(rt.reader()),
+        rt,
+        input_size(rt),
+        is_watched(rt),
+    );
+    let Ok(reader) = BufReader::with_capacity(alloc, BUFFER, &mut progress) else {
         return tell(rt, Status::NoMemory);
     };
     let Ok(mut notes) = MemSink::reserve(alloc, LONGEST_NOTE, Vec::new(alloc), LONGEST_NOTE) else {
@@ -163,6 +170,8 @@ fn run_into(rt: &HostRuntime, words: &[String], writer: impl Write) -> Status {
     let mut output = WriteEdge::new(writer);
     let ran = run(alloc, words, &mut input, &mut output, &mut notes);
     let status = ran.after_flush(output.flush());
+    drop(input);
+    let beginning = progress.ended();
     let status = if status == ran {
         hand_on(rt, status, notes.bytes())
     } else {
@@ -172,6 +181,19 @@ fn run_into(rt: &HostRuntime, words: &[String], writer: impl Write) -> Status {
         let _told = tell_kind(rt, status, command, kind);
     }
     status
+}
+
+// Whether a person is told how far long work has come: where standard error is a terminal that the output does not go to.
+fn is_watched(rt: &HostRuntime) -> bool {
+    rt.stderr().is_terminal() && !rt.stdout().is_terminal()
+}
+
+// The octets of standard input, where it is a file.
+fn input_size(rt: &HostRuntime) -> Option<u64> {
+    match fs::metadata(rt, "/dev/stdin") {
+        Ok(metadata) if metadata.is_file() => Some(metadata.len()),
+        _ => None,
+    }
 }
 
 // Tells a person whose input is at fault that it looks like another kind of file than the command reads.
