@@ -2,8 +2,8 @@
 # checks/program.sh PROGRAM: the ends of the built program as a shell sees them, each with its status, what was written
 # and what was said. What is written for a file is the work of the proof; here it is compared for the examples alone.
 . "$(dirname -- "$0")/lib.sh"
-cp "$1" "$room/bridge_cli"
-program=$room/bridge_cli
+cp "$1" "$room/ballastkiwi"
+program=$room/ballastkiwi
 striped=$top/examples/striped_top_right.conf
 
 for example in grey_top_left:866 grey_bottom_right:866 striped_top_right:1014; do
@@ -50,8 +50,8 @@ gives "decode" "$room/made.rtp" "done pictures 1000 gaps 0 octets 152064000" \
     8fefbccdf0529d0f410a309633232ef4ef3f7173cb7444d747b1a26170792ed4 made.yuv
 rm "$room/made.yuv"
 
-# is_usage NAME LINE WORDS..: the line asks for no job. The line of notes and a usage text are on standard error, and nothing
-# on standard output.
+# is_usage NAME LINE WORDS..: the line asks for no job. The line of notes is on standard error, with more behind it
+# (words.sh), and nothing on standard output.
 is_usage() {
     case_name=$1
     shift
@@ -59,7 +59,7 @@ is_usage() {
     ended "$case_name" 2
     wrote_nothing
     is "its first line" test "$(head -n 1 "$room/err")" = "fault usage"
-    is "its second line" test "$(sed -n 2p "$room/err" | cut -c1-18)" = "Usage: bridge_cli "
+    is "it says more" test "$(wc -l < "$room/err")" -gt 2
 }
 is_usage "no words" '"$1" < "$2"' "$program" "$striped"
 is_usage "an unknown word" '"$1" Replay < "$2"' "$program" "$striped"
@@ -107,22 +107,24 @@ for option in mtu ssrc seq stamp format seed ticks lanes chair turns; do
 done
 for case in replay:mtu check:format decode:format make:ticks live:turns; do
     command=${case%:*}
-    is "--help names the command $command" grep -q "bridge_cli $command " "$room/help"
+    is "--help names the command $command" grep -q "ballastkiwi $command " "$room/help"
     try "$program" "$command" --help
     ended "$command --help" 0
     is "it names its options" grep -q -e "--${case#*:}=" "$room/out"
-    is "it has an example" grep -q -e "bridge_cli $command" "$room/out"
+    is "it has an example" grep -q -e "ballastkiwi $command" "$room/out"
 done
 try "$program" --version
 ended "--version" 0
 said_nothing
-echo "bridge_cli 0.1.0" > "$room/version"
+echo "ballastkiwi 0.1.0" > "$room/version"
 wrote "$room/version"
 for word in --help --version; do
     try_line '"$1" "$2" > /dev/full' "$program" "$word"
     ended "$word, output full" 4
+    said_line "fault write"
     try_line '"$1" "$2" >&-' "$program" "$word"
     ended "$word, output closed" 4
+    said_line "fault write"
 done
 
 # The example of --help, word for word, at the top of the repository.
@@ -133,6 +135,15 @@ try_line 'cd "$1/top" && PATH=$1:$PATH && set -e && . "$1/example"' "$room"
 ended "the example of --help" 0
 is "it has two commands" test "$(wc -l < "$room/example")" -eq 2
 is "its video begins with a picture" test "$(od -An -tx1 -N3 "$room/top/composed.h261")" = " 00 01 01"
+
+# The example of live --help, word for word: it shows something.
+if command -v bash > /dev/null; then
+    sed -n '/examples\/timer/,$s/^ *example: \(.*\)  (.*/\1/p' "$room/help" > "$room/example"
+    is "live has an example" test -s "$room/example"
+    try bash -c 'cd "$1/top" && PATH=$1:$PATH && . "$1/example"' bash "$room"
+    ended "the example of live --help" 0
+    is "it shows pictures of the lane: $(cat "$room/err")" grep -q ' taken [1-9]' "$room/err"
+fi
 
 # fails NAME STATUS LINE_OF_NOTES LINE WORDS..: the line ends so, writes nothing, and says this.
 fails() {
@@ -161,6 +172,29 @@ fails "a frame is cut" 5 "fault cut at 1" 'printf "\0" | "$1" check' "$program"
 fails "no frames to decode" 0 "done pictures 0 gaps 0 octets 0" '"$1" decode < /dev/null' "$program"
 fails "decode of a directory" 3 "fault read" '"$1" decode < /' "$program"
 fails "make, output full" 4 "fault write" '"$1" make > /dev/full' "$program"
+# a line of a report is there as soon as its packet is
+try_line '{ head -c 1183 "$2"; sleep 2; } | "$1" check > "$3/report" & sleep 1; wc -l < "$3/report"; wait' \
+    "$program" "$top/examples/bars_lane.rtp" "$room"
+ended "a lane that pauses" 0
+is "its first picture is told meanwhile" test "$(cat "$room/out")" -eq 1
+
+# How far long work has come is told where standard error is a terminal, and taken away before the line.
+try_line '{ head -c 1183 "$2"; sleep 1; } | python3 -B "$3/terminal.py" "$1" decode' \
+    "$program" "$top/examples/bars_lane.rtp" "$top/checks"
+ended "decode at a terminal" 0
+printf '\rread 0 MB\r\033[Kdone pictures 1 gaps 0 octets 152064\n' | cmp -s - "$room/err"
+judge $? "it said: $(cat -v "$room/err")"
+try_line 'python3 -B "$3/terminal.py" "$1" replay < "$2"' "$program" "$striped" "$top/checks"
+ended "short work at a terminal" 0
+is "it tells its end alone" test "$(cut -c1-5 "$room/err")" = "done "
+
+# A live conference whose standard input is closed, which no file that it opens stands for.
+printf '1\n' > "$room/step"
+fails "live, input closed" 3 "fault read" '"$1" live --lanes="$2/step" --chair=/dev/null <&-' "$program" "$room"
+fails "live, input and output closed" 3 "fault read" \
+    '"$1" live --lanes="$2/step" --chair=/dev/null <&- >&-' "$program" "$room"
+fails "live, input a directory" 3 "fault read" '"$1" live --lanes=none --chair=none < /' "$program"
+is_usage "live without a chair, input closed" '"$1" live --lanes=/dev/null <&-' "$program"
 
 # A live conference of one lane that sends nothing, but for the steps on standard input.
 silent="live --lanes=/dev/null --chair=/dev/null"
@@ -181,8 +215,6 @@ ended "turns too few" 7
 said_line "fault limit"
 wrote "$room/one"
 fails "live, output full" 4 "fault write" 'echo 1 | "$1" $2 > /dev/full' "$program" "$silent"
-fails "a lane that is not there" 8 "fault open 1" '"$1" live --lanes=/dev/null,none --chair=none' "$program"
-fails "a chair that is not there" 8 "fault open 16" '"$1" live --lanes=/dev/null --chair=none' "$program"
 head -c 100 "$top/examples/bars_lane.rtp" > "$room/cut_lane"
 fails "lanes that are cut or no files, and lines that say nothing" 0 \
     "done ticks 0 pictures 0 gaps 2 commands 0 refused 0 taken 0 packets 0 octets 0" \
@@ -214,8 +246,8 @@ loses "make" /dev/null
 fails "no conference file, output full" 6 "fault record at 0: header" '"$1" replay < "$1" > /dev/full' "$program"
 fails "input is empty, output full" 5 "fault cut at 0" '"$1" replay < /dev/null > /dev/full' "$program"
 fails "input is a directory, output closed" 3 "fault read" '"$1" replay < / >&-' "$program"
-fails "a lane that is not there, output full" 8 "fault open 0" \
-    '"$1" live --lanes=none --chair=none > /dev/full' "$program"
+try_line '"$1" live --lanes=none --chair=none > /dev/full' "$program"
+ended "a lane that is not there, output full" 8
 try_line '"$1" replay --mtu=999 < "$2" > /dev/full' "$program" "$striped"
 ended "words that ask for no job, output full" 2
 

@@ -8,6 +8,7 @@ checks/program.sh "$program" || status=1
 if [ -e "$program.by-rattle" ]; then
     checks/program.sh "$program.by-rattle" || status=1
 fi
+checks/words.sh "$program" || status=1
 checks/faults.sh "$program" || status=1
 checks/replay.sh "$program" || status=1
 checks/examples.sh "$PWD/$program" || status=1

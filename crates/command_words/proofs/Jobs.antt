@@ -1,125 +1,17 @@
 -- The job of a command with its options, and why there is none.
 use Rattle.std.proofs.Common.{◌≡◌, List, [], ◌∷◌, Result, Ok, Err, true, false, refl, ap, sym, subst, ◌∙◌, codes, ◌≢◌, length, map, arith, inl, inr}
 use Rattle.std.specs.Prelude.{IsErrAnd, IfOk, ◌⊎◌}
-use Rattle.pel_model.specs.declared.Format.TheVariants.{Qcif, Cif}
 use Rattle.command_words.specs.declared.fault.WordsFault.{WordsFault}
 use Rattle.command_words.specs.declared.fault.WordsFault.TheVariants.{Usage, NoMemory}
 use Rattle.command_words.specs.declared.help.Command.{Command}
-use Rattle.command_words.specs.declared.help.Command.TheVariants as command
 use Rattle.command_words.specs.declared.job.Job.{Job}
 use Rattle.command_words.specs.declared.job.Job.TheVariants.{Replay, Check, Decode, Make, Live}
-use Rattle.command_words.specs.declared.job.PacketOptions.{PacketOptions}
-use Rattle.command_words.specs.declared.job.FormatOptions.{FormatOptions}
-use Rattle.command_words.specs.declared.job.MakeOptions.{MakeOptions}
-use Rattle.command_words.specs.declared.job.LiveOptions.{LiveOptions}
 use Rattle.command_words.specs.Options.{Text, given, are_options}
-use Rattle.command_words.specs.Asks.{Asks, IsCommand, IsFormat, HasPackets, HasMake, HasLive, IsInRange, mtu, ticks, lanes, turns}
-use Rattle.command_words.specs.Answers.{Refuses, FindsAsked, HasOptions, IsJobOf, command_of, name_of_command, option_names}
+use Rattle.command_words.specs.Asks.{Asks, IsInRange, mtu, ticks, lanes, turns}
+use Rattle.command_words.specs.Answers.{Refuses, FindsAsked, OptionsOf, HasOptions, IsJobOf, command_of, options_of, name_of_command, option_names}
 use Rattle.command_words.proofs.Digits.{number_within}
 use Rattle.command_words.proofs.Parts.{names_within}
-use Rattle.command_words.proofs.OneJob.{differs, one_job}
-
--- what words that begin with a name ask, has that name and these options
-record Splits (name : Text) (options : List Text) (job : Job) : Type 0 where
-  named : name ≡ name_of_command (command_of job)
-  formed : are_options (option_names (command_of job)) options ≡ true
-  has : HasOptions options job
-
-first_text : (c d : Text) (xs ys : List Text) → (c ∷ xs) ≡ (d ∷ ys) → c ≡ d
-first_text c d xs ys e = cc
-
-rest_texts : (c d : Text) (xs ys : List Text) → (c ∷ xs) ≡ (d ∷ ys) → xs ≡ ys
-rest_texts c d xs ys e = cc
-
-split_by : (name : Text) (options : List Text) (job : Job) (rest : List Text)
-    → IsCommand (name ∷ options) (name_of_command (command_of job)) (option_names (command_of job)) rest → HasOptions rest job → Splits name options job
-split_by name options job rest is has =
-    let same = sym (rest_texts _ _ _ _ is.whole) in
-    record {
-      named = first_text _ _ _ _ is.whole;
-      formed = subst (λ l. are_options (option_names (command_of job)) l ≡ true) same is.formed;
-      has = subst (λ l. HasOptions l job) same has;
-    }
-
-splits : (name : Text) (options : List Text) (job : Job) → Asks (name ∷ options) job → Splits name options job
-splits name options (Replay o) a = split_by name options (Replay o) a.0 a.1 a.2
-splits name options (Check o) a = split_by name options (Check o) a.0 a.1 a.2
-splits name options (Decode o) a = split_by name options (Decode o) a.0 a.1 a.2
-splits name options (Make o) a = split_by name options (Make o) a.0 a.1 a.2
-splits name options (Live o) a = split_by name options (Live o) a.0 a.1 a.2
-
-joins : (options : List Text) (job : Job) → are_options (option_names (command_of job)) options ≡ true → HasOptions options job
-    → Asks (name_of_command (command_of job) ∷ options) job
-joins options (Replay o) formed has = (options, record { whole = refl; formed = formed }, has)
-joins options (Check o) formed has = (options, record { whole = refl; formed = formed }, has)
-joins options (Decode o) formed has = (options, record { whole = refl; formed = formed }, has)
-joins options (Make o) formed has = (options, record { whole = refl; formed = formed }, has)
-joins options (Live o) formed has = (options, record { whole = refl; formed = formed }, has)
-
-same_command : (c d : Command) → name_of_command c ≡ name_of_command d → c ≡ d
-same_command command.Replay command.Replay e = refl
-same_command command.Check command.Check e = refl
-same_command command.Decode command.Decode e = refl
-same_command command.Make command.Make e = refl
-same_command command.Live command.Live e = refl
-same_command command.Replay command.Check e = absurd (differs _ _ e refl)
-same_command command.Replay command.Decode e = absurd (differs _ _ e refl)
-same_command command.Replay command.Make e = absurd (differs _ _ e refl)
-same_command command.Replay command.Live e = absurd (differs _ _ e refl)
-same_command command.Check command.Replay e = absurd (differs _ _ e refl)
-same_command command.Check command.Decode e = absurd (differs _ _ e refl)
-same_command command.Check command.Make e = absurd (differs _ _ e refl)
-same_command command.Check command.Live e = absurd (differs _ _ e refl)
-same_command command.Decode command.Replay e = absurd (differs _ _ e refl)
-same_command command.Decode command.Check e = absurd (differs _ _ e refl)
-same_command command.Decode command.Make e = absurd (differs _ _ e refl)
-same_command command.Decode command.Live e = absurd (differs _ _ e refl)
-same_command command.Make command.Replay e = absurd (differs _ _ e refl)
-same_command command.Make command.Check e = absurd (differs _ _ e refl)
-same_command command.Make command.Decode e = absurd (differs _ _ e refl)
-same_command command.Make command.Live e = absurd (differs _ _ e refl)
-same_command command.Live command.Replay e = absurd (differs _ _ e refl)
-same_command command.Live command.Check e = absurd (differs _ _ e refl)
-same_command command.Live command.Decode e = absurd (differs _ _ e refl)
-same_command command.Live command.Make e = absurd (differs _ _ e refl)
-
--- the options of a job of this command
-replay_options : (words : List Text) (job : Job) → IsJobOf command.Replay words job → (o : PacketOptions) × HasPackets words o
-replay_options words (Replay o) h = (o, h.1)
-replay_options words (Check o) h = let bad : command.Replay ≡ command.Check = h.0 in cc
-replay_options words (Decode o) h = let bad : command.Replay ≡ command.Decode = h.0 in cc
-replay_options words (Make o) h = let bad : command.Replay ≡ command.Make = h.0 in cc
-replay_options words (Live o) h = let bad : command.Replay ≡ command.Live = h.0 in cc
-
-check_options : (words : List Text) (job : Job) → IsJobOf command.Check words job
-    → (o : FormatOptions) × IsFormat Qcif (given words (codes "format")) o.format
-check_options words (Check o) h = (o, h.1)
-check_options words (Replay o) h = let bad : command.Check ≡ command.Replay = h.0 in cc
-check_options words (Decode o) h = let bad : command.Check ≡ command.Decode = h.0 in cc
-check_options words (Make o) h = let bad : command.Check ≡ command.Make = h.0 in cc
-check_options words (Live o) h = let bad : command.Check ≡ command.Live = h.0 in cc
-
-decode_options : (words : List Text) (job : Job) → IsJobOf command.Decode words job
-    → (o : FormatOptions) × IsFormat Cif (given words (codes "format")) o.format
-decode_options words (Decode o) h = (o, h.1)
-decode_options words (Replay o) h = let bad : command.Decode ≡ command.Replay = h.0 in cc
-decode_options words (Check o) h = let bad : command.Decode ≡ command.Check = h.0 in cc
-decode_options words (Make o) h = let bad : command.Decode ≡ command.Make = h.0 in cc
-decode_options words (Live o) h = let bad : command.Decode ≡ command.Live = h.0 in cc
-
-make_options : (words : List Text) (job : Job) → IsJobOf command.Make words job → (o : MakeOptions) × HasMake words o
-make_options words (Make o) h = (o, h.1)
-make_options words (Replay o) h = let bad : command.Make ≡ command.Replay = h.0 in cc
-make_options words (Check o) h = let bad : command.Make ≡ command.Check = h.0 in cc
-make_options words (Decode o) h = let bad : command.Make ≡ command.Decode = h.0 in cc
-make_options words (Live o) h = let bad : command.Make ≡ command.Live = h.0 in cc
-
-live_options : (words : List Text) (job : Job) → IsJobOf command.Live words job → (o : LiveOptions) × HasLive words o
-live_options words (Live o) h = (o, h.1)
-live_options words (Replay o) h = let bad : command.Live ≡ command.Replay = h.0 in cc
-live_options words (Check o) h = let bad : command.Live ≡ command.Check = h.0 in cc
-live_options words (Decode o) h = let bad : command.Live ≡ command.Decode = h.0 in cc
-live_options words (Make o) h = let bad : command.Live ≡ command.Make = h.0 in cc
+use Rattle.command_words.proofs.OneJob.{splits, joins, same_command, first_text, rest_texts, one_job}
 
 -- where one thing that is needed is not found, nothing is
 pub lacks : {O P : Type 0} (Has : O → Type 0) (Needs : P → Type 0) (e : WordsFault) → Refuses Needs e
@@ -127,62 +19,57 @@ pub lacks : {O P : Type 0} (Has : O → Type 0) (Needs : P → Type 0) (e : Word
 lacks Has Needs NoMemory r needs = tt
 lacks Has Needs Usage r needs = λ o has. r (needs o has).0 (needs o has).1
 
-pub refuses_replay : (k : Command) (words : List Text) (e : WordsFault) → k ≡ command.Replay → Refuses (HasPackets words) e → Refuses (IsJobOf k words) e
-refuses_replay k words e is none =
-    subst (λ c. Refuses (IsJobOf c words) e) (sym is) (lacks (IsJobOf command.Replay words) (HasPackets words) e none (replay_options words))
-
-pub refuses_check : (k : Command) (words : List Text) (e : WordsFault) → k ≡ command.Check
-    → Refuses (λ (o : FormatOptions). IsFormat Qcif (given words (codes "format")) o.format) e → Refuses (IsJobOf k words) e
-refuses_check k words e is none =
-    subst (λ c. Refuses (IsJobOf c words) e) (sym is)
-    (lacks (IsJobOf command.Check words) (λ (o : FormatOptions). IsFormat Qcif (given words (codes "format")) o.format) e none (check_options words))
-
-pub refuses_decode : (k : Command) (words : List Text) (e : WordsFault) → k ≡ command.Decode
-    → Refuses (λ (o : FormatOptions). IsFormat Cif (given words (codes "format")) o.format) e → Refuses (IsJobOf k words) e
-refuses_decode k words e is none =
-    subst (λ c. Refuses (IsJobOf c words) e) (sym is)
-    (lacks (IsJobOf command.Decode words) (λ (o : FormatOptions). IsFormat Cif (given words (codes "format")) o.format) e none (decode_options words))
-
-pub refuses_make : (k : Command) (words : List Text) (e : WordsFault) → k ≡ command.Make → Refuses (HasMake words) e → Refuses (IsJobOf k words) e
-refuses_make k words e is none =
-    subst (λ c. Refuses (IsJobOf c words) e) (sym is) (lacks (IsJobOf command.Make words) (HasMake words) e none (make_options words))
-
-pub refuses_live : (k : Command) (words : List Text) (e : WordsFault) → k ≡ command.Live → Refuses (HasLive words) e → Refuses (IsJobOf k words) e
-refuses_live k words e is none =
-    subst (λ c. Refuses (IsJobOf c words) e) (sym is) (lacks (IsJobOf command.Live words) (HasLive words) e none (live_options words))
+-- a job of a command has options of it
+found_for : (k : Command) (words : List Text) (job : Job) → IsJobOf k words job → (o : OptionsOf k) × HasOptions k words o
+found_for k words job h = subst (λ c. (o : OptionsOf c) × HasOptions c words o) (sym h.0) (options_of job, h.1)
 
 -- an error that is passed on by `?`
 pub passed_on : {O : Type 0} (Has : O → Type 0) (r : Result O WordsFault) (e : WordsFault) → IsErrAnd r (λ y. y ≡ e) → Refuses Has e → FindsAsked Has r
 passed_on Has (Ok x) e h q = absurd h
 passed_on Has (Err y) e h q = subst (Refuses Has) (sym h) q
 
+-- where the words have no options of the command, they have no job of it
+pub no_job : (k c : Command) (words : List Text) (r : Result Job WordsFault) (e : WordsFault) → k ≡ c → IsErrAnd r (λ y. y ≡ e)
+    → Refuses (HasOptions c words) e → FindsAsked (IsJobOf k words) r
+no_job k c words r e is h none =
+    passed_on (IsJobOf k words) r e h
+    (subst (λ d. Refuses (IsJobOf d words) e) (sym is) (lacks (IsJobOf c words) (HasOptions c words) e none (found_for c words)))
+
 -- the words of a command are its name and options of it
 pub job_asked : (k : Command) (options : List Text) (r : Result Job WordsFault) → are_options (option_names k) options ≡ true
     → FindsAsked (IsJobOf k options) r → FindsAsked (Asks (name_of_command k ∷ options)) r
 job_asked k options (Ok job) formed is =
-    subst (λ d. Asks (name_of_command d ∷ options) job) (sym is.0) (joins options job (subst (λ d. are_options (option_names d) options ≡ true) is.0 formed) is.1)
+    subst (λ d. Asks (name_of_command d ∷ options) job) (sym is.0)
+    (joins (name_of_command (command_of job) ∷ options) job (record {
+      rest = options;
+      is = record { whole = refl; formed = subst (λ d. are_options (option_names d) options ≡ true) is.0 formed };
+      has = is.1;
+    }))
 job_asked k options (Err NoMemory) formed none = tt
 job_asked k options (Err Usage) formed none =
-    λ job a. let s = splits _ options job a in none job (same_command k (command_of job) s.named, s.has)
+    λ job a. let s = splits (name_of_command k ∷ options) job a in
+    let same = same_command k (command_of job) (first_text _ _ _ _ s.is.whole) in
+    none job (same, subst (λ l. HasOptions (command_of job) l (options_of job)) (sym (rest_texts _ _ _ _ s.is.whole)) s.has)
 
 pub unformed : (k : Command) (options : List Text) → are_options (option_names k) options ≡ false → (job : Job) → Asks (name_of_command k ∷ options) job → ⊥
 unformed k options is job a =
-    let s = splits _ options job a in
-    let formed : are_options (option_names k) options ≡ true =
-    subst (λ d. are_options (option_names d) options ≡ true) (sym (same_command k (command_of job) s.named)) s.formed in
-    let bad : true ≡ false = sym formed ∙ is in
+    let s = splits (name_of_command k ∷ options) job a in
+    let same = same_command k (command_of job) (first_text _ _ _ _ s.is.whole) in
+    let formed = subst (λ l. are_options (option_names (command_of job)) l ≡ true) (sym (rest_texts _ _ _ _ s.is.whole)) s.is.formed in
+    let bad : true ≡ false = sym (subst (λ d. are_options (option_names d) options ≡ true) (sym same) formed) ∙ is in
     cc
 
 -- no words begin with a name that is none
 pub no_command : (name : Text) (options : List Text) → ((c : Command) → name ≢ name_of_command c) → (job : Job) → Asks (name ∷ options) job → ⊥
-no_command name options none job a = none (command_of job) (splits name options job a).named
+no_command name options none job a =
+    let s = splits (name ∷ options) job a in
+    none (command_of job) (first_text _ _ _ _ s.is.whole)
 
 no_words : (job : Job) → Asks [] job → ⊥
-no_words (Replay o) a = let bad : [] ≡ (codes "replay" ∷ a.0) = a.1.whole in cc
-no_words (Check o) a = let bad : [] ≡ (codes "check" ∷ a.0) = a.1.whole in cc
-no_words (Decode o) a = let bad : [] ≡ (codes "decode" ∷ a.0) = a.1.whole in cc
-no_words (Make o) a = let bad : [] ≡ (codes "make" ∷ a.0) = a.1.whole in cc
-no_words (Live o) a = let bad : [] ≡ (codes "live" ∷ a.0) = a.1.whole in cc
+no_words job a =
+    let s = splits [] job a in
+    let bad : [] ≡ (name_of_command (command_of job) ∷ s.rest) = s.is.whole in
+    cc
 
 pub none_asked : {X : Type 0} (f : X → Text) (ws : List X) → length ws ≡ 0 → (job : Job) → Asks (map f ws) job → ⊥
 none_asked f [] e = no_words

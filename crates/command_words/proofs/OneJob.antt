@@ -1,15 +1,19 @@
 -- Words ask for at most one job.
-use Rattle.std.proofs.Common.{◌≡◌, ℕ, List, ◌∷◌, Option, Some, None, refl, ap, sym, subst, ◌∙◌, codes, false, slice_index, ◌==◌, arith}
-use Rattle.std.proofs.lemmas.Bool.Decides.{nat_tests}
+use Rattle.std.proofs.Common.{◌≡◌, ℕ, List, ◌∷◌, Option, Some, None, refl, ap, sym, subst, ◌∙◌, codes, cond}
+use Rattle.std.specs.Str.{bytes_eq}
 use Rattle.pel_model.specs.declared.Format.{Format}
 use Rattle.pel_model.specs.declared.Format.TheVariants.{Qcif, Cif}
+use Rattle.command_words.specs.declared.help.Command.{Command}
+use Rattle.command_words.specs.declared.help.Command.TheVariants as command
+use Rattle.command_words.specs.declared.job.Job.{Job}
 use Rattle.command_words.specs.declared.job.Job.TheVariants.{Replay, Check, Decode, Make, Live}
 use Rattle.command_words.specs.declared.job.PacketOptions.{PacketOptions}
 use Rattle.command_words.specs.declared.job.FormatOptions.{FormatOptions}
 use Rattle.command_words.specs.declared.job.MakeOptions.{MakeOptions}
 use Rattle.command_words.specs.declared.job.LiveOptions.{LiveOptions}
-use Rattle.command_words.specs.Options.{Text, Number, given, number_given}
-use Rattle.command_words.specs.Asks.{mtu, ssrc, seq, stamp, seed, ticks, lanes, turns, OneJob, IsCommand, IsFormat, HasPackets, HasMake, HasLive, format_name}
+use Rattle.command_words.specs.Options.{Text, Number, number_given}
+use Rattle.command_words.specs.Asks.{mtu, ssrc, seq, stamp, seed, ticks, lanes, turns, Asks, OneJob, IsCommand, IsFormat, HasPackets, HasMake, HasLive, format_name}
+use Rattle.command_words.specs.Answers.{name_of_command, option_names, command_of, OptionsOf, options_of, HasOptions}
 
 one_number : (words : List Text) (o : Number) (m n : ℕ) → number_given words o ≡ Some m → number_given words o ≡ Some n → m ≡ n
 one_number words o m n p q = let e : Some m ≡ Some n = sym p ∙ q in cc
@@ -75,54 +79,85 @@ one_format_option : (words : List Text) (otherwise : Format) (o : Option Text) (
 unfolding format_of
 one_format_option words otherwise o a b p q = ap format_of (one_format otherwise o a.format b.format p q)
 
--- the words behind the command are one list
-same_rest : (words : List Text) (c d : Text) (ns ms xs ys : List Text) → IsCommand words c ns xs → IsCommand words d ms ys → (c ∷ xs) ≡ (d ∷ ys)
-same_rest words c d ns ms xs ys p q = sym p.whole ∙ q.whole
+-- the command that has the name
+named : Text → Option Command
+named name =
+    cond (bytes_eq name (codes "replay")) (Some command.Replay)
+    (cond (bytes_eq name (codes "check")) (Some command.Check)
+    (cond (bytes_eq name (codes "decode")) (Some command.Decode)
+    (cond (bytes_eq name (codes "make")) (Some command.Make)
+    (cond (bytes_eq name (codes "live")) (Some command.Live) None))))
 
-two_commands : (words : List Text) (c d : Text) (ns ms xs ys : List Text) → IsCommand words c ns xs → IsCommand words d ms ys → c ≡ d
-two_commands words c d ns ms xs ys p q = let e = same_rest words c d ns ms xs ys p q in cc
+named_back : (c : Command) → named (name_of_command c) ≡ Some c
+unfolding named
+named_back command.Replay = refl
+named_back command.Check = refl
+named_back command.Decode = refl
+named_back command.Make = refl
+named_back command.Live = refl
 
-one_list : (words : List Text) (c : Text) (ns ms xs ys : List Text) → IsCommand words c ns xs → IsCommand words c ms ys → xs ≡ ys
-one_list words c ns ms xs ys p q = let e = same_rest words c c ns ms xs ys p q in cc
+pub same_command : (c d : Command) → name_of_command c ≡ name_of_command d → c ≡ d
+same_command c d e = let same : Some c ≡ Some d = sym (named_back c) ∙ (ap named e ∙ named_back d) in cc
 
-pub differs : (c d : Text) → c ≡ d → (slice_index c 0 == slice_index d 0) ≡ false → ⊥
-differs c d e ne =
-    let same : (slice_index c 0 == slice_index c 0) ≡ false = subst (λ x. (slice_index c 0 == slice_index x 0) ≡ false) (sym e) ne in
-    grind (arith, nat_tests)
+-- the words are the command and options of a job
+pub record Splits (words : List Text) (job : Job) : Type 0 where
+  pub rest : List Text
+  pub is : IsCommand words (name_of_command (command_of job)) (option_names (command_of job)) rest
+  pub has : HasOptions (command_of job) rest (options_of job)
+
+pub splits : (words : List Text) (job : Job) → Asks words job → Splits words job
+splits words (Replay o) a = record { rest = a.0; is = a.1; has = a.2 }
+splits words (Check o) a = record { rest = a.0; is = a.1; has = a.2 }
+splits words (Decode o) a = record { rest = a.0; is = a.1; has = a.2 }
+splits words (Make o) a = record { rest = a.0; is = a.1; has = a.2 }
+splits words (Live o) a = record { rest = a.0; is = a.1; has = a.2 }
+
+pub joins : (words : List Text) (job : Job) → Splits words job → Asks words job
+joins words (Replay o) s = (s.rest, s.is, s.has)
+joins words (Check o) s = (s.rest, s.is, s.has)
+joins words (Decode o) s = (s.rest, s.is, s.has)
+joins words (Make o) s = (s.rest, s.is, s.has)
+joins words (Live o) s = (s.rest, s.is, s.has)
+
+one_options : (c : Command) (words : List Text) (a b : OptionsOf c) → HasOptions c words a → HasOptions c words b → a ≡ b
+one_options command.Replay words a b p q = one_packets words a b p q
+one_options command.Check words a b p q = one_format_option words Qcif _ a b p q
+one_options command.Decode words a b p q = one_format_option words Cif _ a b p q
+one_options command.Make words a b p q = one_make words a b p q
+one_options command.Live words a b p q = one_live words a b p q
+
+job_of : (c : Command) → OptionsOf c → Job
+job_of command.Replay o = Replay o
+job_of command.Check o = Check o
+job_of command.Decode o = Decode o
+job_of command.Make o = Make o
+job_of command.Live o = Live o
+
+job_back : (job : Job) → job_of (command_of job) (options_of job) ≡ job
+unfolding job_of
+job_back (Replay o) = refl
+job_back (Check o) = refl
+job_back (Decode o) = refl
+job_back (Make o) = refl
+job_back (Live o) = refl
+
+-- options of one command that the same words have make one job
+one_made : (words : List Text) (c d : Command) (a : OptionsOf c) (b : OptionsOf d) → c ≡ d → HasOptions c words a → HasOptions d words b
+    → job_of c a ≡ job_of d b
+one_made words c d a b same p q =
+    subst (λ k. (o : OptionsOf k) → HasOptions k words o → job_of c a ≡ job_of k o) same (λ o h. ap (job_of c) (one_options c words a o p h)) b q
+
+pub first_text : (c d : Text) (xs ys : List Text) → (c ∷ xs) ≡ (d ∷ ys) → c ≡ d
+first_text c d xs ys e = cc
+
+pub rest_texts : (c d : Text) (xs ys : List Text) → (c ∷ xs) ≡ (d ∷ ys) → xs ≡ ys
+rest_texts c d xs ys e = cc
 
 pub one_job : OneJob
-one_job words (Replay a) (Replay b) p q =
-    let same = one_list words _ _ _ p.0 q.0 p.1 q.1 in
-    ap Replay (one_packets q.0 a b (subst (λ l. HasPackets l a) same p.2) q.2)
-one_job words (Check a) (Check b) p q =
-    let same = one_list words _ _ _ p.0 q.0 p.1 q.1 in
-    ap Check (one_format_option q.0 Qcif _ a b (subst (λ l. IsFormat Qcif (given l (codes "format")) a.format) same p.2) q.2)
-one_job words (Decode a) (Decode b) p q =
-    let same = one_list words _ _ _ p.0 q.0 p.1 q.1 in
-    ap Decode (one_format_option q.0 Cif _ a b (subst (λ l. IsFormat Cif (given l (codes "format")) a.format) same p.2) q.2)
-one_job words (Make a) (Make b) p q =
-    let same = one_list words _ _ _ p.0 q.0 p.1 q.1 in
-    ap Make (one_make q.0 a b (subst (λ l. HasMake l a) same p.2) q.2)
-one_job words (Live a) (Live b) p q =
-    let same = one_list words _ _ _ p.0 q.0 p.1 q.1 in
-    ap Live (one_live q.0 a b (subst (λ l. HasLive l a) same p.2) q.2)
-one_job words (Replay a) (Check b) p q = absurd (differs (codes "replay") (codes "check") (two_commands words _ _ _ _ p.0 q.0 p.1 q.1) refl)
-one_job words (Replay a) (Decode b) p q = absurd (differs (codes "replay") (codes "decode") (two_commands words _ _ _ _ p.0 q.0 p.1 q.1) refl)
-one_job words (Replay a) (Make b) p q = absurd (differs (codes "replay") (codes "make") (two_commands words _ _ _ _ p.0 q.0 p.1 q.1) refl)
-one_job words (Check a) (Replay b) p q = absurd (differs (codes "check") (codes "replay") (two_commands words _ _ _ _ p.0 q.0 p.1 q.1) refl)
-one_job words (Check a) (Decode b) p q = absurd (differs (codes "check") (codes "decode") (two_commands words _ _ _ _ p.0 q.0 p.1 q.1) refl)
-one_job words (Check a) (Make b) p q = absurd (differs (codes "check") (codes "make") (two_commands words _ _ _ _ p.0 q.0 p.1 q.1) refl)
-one_job words (Decode a) (Replay b) p q = absurd (differs (codes "decode") (codes "replay") (two_commands words _ _ _ _ p.0 q.0 p.1 q.1) refl)
-one_job words (Decode a) (Check b) p q = absurd (differs (codes "decode") (codes "check") (two_commands words _ _ _ _ p.0 q.0 p.1 q.1) refl)
-one_job words (Decode a) (Make b) p q = absurd (differs (codes "decode") (codes "make") (two_commands words _ _ _ _ p.0 q.0 p.1 q.1) refl)
-one_job words (Make a) (Replay b) p q = absurd (differs (codes "make") (codes "replay") (two_commands words _ _ _ _ p.0 q.0 p.1 q.1) refl)
-one_job words (Make a) (Check b) p q = absurd (differs (codes "make") (codes "check") (two_commands words _ _ _ _ p.0 q.0 p.1 q.1) refl)
-one_job words (Make a) (Decode b) p q = absurd (differs (codes "make") (codes "decode") (two_commands words _ _ _ _ p.0 q.0 p.1 q.1) refl)
-one_job words (Replay a) (Live b) p q = absurd (differs (codes "replay") (codes "live") (two_commands words _ _ _ _ p.0 q.0 p.1 q.1) refl)
-one_job words (Check a) (Live b) p q = absurd (differs (codes "check") (codes "live") (two_commands words _ _ _ _ p.0 q.0 p.1 q.1) refl)
-one_job words (Decode a) (Live b) p q = absurd (differs (codes "decode") (codes "live") (two_commands words _ _ _ _ p.0 q.0 p.1 q.1) refl)
-one_job words (Make a) (Live b) p q = absurd (differs (codes "make") (codes "live") (two_commands words _ _ _ _ p.0 q.0 p.1 q.1) refl)
-one_job words (Live a) (Replay b) p q = absurd (differs (codes "live") (codes "replay") (two_commands words _ _ _ _ p.0 q.0 p.1 q.1) refl)
-one_job words (Live a) (Check b) p q = absurd (differs (codes "live") (codes "check") (two_commands words _ _ _ _ p.0 q.0 p.1 q.1) refl)
-one_job words (Live a) (Decode b) p q = absurd (differs (codes "live") (codes "decode") (two_commands words _ _ _ _ p.0 q.0 p.1 q.1) refl)
-one_job words (Live a) (Make b) p q = absurd (differs (codes "live") (codes "make") (two_commands words _ _ _ _ p.0 q.0 p.1 q.1) refl)
+one_job words i j p q =
+    let a = splits words i p in
+    let b = splits words j q in
+    let whole = sym a.is.whole ∙ b.is.whole in
+    let same = same_command (command_of i) (command_of j) (first_text _ _ _ _ whole) in
+    let has = subst (λ l. HasOptions (command_of i) l (options_of i)) (rest_texts _ _ _ _ whole) a.has in
+    sym (job_back i) ∙ (one_made b.rest (command_of i) (command_of j) (options_of i) (options_of j) same has b.has ∙ job_back j)

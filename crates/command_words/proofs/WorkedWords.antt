@@ -4,7 +4,7 @@ use Rattle.pel_model.specs.declared.Format.TheVariants.{Qcif, Cif}
 use Rattle.command_words.specs.declared.job.Job.TheVariants.{Replay, Check, Decode, Make, Live}
 use Rattle.command_words.specs.Options.{Text, are_options, number_given}
 use Rattle.command_words.specs.Names.{name, names}
-use Rattle.command_words.specs.Asks.{Asks, mtu, ssrc, seq, stamp, seed, ticks, lanes, turns, replay_names, make_names, format_names, live_names}
+use Rattle.command_words.specs.Asks.{Asks, mtu, ssrc, seq, stamp, seed, ticks, lanes, turns, packet_names, make_names, format_names, live_names}
 
 -- no options: the defaults
 replay_alone : Asks (codes "replay" ∷ []) (Replay (record { mtu = 1400; ssrc = 1211250225; seq = 0; stamp = 0 }))
@@ -103,18 +103,18 @@ no_numbers_are = refl
 
 -- words that are no options: a name and its value apart, an option twice, one of another command, no `=`, one dash
 no_options : List Bool
-no_options = are_options replay_names (codes "--mtu" ∷ codes "1000" ∷ [])
-    ∷ are_options replay_names (codes "--seq=1" ∷ codes "--seq=1" ∷ [])
-    ∷ are_options replay_names (codes "--format=cif" ∷ [])
-    ∷ are_options replay_names (codes "--mtu" ∷ [])
-    ∷ are_options replay_names (codes "-mtu=1000" ∷ [])
-    ∷ are_options replay_names (codes "--MTU=1000" ∷ [])
-    ∷ are_options replay_names (codes "" ∷ [])
+no_options = are_options packet_names (codes "--mtu" ∷ codes "1000" ∷ [])
+    ∷ are_options packet_names (codes "--seq=1" ∷ codes "--seq=1" ∷ [])
+    ∷ are_options packet_names (codes "--format=cif" ∷ [])
+    ∷ are_options packet_names (codes "--mtu" ∷ [])
+    ∷ are_options packet_names (codes "-mtu=1000" ∷ [])
+    ∷ are_options packet_names (codes "--MTU=1000" ∷ [])
+    ∷ are_options packet_names (codes "" ∷ [])
     ∷ are_options make_names (codes "--lanes=4" ∷ codes "--seed=1" ∷ codes "--lanes=4" ∷ [])
     ∷ are_options format_names (codes "--mtu=1400" ∷ [])
     ∷ are_options live_names (codes "--lanes=a" ∷ codes "--seed=1" ∷ [])
     ∷ are_options live_names (codes "--chair=a" ∷ codes "--chair=b" ∷ [])
-    ∷ are_options replay_names (codes "--mtu=1000" ∷ codes "--seq=1" ∷ [])
+    ∷ are_options packet_names (codes "--mtu=1000" ∷ codes "--seq=1" ∷ [])
     ∷ []
 
 no_options_are : no_options ≡ false ∷ false ∷ false ∷ false ∷ false ∷ false ∷ false ∷ false ∷ false ∷ false ∷ false ∷ true ∷ []

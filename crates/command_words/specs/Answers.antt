@@ -8,8 +8,12 @@ use Rattle.command_words.specs.declared.help.Command.{Command}
 use Rattle.command_words.specs.declared.help.Command.TheVariants as command
 use Rattle.command_words.specs.declared.job.Job.{Job}
 use Rattle.command_words.specs.declared.job.Job.TheVariants.{Replay, Check, Decode, Make, Live}
+use Rattle.command_words.specs.declared.job.PacketOptions.{PacketOptions}
+use Rattle.command_words.specs.declared.job.FormatOptions.{FormatOptions}
+use Rattle.command_words.specs.declared.job.MakeOptions.{MakeOptions}
+use Rattle.command_words.specs.declared.job.LiveOptions.{LiveOptions}
 use Rattle.command_words.specs.Options.{Text, given}
-use Rattle.command_words.specs.Asks.{HasPackets, HasMake, HasLive, IsFormat, replay_names, make_names, format_names, live_names}
+use Rattle.command_words.specs.Asks.{HasPackets, HasMake, HasLive, IsFormat, packet_names, make_names, format_names, live_names}
 
 -- the command's name
 abbrev pub name_of_command : Command → Text
@@ -21,7 +25,7 @@ name_of_command command.Live = codes "live"
 
 -- the names of its options
 abbrev pub option_names : Command → List Text
-option_names command.Replay = replay_names
+option_names command.Replay = packet_names
 option_names command.Check = format_names
 option_names command.Decode = format_names
 option_names command.Make = make_names
@@ -44,13 +48,29 @@ command_of (Decode o) = command.Decode
 command_of (Make o) = command.Make
 command_of (Live o) = command.Live
 
--- the words have the options of the job
-abbrev pub HasOptions : List Text → Job → Type 0
-HasOptions words (Replay o) = HasPackets words o
-HasOptions words (Check o) = IsFormat Qcif (given words (codes "format")) o.format
-HasOptions words (Decode o) = IsFormat Cif (given words (codes "format")) o.format
-HasOptions words (Make o) = HasMake words o
-HasOptions words (Live o) = HasLive words o
+-- what the options of a command are read into
+abbrev pub OptionsOf : Command → Type 0
+OptionsOf command.Replay = PacketOptions
+OptionsOf command.Check = FormatOptions
+OptionsOf command.Decode = FormatOptions
+OptionsOf command.Make = MakeOptions
+OptionsOf command.Live = LiveOptions
+
+-- the words have these options of the command
+abbrev pub HasOptions : (command : Command) → List Text → OptionsOf command → Type 0
+HasOptions command.Replay words o = HasPackets words o
+HasOptions command.Check words o = IsFormat Qcif (given words (codes "format")) o.format
+HasOptions command.Decode words o = IsFormat Cif (given words (codes "format")) o.format
+HasOptions command.Make words o = HasMake words o
+HasOptions command.Live words o = HasLive words o
+
+-- the options of a job
+abbrev pub options_of : (job : Job) → OptionsOf (command_of job)
+options_of (Replay o) = o
+options_of (Check o) = o
+options_of (Decode o) = o
+options_of (Make o) = o
+options_of (Live o) = o
 
 abbrev pub IsJobOf : Command → List Text → Job → Type 0
-IsJobOf command words job = (command ≡ command_of job) × HasOptions words job
+IsJobOf command words job = (command ≡ command_of job) × HasOptions (command_of job) words (options_of job)

@@ -5,6 +5,7 @@ use Rattle.pel_model.specs.declared.Format.TheVariants.{Qcif, Cif}
 use Rattle.command_words.specs.declared.job.Job.{Job}
 use Rattle.command_words.specs.declared.job.Job.TheVariants.{Replay, Check, Decode, Make, Live}
 use Rattle.command_words.specs.declared.job.PacketOptions.{PacketOptions}
+use Rattle.command_words.specs.declared.job.FormatOptions.{FormatOptions}
 use Rattle.command_words.specs.declared.job.MakeOptions.{MakeOptions}
 use Rattle.command_words.specs.declared.job.LiveOptions.{LiveOptions}
 use Rattle.command_words.specs.Options.{Text, Number, are_options, given, number_given}
@@ -41,8 +42,8 @@ lanes = number_option (codes "lanes") 1 16 4
 abbrev pub turns : Number
 turns = number_option (codes "turns") 1 1099511627776 1099511627776
 
-abbrev pub replay_names : List Text
-replay_names = codes "mtu" ∷ codes "ssrc" ∷ codes "seq" ∷ codes "stamp" ∷ []
+abbrev pub packet_names : List Text
+packet_names = codes "mtu" ∷ codes "ssrc" ∷ codes "seq" ∷ codes "stamp" ∷ []
 
 abbrev pub format_names : List Text
 format_names = codes "format" ∷ []
@@ -86,16 +87,22 @@ abbrev pub IsFormat : Format → Option Text → Format → Type 0
 IsFormat otherwise None format = format ≡ otherwise
 IsFormat otherwise (Some text) format = text ≡ format_name format
 
+-- the words are this command, with options that say how packets are written
+abbrev pub AskPackets : List Text → Text → PacketOptions → Type 0
+AskPackets words command o =
+    (options : List Text) × IsCommand words command packet_names options × HasPackets options o
+
+-- the words are this command, with a format, or that where none is given
+abbrev pub AskFormat : List Text → Text → Format → FormatOptions → Type 0
+AskFormat words command otherwise o =
+    (options : List Text) × IsCommand words command format_names options
+    × IsFormat otherwise (given options (codes "format")) o.format
+
 -- the words ask for the job
 abbrev pub Asks : List Text → Job → Type 0
-Asks words (Replay o) =
-    (options : List Text) × IsCommand words (codes "replay") replay_names options × HasPackets options o
-Asks words (Check o) =
-    (options : List Text) × IsCommand words (codes "check") format_names options
-    × IsFormat Qcif (given options (codes "format")) o.format
-Asks words (Decode o) =
-    (options : List Text) × IsCommand words (codes "decode") format_names options
-    × IsFormat Cif (given options (codes "format")) o.format
+Asks words (Replay o) = AskPackets words (codes "replay") o
+Asks words (Check o) = AskFormat words (codes "check") Qcif o
+Asks words (Decode o) = AskFormat words (codes "decode") Cif o
 Asks words (Make o) =
     (options : List Text) × IsCommand words (codes "make") make_names options × HasMake options o
 Asks words (Live o) =

@@ -21,7 +21,7 @@ fn is_known(starts: &[&str], word: &str) -> bool
 }
 
 /// How many words begin so.
-fn times(words: &[String], start: &str) -> usize
+pub fn times(words: &[String], start: &str) -> usize
     ensures { result ≡ count_by (begins_with start.now) (map string_bytes words.now) }
 {
     words

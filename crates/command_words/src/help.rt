@@ -80,12 +80,13 @@ impl Command {
     // A line that runs it.
     fn example(self) -> &'static str {
         match self {
-            Command::Replay => "bridge_cli replay --mtu=1200 < call.conf > call.rtp",
-            Command::Check => "bridge_cli check --format=cif < call.rtp",
-            Command::Decode => "bridge_cli decode < call.rtp > call.yuv",
-            Command::Make => "bridge_cli make --ticks=25 --lanes=2 > call.conf",
+            Command::Replay => "ballastkiwi replay --mtu=1200 < call.conf > call.rtp",
+            Command::Check => "ballastkiwi check --format=cif < call.rtp",
+            Command::Decode => "ballastkiwi decode < call.rtp > call.yuv",
+            Command::Make => "ballastkiwi make --ticks=25 --lanes=2 > call.conf",
             Command::Live =>
-                "bridge_cli live --lanes=anna.rtp,bert.rtp --chair=chair.txt < ticks.txt > call.rtp",
+                "examples/timer.py --seconds=2 | ballastkiwi live --lanes=<(examples/send_lane.py \
+                examples/bars_lane.rtp) --chair=<(echo place 1 0) > live.rtp  (in bash, at the top of the repository)",
         }
     }
 }

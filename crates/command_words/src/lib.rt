@@ -13,6 +13,7 @@ mod reader;
 mod table;
 #[cfg(test)]
 mod tests;
+mod wrong;
 
 pub use fault::WordsFault;
 pub use help::{COMMANDS, Command};
@@ -21,3 +22,4 @@ pub use laws::one_job;
 pub use names::{Name, Names};
 pub use pel_model::Format;
 pub use reader::read_words;
+pub use wrong::{Wanted, Wrong, unknown_command, what_is_wrong};

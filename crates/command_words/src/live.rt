@@ -33,7 +33,7 @@ fn push_name<'a>(names: &mut Vec<&'a str>, name: &'a str) -> Result<(), WordsFau
 }
 
 /// The names between the commas of a text.
-fn names_between<'a>(alloc: Global, text: &'a str) -> Result<Names<'a>, WordsFault>
+pub fn names_between<'a>(alloc: Global, text: &'a str) -> Result<Names<'a>, WordsFault>
     ensures { FindsAsked (λ (read : List Text). names_in (Some text.entry.now) ≡ Some read) result }
 {
     let mut names = Vec::new(alloc);
