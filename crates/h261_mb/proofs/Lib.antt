@@ -1,6 +1,7 @@
 pub mod InsideLaws
 pub mod Windows
 pub mod Words
+pub mod DirectWords
 pub mod Slots
 pub mod Vectors
 pub mod Patterns

@@ -1,3 +1,4 @@
 pub mod Inside
 pub mod Parts
 pub mod State
+pub mod Looks

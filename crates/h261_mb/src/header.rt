@@ -90,7 +90,9 @@ pub fn read_header(
             return Ok(header);
         }
     }
-    read_by_elements(r, format, group, state)
+    // (a result of its own, since one that a call writes stays in memory)
+    let header = read_by_elements(r, format, group, state)?;
+    Ok(header)
 }
 
 // The same, element by element from the reader.

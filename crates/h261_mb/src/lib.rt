@@ -4,9 +4,11 @@
 
 mod ahead;
 mod blocks;
+mod direct;
 mod front;
 mod header;
 mod kinds;
+mod looks;
 mod pattern;
 mod state;
 mod vector;

@@ -10,10 +10,11 @@ ghost use Rattle.pel_model.specs.Grammar.{Mba, Mtype, Mquant, Mvd, Cbp, mba_rows
 ghost use Rattle.vlc_codes.specs.Lookup.{words};
 ghost use Rattle.vlc_codes.specs.Inner.{IsIndexTaken};
 
+use crate::looks::first_word;
 use pel_bits::Reader;
 use pel_model::MbKind;
 use std::marker::Model;
-use vlc_codes::{DIFFERENCES, KINDS, PATTERNS, Table, look_up};
+use vlc_codes::{DIFFERENCES, KINDS, PATTERNS, Table};
 
 /// Bits that a reader would take next. Contracts see them, and how many were taken.
 #[derive(Drop)]
@@ -72,7 +73,7 @@ impl Window {
         ensures index { IfSome result (λ index. IsIndexTaken (words table) index self.old self.new) }
         ensures inside { IfSome result (λ index. index < length (words table)) }
     {
-        let cell = look_up(table, (self.rest >> 32) as u32);
+        let cell = first_word(table, self.rest);
         let len = u32::from(cell.len);
         if len == 0 || len > self.left {
             return None;

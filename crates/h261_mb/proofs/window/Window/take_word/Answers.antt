@@ -12,13 +12,13 @@ skip-requires c =
 pub returns-clause-index : goal.returns-clause-index
 returns-clause-index c =
     let w = c.self.inside in
-    let cell = c.look_up-cell.result in
-    let found = word-seen c.args.table w.rest w.left cell c.self.invariant c.look_up-cell.ensures (λ none. c.if-len-eq0.false (c.from-len.ensures ∙ none)) (omega (arith, c.from-len.ensures)) in
+    let cell = c.first_word-cell.result in
+    let found = word-seen c.args.table w.rest w.left cell c.self.invariant c.first_word-cell.ensures (λ none. c.if-len-eq0.false (c.from-len.ensures ∙ none)) (omega (arith, c.from-len.ensures)) in
     record { len = cell.len; cell = rw (← c.self.view_is) found; behind = rw (← c.from-len.ensures) c.skip.ensures }
 
 pub returns-clause-inside : goal.returns-clause-inside
 returns-clause-inside c =
     let w = c.self.inside in
-    let cell = c.look_up-cell.result in
-    let found = word-seen c.args.table w.rest w.left cell c.self.invariant c.look_up-cell.ensures (λ none. c.if-len-eq0.false (c.from-len.ensures ∙ none)) (omega (arith, c.from-len.ensures)) in
+    let cell = c.first_word-cell.result in
+    let found = word-seen c.args.table w.rest w.left cell c.self.invariant c.first_word-cell.ensures (λ none. c.if-len-eq0.false (c.from-len.ensures ∙ none)) (omega (arith, c.from-len.ensures)) in
     (cell_within (words c.args.table) _ cell found).0
