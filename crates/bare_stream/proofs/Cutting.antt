@@ -1,7 +1,7 @@
 -- How bits are cut into pictures: what more bits change, and that it is done in one way.
 use Rattle.std.proofs.Common.{◌≡◌, ℕ, ◌+◌, ◌-◌, ◌<◌, ◌≤◌, Bool, true, false, List, [], ◌∷◌, ◌++◌, length, take, drop, replicate, refl, sym, ◌∙◌, ap, ap₂, subst, append_assoc, inl, inr, arith}
 use Rattle.std.proofs.lemmas.List.{length-append, length-replicate, length-drop, take-append-drop, drop-append-le, take-append-le}
-use Rattle.bare_stream.specs.Streams.{StartsAt, EndsAtStart, IsNext, HasNoNext, Cuts, StreamStop, AtEnd, BadAt, EndsWith, LawOfOneBareStream}
+use Rattle.bare_stream.specs.Streams.{StartsAt, EndsAtStart, IsNext, HasNoNext, IsCutInto, StreamStop, AtEnd, BadAt, StreamEndsWith, LawOfOneBareStream}
 use Rattle.pel_model.specs.declared.Format.{Format}
 use Rattle.pel_model.specs.declared.Why.{Why}
 use Rattle.pel_model.specs.Accepts.{Accepts}
@@ -115,7 +115,7 @@ one-picture : (format : Format) (bits : List Bool) (p q : Picture) → Accepts f
 one-picture format bits p q a b = one-record format bits p q a b
 
 -- the last pictures and the end of a rest
-one-ending : (format : Format) (at : ℕ) (rest : List Bool) (last other : List Picture) (stop end : StreamStop) → EndsWith format at rest last stop → EndsWith format at rest other end
+one-ending : (format : Format) (at : ℕ) (rest : List Bool) (last other : List Picture) (stop end : StreamStop) → StreamEndsWith format at rest last stop → StreamEndsWith format at rest other end
     → (last ≡ other) × (stop ≡ end)
 one-ending format at rest [] [] AtEnd AtEnd a b = (refl, refl)
 one-ending format at rest [] [] AtEnd (BadAt m w) a b = absurd (omega (arith, ap length a, b.0))
@@ -141,7 +141,7 @@ one-ending format at rest (p ∷ o ∷ ps) other AtEnd end a b = absurd a
 one-ending format at rest (p ∷ o ∷ ps) other (BadAt n v) end a b = absurd a
 
 -- a rest with an end has no next
-ending-none : (format : Format) (at : ℕ) (rest : List Bool) (last : List Picture) (stop : StreamStop) → EndsWith format at rest last stop → HasNoNext format rest
+ending-none : (format : Format) (at : ℕ) (rest : List Bool) (last : List Picture) (stop : StreamStop) → StreamEndsWith format at rest last stop → HasNoNext format rest
 ending-none format at rest [] AtEnd h e here = absurd (omega (arith, ap length h, starts-inside rest e here.starts))
 ending-none format at rest [] (BadAt n v) h e here = h.1 e here
 ending-none format at rest (p ∷ []) AtEnd h e here = h.0 e here
@@ -150,45 +150,45 @@ ending-none format at rest (p ∷ q ∷ ps) AtEnd h e here = absurd h
 ending-none format at rest (p ∷ q ∷ ps) (BadAt n v) h e here = absurd h
 
 -- cuts to rests that have no next are the same
-pub one-cutting : (format : Format) (bits : List Bool) (ps qs : List Picture) (rest other : List Bool) → Cuts format bits ps rest → HasNoNext format rest
-    → Cuts format bits qs other → HasNoNext format other → (ps ≡ qs) × (rest ≡ other)
+pub one-cutting : (format : Format) (bits : List Bool) (ps qs : List Picture) (rest other : List Bool) → IsCutInto format bits ps rest → HasNoNext format rest
+    → IsCutInto format bits qs other → HasNoNext format other → (ps ≡ qs) × (rest ≡ other)
 one-cutting format bits [] [] rest other a na b nb = (refl, a ∙ sym b)
 one-cutting format bits [] (q ∷ qs) rest other a na b nb = absurd (subst (λ (t : List Bool). HasNoNext format t) a na b.0 b.1.place)
 one-cutting format bits (p ∷ ps) [] rest other a na b nb = absurd (subst (λ (t : List Bool). HasNoNext format t) b nb a.0 a.1.place)
 one-cutting format bits (p ∷ ps) (q ∷ qs) rest other a na b nb =
     let same : b.0 ≡ a.0 = one-end format bits b.0 a.0 b.1.place a.1.place in
     let here : Accepts format (take a.0 bits) q = subst (λ (e : ℕ). Accepts format (take e bits) q) same b.2 in
-    let more : Cuts format (drop a.0 bits) qs other = subst (λ (e : ℕ). Cuts format (drop e bits) qs other) same b.3 in
+    let more : IsCutInto format (drop a.0 bits) qs other = subst (λ (e : ℕ). IsCutInto format (drop e bits) qs other) same b.3 in
     let left = one-cutting format (drop a.0 bits) ps qs rest other a.3 na more nb in
     (ap₂ (λ (x : Picture) (xs : List Picture). x ∷ xs) (one-record format (take a.0 bits) p q a.2 here) left.0, left.1)
 
 pub one-bare-stream : LawOfOneBareStream
 one-bare-stream format bits ps qs stop other a b =
     let cut = one-cutting format bits a.former b.former a.rest b.rest a.cuts (ending-none format _ a.rest a.last stop a.ends) b.cuts (ending-none format _ b.rest b.last other b.ends) in
-    let ends : EndsWith format (length bits - length a.rest) a.rest b.last other = subst (λ (t : List Bool). EndsWith format (length bits - length t) t b.last other) (sym cut.1) b.ends in
+    let ends : StreamEndsWith format (length bits - length a.rest) a.rest b.last other = subst (λ (t : List Bool). StreamEndsWith format (length bits - length t) t b.last other) (sym cut.1) b.ends in
     let end = one-ending format (length bits - length a.rest) a.rest a.last b.last stop other a.ends ends in
     (a.order ∙ (ap₂ (λ (xs ys : List Picture). xs ++ ys) cut.0 end.0 ∙ sym b.order), end.1)
 
 -- ---- cuts one after the other
 
-pub cuts-longer : (format : Format) (bits more : List Bool) (ps : List Picture) (rest : List Bool) → Cuts format bits ps rest → Cuts format (bits ++ more) ps (rest ++ more)
+pub cuts-longer : (format : Format) (bits more : List Bool) (ps : List Picture) (rest : List Bool) → IsCutInto format bits ps rest → IsCutInto format (bits ++ more) ps (rest ++ more)
 cuts-longer format bits more [] rest h = ap (λ (t : List Bool). t ++ more) h
 cuts-longer format bits more (p ∷ ps) rest h =
     let inside = starts-inside bits h.0 h.1.place.starts in (
       h.0,
       next-longer format bits more h.0 h.1,
       subst (λ (t : List Bool). Accepts format t p) (sym (take-append-le h.0 bits more (omega (arith, inside)))) h.2,
-      subst (λ (t : List Bool). Cuts format t ps (rest ++ more)) (sym (drop-append-le h.0 bits more (omega (arith, inside)))) (cuts-longer format (drop h.0 bits) more ps rest h.3),
+      subst (λ (t : List Bool). IsCutInto format t ps (rest ++ more)) (sym (drop-append-le h.0 bits more (omega (arith, inside)))) (cuts-longer format (drop h.0 bits) more ps rest h.3),
     )
 
 -- one picture more is cut off
-pub cuts-on : (format : Format) (bits : List Bool) (ps : List Picture) (rest : List Bool) (p : Picture) (e : ℕ) → Cuts format bits ps rest → IsNext format rest e
-    → Accepts format (take e rest) p → Cuts format bits (ps ++ p ∷ []) (drop e rest)
+pub cuts-on : (format : Format) (bits : List Bool) (ps : List Picture) (rest : List Bool) (p : Picture) (e : ℕ) → IsCutInto format bits ps rest → IsNext format rest e
+    → Accepts format (take e rest) p → IsCutInto format bits (ps ++ p ∷ []) (drop e rest)
 cuts-on format bits [] rest p e h next accepted =
     (e, subst (λ (t : List Bool). IsNext format t e) h next, subst (λ (t : List Bool). Accepts format (take e t) p) h accepted, ap (drop e) h)
 cuts-on format bits (q ∷ ps) rest p e h next accepted = (h.0, h.1, h.2, cuts-on format (drop h.0 bits) ps rest p e h.3 next accepted)
 
 -- what is left is a part
-pub cuts-length : (format : Format) (bits : List Bool) (ps : List Picture) (rest : List Bool) → Cuts format bits ps rest → length rest ≤ length bits
+pub cuts-length : (format : Format) (bits : List Bool) (ps : List Picture) (rest : List Bool) → IsCutInto format bits ps rest → length rest ≤ length bits
 cuts-length format bits [] rest h = omega (arith, ap length h)
 cuts-length format bits (p ∷ ps) rest h = omega (arith, cuts-length format (drop h.0 bits) ps rest h.3, length-drop h.0 bits)

@@ -5,7 +5,7 @@ use Rattle.bare_stream.specs.declared.reader.BareEnd.{BareEnd}
 use Rattle.bare_stream.specs.declared.reader.BareEnd.TheVariants.{End, Bad, Fault, Limit}
 use Rattle.bare_stream.specs.Reading.{Asked, GivesNone, GivesPicture}
 use Rattle.bare_stream.specs.SoFar.{PausedSince, AreGiven, ReadingEnds, LawOfStreamBegun, LawOfPictureGiven, LawOfStreamEnded}
-use Rattle.bare_stream.specs.Streams.{HasNoNext, Cuts, IsBareStream, AtEnd, BadAt}
+use Rattle.bare_stream.specs.Streams.{HasNoNext, IsCutInto, IsBareStream, AtEnd, BadAt}
 use Rattle.h261_pic.specs.Coded.{Coding, coding}
 use Rattle.io_edge.specs.Allowance.{AllowanceState, TakesOctets, Paused, unused}
 use Rattle.io_edge.specs.declared.allowance.Pause.{Pause}
@@ -64,11 +64,11 @@ nothing-given : (format : Format) (rest : List Bool) (paused : Option Pause) (co
 nothing-given format rest paused coded (inl next) = omega (arith, starts-inside [] next.0 next.1.place.starts)
 nothing-given format rest paused coded (inr last) = omega (arith, accepted-some format [] last.2.0 last.2.1)
 
-given-more : (format : Format) (taken seen rest : List Bool) (pictures : List Picture) (paused : Option Pause) (coded : Coding) → Cuts format taken pictures seen
+given-more : (format : Format) (taken seen rest : List Bool) (pictures : List Picture) (paused : Option Pause) (coded : Coding) → IsCutInto format taken pictures seen
     → GivesPicture format seen rest paused coded
     → (p : Picture) × (coded ≡ coding format p) × AreGiven format taken (pictures ++ p ∷ []) rest paused
 given-more format taken seen rest pictures paused coded cuts (inl next) =
-    (next.2.0, next.2.2, inl (subst (λ (t : List Bool). Cuts format taken (pictures ++ next.2.0 ∷ []) t) (sym next.3) (cuts-on format taken pictures seen next.2.0 next.0 cuts next.1 next.2.1)))
+    (next.2.0, next.2.2, inl (subst (λ (t : List Bool). IsCutInto format taken (pictures ++ next.2.0 ∷ []) t) (sym next.3) (cuts-on format taken pictures seen next.2.0 next.0 cuts next.1 next.2.1)))
 given-more format taken seen rest pictures paused coded cuts (inr last) = (
   last.2.0,
   last.2.2,
@@ -86,10 +86,10 @@ given-more format taken seen rest pictures paused coded cuts (inr last) = (
   ),
 )
 
-longer : (format : Format) (took more : List ℕ) (pictures : List Picture) (rest : List Bool) → Cuts format (bits took) pictures rest
-    → Cuts format (bits (took ++ more)) pictures (rest ++ bits more)
+longer : (format : Format) (took more : List ℕ) (pictures : List Picture) (rest : List Bool) → IsCutInto format (bits took) pictures rest
+    → IsCutInto format (bits (took ++ more)) pictures (rest ++ bits more)
 longer format took more pictures rest cuts =
-    subst (λ (t : List Bool). Cuts format t pictures (rest ++ bits more)) (sym (bits-append took more)) (cuts-longer format (bits took) (bits more) pictures rest cuts)
+    subst (λ (t : List Bool). IsCutInto format t pictures (rest ++ bits more)) (sym (bits-append took more)) (cuts-longer format (bits took) (bits more) pictures rest cuts)
 
 -- the source is at its end, and all was given: nothing stands there
 all-seen : (rest seen : List Bool) (took : List ℕ) → rest ≡ [] → took ≡ [] → rest ++ bits took ≡ []
@@ -101,7 +101,7 @@ picture-given format budget before now after old new pictures coded unit so call
     let paused = paused-on before now after old.allowance new.allowance calls.took old.pause new.pause calls.takes so.paused calls.asked in
     let gives : GivesPicture format seen new.rest new.pause coded =
     subst (λ (f : Format). GivesPicture f seen new.rest new.pause coded) (calls.format ∙ so.format_is) calls.gives.0 in
-    let cuts : Cuts format (bits (so.took ++ calls.took)) pictures seen = elim so.given [
+    let cuts : IsCutInto format (bits (so.took ++ calls.took)) pictures seen = elim so.given [
       | inl cuts ↦ longer format so.took calls.took pictures old.rest cuts
       | inr all ↦
           let quiet = none-asked old.pause new.pause pause.End calls.took now after new.allowance all.0 calls.asked in
@@ -130,7 +130,7 @@ no-more (Some xs) more at is = some_same is ∙ at
     some_same : {xs ys : List ℕ} → Some xs ≡ Some ys → ys ≡ xs
     some_same is = cc
 
-bad-stream : (format : Format) (took : List ℕ) (pictures : List Picture) (seen : List Bool) (place fault : ℕ) (why : Why) → Cuts format (bits took) pictures seen → HasNoNext format seen
+bad-stream : (format : Format) (took : List ℕ) (pictures : List Picture) (seen : List Bool) (place fault : ℕ) (why : Why) → IsCutInto format (bits took) pictures seen → HasNoNext format seen
     → 0 < length seen → FirstFault (next_within_limit format) seen fault why → place ≡ 8 * length took - length seen + fault → IsBareStream format (bits took) pictures (BadAt place why)
 bad-stream format took pictures seen place fault why cuts none some first is = record {
   former = pictures;
@@ -141,7 +141,7 @@ bad-stream format took pictures seen place fault why cuts none some first is = r
   ends = (some, none, (fault, first, omega (arith, is, length-bits took)));
 }
 
-stays-bad : (format : Format) (took more : List ℕ) (pictures : List Picture) (seen : List Bool) (place fault : ℕ) (why : Why) → Cuts format (bits took) pictures seen → HasNoNext format seen
+stays-bad : (format : Format) (took more : List ℕ) (pictures : List Picture) (seen : List Bool) (place fault : ℕ) (why : Why) → IsCutInto format (bits took) pictures seen → HasNoNext format seen
     → 0 < length seen → FirstFault (next_within_limit format) seen fault why → place ≡ 8 * length took - length seen + fault → kept_length format ≤ length seen
     → IsBareStream format (bits (took ++ more)) pictures (BadAt place why)
 stays-bad format took more pictures seen place fault why cuts none some first is long =
@@ -152,7 +152,7 @@ stays-bad format took more pictures seen place fault why cuts none some first is
     (omega (arith, is, length-append took more, length-append seen (bits more), length-bits more))
 
 reading-ends : (end : BareEnd) (format : Format) (took : List ℕ) (pictures : List Picture) (seen : List Bool) (before after : Input) (allowance : AllowanceState) (paused : Option Pause)
-    → allowance.taken ≡ length took → PausedSince paused before after allowance → Cuts format (bits took) pictures seen
+    → allowance.taken ≡ length took → PausedSince paused before after allowance → IsCutInto format (bits took) pictures seen
     → GivesNone end format seen (8 * allowance.taken - length seen) paused → ReadingEnds end format took pictures before after allowance
 reading-ends End format took pictures seen before after allowance paused size since cuts gives = (
   record { former = pictures; last = []; rest = seen; order = sym (append-nil pictures); cuts = cuts; ends = gives.1 },

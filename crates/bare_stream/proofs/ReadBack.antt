@@ -3,8 +3,9 @@ use Rattle.std.proofs.Common.{◌≡◌, ℕ, ◌+◌, ◌-◌, ◌*◌, ◌/◌
 use Rattle.std.specs.List.{AllByRecursion}
 use Rattle.std.proofs.Math.Seq.{take-append_seam}
 use Rattle.std.proofs.lemmas.List.{length-replicate, drop_at}
-use Rattle.bare_stream.specs.Packed.{octets_spelled, left_over, filled}
-use Rattle.bare_stream.specs.Streams.{EndsAtStart, Cuts, AtEnd, EndsWith, IsBareStream, IsSendable, texts, LawOfBareReadBack}
+use Rattle.bare_stream.specs.Packed.{octets_spelled, left_over}
+use Rattle.bare_stream.specs.Streams.{EndsAtStart, IsCutInto, AtEnd, StreamEndsWith, IsBareStream, IsSendable, texts, LawOfBareReadBack}
+use Rattle.pel_bits.specs.Buffer.{filled_up}
 use Rattle.pel_bits.specs.Bits.{bits}
 use Rattle.pel_bits.specs.Reading.{zeros}
 use Rattle.pel_bits.proofs.Fields.{field-number}
@@ -39,9 +40,9 @@ bits-spelled (a ∷ b ∷ c ∷ d ∷ e ∷ f ∷ g ∷ h ∷ bs) none =
 abbrev filling : List Bool → ℕ
 filling bs = 8 * ((length bs + 7) / 8) - length bs
 
-filled-bits : (bs : List Bool) → bits (octets_spelled (filled bs)) ≡ bs ++ replicate (filling bs) false
+filled-bits : (bs : List Bool) → bits (octets_spelled (filled_up bs)) ≡ bs ++ replicate (filling bs) false
 filled-bits bs =
-    bits-spelled (filled bs) (omega (arith, spelled-length (filled bs), length-append bs (zeros (filling bs)), length-replicate (filling bs) false, left-short (filled bs)))
+    bits-spelled (filled_up bs) (omega (arith, spelled-length (filled_up bs), length-append bs (zeros (filling bs)), length-replicate (filling bs) false, left-short (filled_up bs)))
 
 -- ---- a picture and zeros
 
@@ -72,7 +73,7 @@ starts-text format p more = ap (λ (t : List Bool). is_prefix picture_start_code
 
 -- ---- pictures
 
-ends-anywhere : (format : Format) (at other : ℕ) (rest : List Bool) (last : List Picture) → EndsWith format at rest last AtEnd → EndsWith format other rest last AtEnd
+ends-anywhere : (format : Format) (at other : ℕ) (rest : List Bool) (last : List Picture) → StreamEndsWith format at rest last AtEnd → StreamEndsWith format other rest last AtEnd
 ends-anywhere format at other rest [] h = h
 ends-anywhere format at other rest (p ∷ []) h = h
 ends-anywhere format at other rest (p ∷ q ∷ ps) h = h
@@ -95,7 +96,7 @@ one-more format p ps behind can starts some stream =
       last = stream.last;
       rest = stream.rest;
       order = ap (λ (qs : List Picture). p ∷ qs) stream.order;
-      cuts = (e, is-next format (text format p ++ behind) e here, accepted, subst (λ (t : List Bool). Cuts format t stream.former stream.rest) (sym back) stream.cuts);
+      cuts = (e, is-next format (text format p ++ behind) e here, accepted, subst (λ (t : List Bool). IsCutInto format t stream.former stream.rest) (sym back) stream.cuts);
       ends = ends-anywhere format (length behind - length stream.rest) (length (text format p ++ behind) - length stream.rest) stream.rest stream.last stream.ends;
     }
 

@@ -5,7 +5,7 @@ use Rattle.bare_stream.specs.declared.reader.BareEnd.{BareEnd}
 use Rattle.bare_stream.specs.declared.reader.BareEnd.TheVariants as end
 use Rattle.bare_stream.specs.declared.front.Front.TheVariants as front
 use Rattle.bare_stream.specs.Filling.{Fills, HasEnough, HasGivenAll, GivesLast, IsEndAt}
-use Rattle.bare_stream.specs.Front.{IsFront}
+use Rattle.bare_stream.specs.Front.{StandsInFront}
 use Rattle.bare_stream.specs.Reading.{BareReading, Asked, CallsBare, Gives, GivesNone, GivesPicture}
 use Rattle.h261_pic.specs.Coded.{Coding}
 use Rattle.io_edge.specs.Allowance.{AllowanceState, TakesOctets}
@@ -46,7 +46,7 @@ fills-none source old within enough = record {
 
 -- all bits that are there are a picture
 pub gives-last : (result : Result Unit BareEnd) (old new : BareReading) (coded : Coding) → GivesLast result old new → HasEnough old
-    → IsFront old.format old.rest front.Whole coded → Gives result old new old.rest coded
+    → StandsInFront old.format old.rest front.Whole coded → Gives result old new old.rest coded
 gives-last (Ok u) old new coded gives enough is =
     let short = accepted-short old.format old.rest is.1.0 is.1.1 in
     subst (λ (n : BareReading). Gives (Ok u) old n old.rest coded) (sym gives.1)
@@ -62,7 +62,7 @@ gives-last (Err (end.Bad place why)) old new coded gives enough is = absurd give
 
 -- they have a first fault
 pub gives-none : (fault : Fault) (stop : BareEnd) (old : BareReading) (coded : Coding) → IsEndAt fault stop old → HasEnough old → (HasGivenAll old → ⊥)
-    → IsFront old.format old.rest (front.Bad fault) coded → GivesNone stop old.format old.rest (8 * old.allowance.taken - length old.rest) old.pause
+    → StandsInFront old.format old.rest (front.Bad fault) coded → GivesNone stop old.format old.rest (8 * old.allowance.taken - length old.rest) old.pause
 gives-none fault (end.Bad place why) old coded at enough unless_all is =
     let decided : (old.pause ≡ Some pause.End) ⊎ (kept_length old.format ≤ length old.rest) =
     elim at.2 [

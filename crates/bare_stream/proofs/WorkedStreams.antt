@@ -1,7 +1,8 @@
 -- Worked values: bits as octets, and a stream of two small pictures as an independent model writes it.
 use Rattle.std.proofs.Common.{◌≡◌, ℕ, true, false, [], ◌∷◌, ◌++◌, replicate, refl}
-use Rattle.bare_stream.specs.Packed.{octets_spelled, left_over, filled}
+use Rattle.bare_stream.specs.Packed.{octets_spelled, left_over}
 use Rattle.bare_stream.specs.Streams.{StartsAt, bare}
+use Rattle.pel_bits.specs.Buffer.{filled_up}
 use Rattle.pel_bits.specs.Bits.{number}
 use Rattle.pel_model.specs.declared.Format.TheVariants.{Qcif}
 use Rattle.pel_model.specs.Bits.{field}
@@ -12,15 +13,15 @@ use Rattle.pel_model.specs.Records.{Group, Picture}
 
 -- ---- octets
 
-no-bits : octets_spelled (filled []) ≡ []
+no-bits : octets_spelled (filled_up []) ≡ []
 unfolding octets_spelled
 no-bits = refl
 
-one-bit : octets_spelled (filled (true ∷ [])) ≡ 128 ∷ []
+one-bit : octets_spelled (filled_up (true ∷ [])) ≡ 128 ∷ []
 unfolding octets_spelled number
 one-bit = refl
 
-nine-bits : octets_spelled (filled (replicate 9 true)) ≡ 255 ∷ 128 ∷ []
+nine-bits : octets_spelled (filled_up (replicate 9 true)) ≡ 255 ∷ 128 ∷ []
 unfolding octets_spelled number
 nine-bits = refl
 

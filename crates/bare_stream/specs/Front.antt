@@ -9,10 +9,10 @@ use Rattle.pel_model.specs.Grammar.{next_within_limit}
 use Rattle.pel_model.specs.Walk.{FirstFault}
 
 -- a picture up to the next PSC; all bits as one picture; or their first fault. The picture stands in `coded`.
-abbrev pub IsFront : Format → List Bool → Front → Coding → Type 0
-IsFront format bits (Next e) coded =
+abbrev pub StandsInFront : Format → List Bool → Front → Coding → Type 0
+StandsInFront format bits (Next e) coded =
     IsNext format bits e × HoldsAccepted format (take e bits) coded × IsFinished coded
-IsFront format bits Whole coded = HasNoNext format bits × HoldsAccepted format bits coded × IsFinished coded
-IsFront format bits (Bad fault) coded =
+StandsInFront format bits Whole coded = HasNoNext format bits × HoldsAccepted format bits coded × IsFinished coded
+StandsInFront format bits (Bad fault) coded =
     HasNoNext format bits × FirstFault (next_within_limit format) bits fault.place fault.why
     × (coded ≡ nothing format)

@@ -4,7 +4,6 @@ use Rattle.std.specs.Io.KnownBytes.{Appends}
 use Rattle.io_edge.specs.Causes.{HasCause}
 use Rattle.io_edge.specs.Outside.{Output}
 use Rattle.pel_bits.specs.Bits.{number}
-use Rattle.pel_bits.specs.Buffer.{filled_up}
 
 -- the octets that bits spell, eight each; bits behind the last whole octet spell none
 unfoldable pub octets_spelled : List Bool → List ℕ
@@ -16,10 +15,6 @@ octets_spelled _ = []
 unfoldable pub left_over : List Bool → List Bool
 left_over (a ∷ b ∷ c ∷ d ∷ e ∷ f ∷ g ∷ h ∷ bits) = left_over bits
 left_over bits = bits
-
--- bits, and 0 to 7 zero bits to a whole octet
-abbrev pub filled : List Bool → List Bool
-filled bits = filled_up bits
 
 -- ---- what a writer of bits puts
 

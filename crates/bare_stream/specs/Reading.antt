@@ -1,5 +1,6 @@
 -- What a reader of a bare stream holds of its source, and what a call of it gives.
-use Rattle.std.specs.Prelude.{◌≡◌, ◌⊎◌, ℕ, ◌+◌, ◌-◌, ◌*◌, ◌<◌, ◌≤◌, Bool, List, [], ◌++◌, length, take, drop, Option, Some, None, Result, Ok, Err}
+use Rattle.std.specs.Prelude.{◌≡◌, ◌⊎◌, ℕ, ◌+◌, ◌-◌, ◌*◌, ◌<◌, ◌≤◌, Bool, List, [], ◌++◌, length, take}
+use Rattle.std.specs.Prelude.{drop, Option, Some, None, Result, Ok, Err}
 use Rattle.bare_stream.specs.declared.reader.BareEnd.{BareEnd}
 use Rattle.bare_stream.specs.declared.reader.BareEnd.TheVariants.{End, Bad, Fault, Limit}
 use Rattle.bare_stream.specs.Streams.{IsNext, HasNoNext}

@@ -3,7 +3,7 @@ use Rattle.std.specs.Prelude.{◌≡◌, ◌⊎◌, ℕ, Bool, false, List, [], 
 use Rattle.bare_stream.specs.declared.reader.BareEnd.{BareEnd}
 use Rattle.bare_stream.specs.declared.reader.BareEnd.TheVariants.{End, Bad, Fault, Limit}
 use Rattle.bare_stream.specs.Reading.{BareReading, CallsBare}
-use Rattle.bare_stream.specs.Streams.{Cuts, HasNoNext, IsBareStream, AtEnd, BadAt}
+use Rattle.bare_stream.specs.Streams.{IsCutInto, HasNoNext, IsBareStream, AtEnd, BadAt}
 use Rattle.h261_pic.specs.Coded.{Coding, coding}
 use Rattle.io_edge.specs.Allowance.{AllowanceState, TakesOctets, Paused, unused}
 use Rattle.io_edge.specs.declared.allowance.Pause.{Pause}
@@ -27,7 +27,7 @@ PausedSince (Some why) before now allowance = Paused why before now allowance
 -- end
 abbrev pub AreGiven : Format → (taken : List Bool) → List Picture → (rest : List Bool) → Option Pause → Type 0
 AreGiven format taken pictures rest paused =
-    Cuts format taken pictures rest
+    IsCutInto format taken pictures rest
     ⊎ ((paused ≡ Some pause.End) × (rest ≡ []) × IsBareStream format taken pictures AtEnd)
 
 -- between two calls
@@ -48,7 +48,7 @@ pub record GivesOneMore (format : Format) (budget : ℕ) (before now : Input) (r
 
 -- these are the pictures of the bits that have PSC behind them
 abbrev pub AreFollowed : Format → List Bool → List Picture → Type 0
-AreFollowed format taken pictures = (rest : List Bool) × Cuts format taken pictures rest × HasNoNext format rest
+AreFollowed format taken pictures = (rest : List Bool) × IsCutInto format taken pictures rest × HasNoNext format rest
 
 -- How reading ends, by the octets that were taken and the pictures that were given.
 abbrev pub ReadingEnds : BareEnd → Format → (took : List ℕ) → List Picture → (before after : Input) → AllowanceState

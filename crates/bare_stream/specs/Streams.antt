@@ -2,7 +2,8 @@
 -- the start code of the next one begins, and nothing else says how long it is.
 use Rattle.std.specs.Prelude.{◌≡◌, ℕ, ◌+◌, ◌-◌, ◌<◌, ◌≤◌, Bool, true, List, [], ◌∷◌, ◌++◌, length, take, drop}
 use Rattle.std.specs.List.{AllByRecursion, flat_map}
-use Rattle.bare_stream.specs.Packed.{octets_spelled, filled}
+use Rattle.bare_stream.specs.Packed.{octets_spelled}
+use Rattle.pel_bits.specs.Buffer.{filled_up}
 use Rattle.pel_bits.specs.Bits.{bits}
 use Rattle.pel_model.specs.declared.Format.{Format}
 use Rattle.pel_model.specs.declared.Why.{Why}
@@ -35,10 +36,10 @@ abbrev pub HasNoNext : Format → List Bool → Type 0
 HasNoNext format bits = (e : ℕ) → EndsAtStart format bits e → ⊥
 
 -- the bits are these pictures, each up to the PSC of the next one, and behind them the rest
-abbrev pub Cuts : Format → (bits : List Bool) → List Picture → (rest : List Bool) → Type 0
-Cuts format bits [] rest = rest ≡ bits
-Cuts format bits (p ∷ ps) rest =
-    (e : ℕ) × IsNext format bits e × Accepts format (take e bits) p × Cuts format (drop e bits) ps rest
+abbrev pub IsCutInto : Format → (bits : List Bool) → List Picture → (rest : List Bool) → Type 0
+IsCutInto format bits [] rest = rest ≡ bits
+IsCutInto format bits (p ∷ ps) rest =
+    (e : ℕ) × IsNext format bits e × Accepts format (take e bits) p × IsCutInto format (drop e bits) ps rest
 
 -- how a stream ends: with a whole picture, or at this bit, counted from its first, with the first fault of what is none
 pub data StreamStop : Type 0 where
@@ -47,13 +48,13 @@ pub data StreamStop : Type 0 where
 
 -- What the rest of a stream is, in which no picture ends at a PSC, and which begins at bit `at`: nothing, the last picture, or
 -- bits with a first fault.
-abbrev pub EndsWith : Format → (at : ℕ) → (rest : List Bool) → List Picture → StreamStop → Type 0
-EndsWith format at rest [] AtEnd = rest ≡ []
-EndsWith format at rest (p ∷ []) AtEnd = HasNoNext format rest × Accepts format rest p
-EndsWith format at rest [] (BadAt place why) =
+abbrev pub StreamEndsWith : Format → (at : ℕ) → (rest : List Bool) → List Picture → StreamStop → Type 0
+StreamEndsWith format at rest [] AtEnd = rest ≡ []
+StreamEndsWith format at rest (p ∷ []) AtEnd = HasNoNext format rest × Accepts format rest p
+StreamEndsWith format at rest [] (BadAt place why) =
     (0 < length rest) × HasNoNext format rest
     × ((fault : ℕ) × FirstFault (next_within_limit format) rest fault why × (place ≡ at + fault))
-EndsWith format at rest _ stop = ⊥
+StreamEndsWith format at rest _ stop = ⊥
 
 -- the bits are the stream of these pictures, with this end
 pub record IsBareStream (format : Format) (bits : List Bool) (pictures : List Picture) (stop : StreamStop) : Type 0 where
@@ -61,8 +62,8 @@ pub record IsBareStream (format : Format) (bits : List Bool) (pictures : List Pi
   pub last : List Picture
   pub rest : List Bool
   pub order : pictures ≡ former ++ last
-  pub cuts : Cuts format bits former rest
-  pub ends : EndsWith format (length bits - length rest) rest last stop
+  pub cuts : IsCutInto format bits former rest
+  pub ends : StreamEndsWith format (length bits - length rest) rest last stop
 
 -- a picture that can be sent: valid, and its strict text no longer than its format allows
 pub record IsSendable (format : Format) (picture : Picture) : Type 0 where
@@ -75,7 +76,7 @@ texts format pictures = flat_map (text format) pictures
 
 -- the bare stream of pictures: their strict texts, and 0 to 7 zero bits to a whole octet
 abbrev pub bare : Format → List Picture → List ℕ
-bare format pictures = octets_spelled (filled (texts format pictures))
+bare format pictures = octets_spelled (filled_up (texts format pictures))
 
 -- ---- laws
 

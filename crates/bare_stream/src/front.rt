@@ -1,9 +1,9 @@
 //! What stands at the front of bits: a picture up to the start code of the next one, one picture that is all of them, or a
 //! first fault.
-ghost use Rattle.std.specs.Prelude.{◌≡◌, ℕ, ◌+◌, ◌-◌, ◌^◌, ◌<◌, ◌≤◌, ◌⊎◌, List, Bool, length, take, drop, MatchOption};
-ghost use Rattle.bare_stream.specs.Front.{IsFront};
+ghost use Rattle.std.specs.Prelude.{◌≡◌, ℕ, ◌+◌, ◌-◌, ◌^◌, ◌<◌, ◌≤◌, ◌⊎◌, List, Bool, length, take, drop};
+ghost use Rattle.bare_stream.specs.Front.{StandsInFront};
 ghost use Rattle.bare_stream.specs.Streams.{EndsAtStart, StartsAt};
-ghost use Rattle.bare_stream.specs.Tries.{IsTried, LastsBefore};
+ghost use Rattle.bare_stream.specs.Tries.{FindsEnd, LastsBefore};
 ghost use Rattle.h261_pic.specs.Coded.{nothing, HoldsAccepted, IsFinished};
 ghost use Rattle.pel_model.specs.Codes.{picture_start_code, is_prefix};
 ghost use Rattle.pel_model.specs.Valid.{limit};
@@ -42,7 +42,7 @@ pub enum Front {
 /// the work is bounded by three readings of the bits up to the first fault, whatever stands behind it.
 pub fn read_front(bits: Bits<'_>, format: Format, into: &mut Coded) -> Front
     requires { into.old.format ≡ format }
-    ensures front { IsFront format bits.entry result into.new }
+    ensures front { StandsInFront format bits.entry result into.new }
     ensures format { into.new.format ≡ format }
 {
     // what a fault says of the place of a next picture rests on these laws
@@ -64,8 +64,7 @@ pub fn read_front(bits: Bits<'_>, format: Format, into: &mut Coded) -> Front
 fn picture_before(bits: &Bits<'_>, format: Format, fault: u32, into: &mut Coded) -> Option<u32>
     requires into { into.old ≡ nothing format }
     requires small { fault ≤ limit format }
-    ensures { MatchOption result ((into.new ≡ nothing format) × ((e : ℕ) → IsTried fault e → EndsAtStart format bits.now e → ⊥))
-        (λ e. EndsAtStart format bits.now e × HoldsAccepted format (take e bits.now) into.new × IsFinished into.new) }
+    ensures { FindsEnd format bits.now fault result into.new }
 {
     if fault >= GROUP_START_LENGTH && picture_ends(bits, format, fault - GROUP_START_LENGTH, into) {
         return Some(fault - GROUP_START_LENGTH);

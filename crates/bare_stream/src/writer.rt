@@ -1,6 +1,7 @@
 //! Strict texts joined bit by bit, and written by whole octets.
 ghost use Rattle.std.specs.Prelude.{◌≡◌, ◌+◌, ◌<◌, ◌≤◌, ◌++◌, [], IfOk, length, drop};
-ghost use Rattle.bare_stream.specs.Packed.{PutsBits, left_over, filled};
+ghost use Rattle.bare_stream.specs.Packed.{PutsBits, left_over};
+ghost use Rattle.pel_bits.specs.Buffer.{filled_up};
 ghost use Rattle.pel_bits.specs.Bits.{bits};
 
 use h261_pic::Coded;
@@ -54,7 +55,7 @@ impl TextWriter {
 
     /// Writes the bits that are left, with zeros to a whole octet, and gives the number of octets, 1 or 0.
     pub fn finish<K: Sink>(&mut self, sink: &mut K) -> Result<u64, Failed>
-        ensures written { PutsBits (filled self.old) (K.tells sink.old) (K.tells sink.new) result }
+        ensures written { PutsBits (filled_up self.old) (K.tells sink.old) (K.tells sink.new) result }
         ensures pending { self.new ≡ [] }
         ensures few { IfOk result (λ octets. octets ≤ 1) }
     {

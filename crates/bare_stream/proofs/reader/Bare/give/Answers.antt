@@ -2,7 +2,7 @@
 use Rattle.std.proofs.Common.{◌≡◌, Bool, List, length, refl, sym, ap, subst, ◌∙◌, arith}
 use Rattle.std.proofs.lemmas.List.{length-take-le}
 use Rattle.bare_stream.specs.declared.front.Front.TheVariants as front
-use Rattle.bare_stream.specs.Front.{IsFront}
+use Rattle.bare_stream.specs.Front.{StandsInFront}
 use Rattle.bare_stream.specs.Reading.{BareReading}
 use Rattle.pel_model.specs.declared.Format.{Format}
 use Rattle.bare_stream.proofs.Buffers.{rest-length, seen-all, window-fits}
@@ -61,9 +61,9 @@ returns-in-Whole-clause-gives c =
     let view = ap (λ (r : BareReading). r.rest) c.self.view_is in
     let seen : c.new-bits.result ≡ c.args.self.now.rest =
     c.new-bits.ensures.value ∙ (seen-all b.octets.items c.deref.result.now b.filled b.from c.len-len.result c.deref.ensures.value (c.len-len.ensures ∙ ap length (sym view)) ∙ view) in
-    let is = subst (λ (f : Format). IsFront f c.new-bits.result front.Whole coded) (ap (λ (r : BareReading). r.format) c.self.view_is) c.in-Whole.ensures.front in
+    let is = subst (λ (f : Format). StandsInFront f c.new-bits.result front.Whole coded) (ap (λ (r : BareReading). r.format) c.self.view_is) c.in-Whole.ensures.front in
     gives-last c.give_last.result c.args.self.now c.give_last.new.self coded c.give_last.ensures c.requires.enough
-    (subst (λ (t : List Bool). IsFront c.args.self.now.format t front.Whole coded) seen is)
+    (subst (λ (t : List Bool). StandsInFront c.args.self.now.format t front.Whole coded) seen is)
 
 pub returns-in-Bad-clause-gives : goal.returns-in-Bad-clause-gives
 returns-in-Bad-clause-gives c =
@@ -72,8 +72,8 @@ returns-in-Bad-clause-gives c =
     let view = ap (λ (r : BareReading). r.rest) c.self.view_is in
     let seen : c.new-bits.result ≡ c.args.self.now.rest =
     c.new-bits.ensures.value ∙ (seen-all b.octets.items c.deref.result.now b.filled b.from c.len-len.result c.deref.ensures.value (c.len-len.ensures ∙ ap length (sym view)) ∙ view) in
-    let is = subst (λ (f : Format). IsFront f c.new-bits.result (front.Bad c.in-Bad.fault) coded) (ap (λ (r : BareReading). r.format) c.self.view_is) c.in-Bad.ensures.front in (
+    let is = subst (λ (f : Format). StandsInFront f c.new-bits.result (front.Bad c.in-Bad.fault) coded) (ap (λ (r : BareReading). r.format) c.self.view_is) c.in-Bad.ensures.front in (
       gives-none c.in-Bad.fault c.end_at.result c.args.self.now coded c.end_at.ensures c.requires.enough c.if-has_given_all.ensures
-          (subst (λ (t : List Bool). IsFront c.args.self.now.format t (front.Bad c.in-Bad.fault) coded) seen is),
+          (subst (λ (t : List Bool). StandsInFront c.args.self.now.format t (front.Bad c.in-Bad.fault) coded) seen is),
       refl,
     )
