@@ -179,10 +179,10 @@ ended "a lane that pauses" 0
 is "its first picture is told meanwhile" test "$(cat "$room/out")" -eq 1
 
 # How far long work has come is told where standard error is a terminal, and taken away before the line.
-try_line '{ head -c 1183 "$2"; sleep 1; } | python3 -B "$3/terminal.py" "$1" decode' \
+try_line '{ head -c 1183 "$2"; sleep 1; } | python3 -B "$3/terminal.py" "$1" decode --format=qcif' \
     "$program" "$top/examples/bars_lane.rtp" "$top/checks"
 ended "decode at a terminal" 0
-printf '\rread 0 MB\r\033[Kdone pictures 1 gaps 0 octets 152064\n' | cmp -s - "$room/err"
+printf '\rread 0 MB\r\033[Kdone pictures 1 gaps 0 octets 38016\n' | cmp -s - "$room/err"
 judge $? "it said: $(cat -v "$room/err")"
 try_line 'python3 -B "$3/terminal.py" "$1" replay < "$2"' "$program" "$striped" "$top/checks"
 ended "short work at a terminal" 0

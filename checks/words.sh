@@ -140,10 +140,10 @@ behind "a lane for a conference" 6 "fault record at 0: header" "$packets" '"$1" 
 behind "video for a conference" 6 "fault record at 0: header" "$video" \
     '"$1" replay < "$2/bare.h261"' "$program" "$room"
 for magic in '\324\303\262\241' '\241\262\303\324' '\115\074\262\241' '\241\262\074\115' '\n\r\r\n'; do
-    printf "$magic\002\000\004\000" > "$room/capture"
+    printf "$magic\002\000\004\000\000\000\000\000" > "$room/capture"
     behind "a capture that begins with $magic" 6 "fault record at 0: header" "$capture" \
         '"$1" replay < "$2/capture"' "$program" "$room"
-    behind "a capture of packets that begins with $magic" 5 "fault cut at 8" "$capture" \
+    behind "a capture of packets that begins with $magic" 5 "fault cut at 12" "$capture" \
         '"$1" check < "$2/capture"' "$program" "$room"
 done
 behind "a text for a conference" 6 "fault record at 0: header" "" '"$1" replay < "$2"' "$program" "$top/README.md"
