@@ -9,7 +9,7 @@ use Rattle.bridge_replay.specs.declared.idle.Idle.{Idle}
 use Rattle.bridge_replay.specs.Account.{idle_lines, AreEntryLines}
 use Rattle.bridge_replay.specs.FileHistory.{packets_in, after_loss, AfterUnit, AfterEntry}
 use Rattle.bridge_replay.specs.Lines.{event_line, event_lines}
-use Rattle.bridge_replay.specs.Recounting.{Adds, AreCounted, AreLasts, last_number, Follows, MayCome, IsSameAccount, TellsIn, TellsUnit, with_events, step_in, Keeps, Hears, TookEntry}
+use Rattle.bridge_replay.specs.Recounting.{HasLines, Adds, Grows, AreCounted, AreLasts, last_number, Follows, MayCome, IsSameAccount, TellsIn, TellsUnit, with_events, step_in, Keeps, Hears, TookEntry}
 use Rattle.bridge_replay.specs.UnderWay.{IsOpen, IsFedQcif, AreFed, StaysOpen}
 use Rattle.bridge_replay.proofs.Accounts.{ComesIn, gap-comes, post-comes, counted-further}
 use Rattle.bridge_replay.proofs.Units.{may-post}
@@ -71,13 +71,14 @@ pub one-tells : (place lane n : ℕ) (e : Event) (old new : Account) (page now :
     → Steps old.hall new.hall (step_in lane e) → KeepsRules old.hall (step_in lane e) → IsSameConference old.hall new.hall
     → ((lanes : ℕ) (history : History) → AreCounted lanes history old.arrivals.items → lane < lanes → n ≡ length (arrivals history lane) + 1)
     → new.arrivals.items ≡ slice_set old.arrivals.items lane n → IsSameAccount old new → new.hand ≡ old.hand
-    → Adds (event_line place lane n e ∷ []) page now → TellsIn place lane (e ∷ []) old new page now
-one-tells place lane n e old new page now may steps keeps same serial counts beside hand adds = record {
+    → Adds (event_line place lane n e ∷ []) page now → Grows page now → TellsIn place lane (e ∷ []) old new page now
+one-tells place lane n e old new page now may steps keeps same serial counts beside hand adds grows = record {
   follows = λ lanes history follows. follows-on lanes lane n history (step_in lane e) old new steps keeps same (comes-in lane e) counts (serial lanes history)
       (below-so lane lanes history old may follows) follows;
   lines = λ lanes history follows within. subst (λ (k : ℕ). Adds (event_line place lane k e ∷ []) page now) (serial lanes history follows.counts within) adds;
   beside = beside;
   hand = hand;
+  grows = grows;
 }
 
 -- nothing did
@@ -87,6 +88,7 @@ nothing-tells place lane a page = record {
   lines = λ lanes history follows within. adds-none page;
   beside = record { depacks = refl; lasts = refl };
   hand = refl;
+  grows = record { text = omega arith; lines = omega arith };
 }
 
 -- ---- units
@@ -181,9 +183,9 @@ same-follows lanes history a b hall counts follows = record {
 pub packet-told : (place lane : ℕ) (packet : List ℕ) (lanes : ℕ) (entries : List Content) (history : History) (fed : Fed) (idle : Option Idle) (old heard mid new : Account)
     (before box : Coding) (page idled lost now : Page) → Keeps lanes entries history old → IsOpen 2 history → lane < lanes
     → Hears lane packet fed idle old heard before box lanes entries → heard.hall ≡ old.hall → heard.arrivals.items ≡ old.arrivals.items → heard.hand ≡ old.hand
-    → Adds (idle_lines place lane idle) page idled → TellsIn place lane (lost_events fed.lost) heard mid idled lost → TellsUnit place lane fed.unit box mid new lost now
+    → HasLines 0 page → Adds (idle_lines place lane idle) page idled → Grows page idled → TellsIn place lane (lost_events fed.lost) heard mid idled lost → TellsUnit place lane fed.unit box mid new lost now
     → TookEntry lanes place entries (Packet lane packet) history new page now
-packet-told place lane packet lanes entries history fed idle old heard mid new before box page idled lost now keeps free below hears hall counts hand idles loses ends =
+packet-told place lane packet lanes entries history fed idle old heard mid new before box page idled lost now keeps free below hears hall counts hand empty idles grew loses ends =
     let given = given_behind (packets_in entries lane) packet in
     let missing = lost_events fed.lost in
     let units = ends given.unit before hears.given.unit in
@@ -222,6 +224,10 @@ packet-told place lane packet lanes entries history fed idle old heard mid new b
       );
       adds = adds-both (idle_lines place lane idle) (lost-lines ++ unit-lines) page idled now idles
           (adds-both lost-lines unit-lines idled lost now (loses.lines lanes history heard-follows below) (units.2.lines lanes between mid-follows below));
+      short = record {
+        short = omega (arith, empty.short, grew.text, loses.grows.text, units.2.grows.text);
+        few = omega (arith, empty.few, grew.lines, loses.grows.lines, units.2.grows.lines);
+      };
     }
 
 -- ---- a command, a tick, and the end
@@ -231,9 +237,9 @@ pub step-told : (lanes place : ℕ) (entries : List Content) (content : Content)
     → Keeps lanes entries history old → StandsFor new.hall (s ∷ history) → KeepsRules old.hall s → IsSameConference old.hall new.hall
     → new.arrivals.items ≡ old.arrivals.items → IsSameAccount old new → IsQcifHand new.hand → (Legal lanes (s ∷ history) → AfterEntry lanes entries content history (s ∷ history))
     → ((c : ℕ) → packets_in (content ∷ entries) c ≡ packets_in entries c) → ((c : ℕ) → arrivals (s ∷ history) c ≡ arrivals history c) → StaysOpen content (s ∷ history)
-    → (Legal lanes (s ∷ history) → AreEntryLines lanes place entries content history (s ∷ history) (line ∷ [])) → Adds (line ∷ []) page now
+    → (Legal lanes (s ∷ history) → AreEntryLines lanes place entries content history (s ∷ history) (line ∷ [])) → HasLines 0 page → Adds (line ∷ []) page now → Grows page now
     → TookEntry lanes place entries content history new page now
-step-told lanes place entries content history s old new page now line keeps stands rules same counts beside hand step none silent free are adds =
+step-told lanes place entries content history s old new page now line keeps stands rules same counts beside hand step none silent free are empty adds grows =
     let follows = keeps.follows in
     let legal = subst (λ (k : ℕ). Legal k (s ∷ history)) follows.lanes_are
     (rules history follows.stands (subst (λ (k : ℕ). Legal k history) (sym follows.lanes_are) follows.legal)) in
@@ -266,4 +272,5 @@ step-told lanes place entries content history s old new page now line keeps stan
       lines = line ∷ [];
       are = are legal;
       adds = adds;
+      short = record { short = omega (arith, empty.short, grows.text); few = omega (arith, empty.few, grows.lines) };
     }

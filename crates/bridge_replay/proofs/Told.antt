@@ -14,7 +14,7 @@ use Rattle.bridge_replay.specs.declared.telling.LineTally.{LineTally}
 use Rattle.bridge_replay.specs.Account.{StandsBehind, AreLines}
 use Rattle.bridge_replay.specs.FileHistory.{oldest_first, AfterEntry}
 use Rattle.bridge_replay.specs.ReadsFile.{replay_stop}
-use Rattle.bridge_replay.specs.Recounting.{HasLines, CanBeTold, Keeps, MayTell, TookEntry, HasReadTo, ToldSoFar}
+use Rattle.bridge_replay.specs.Recounting.{CanBeTold, Keeps, MayTell, TookEntry, HasReadTo, ToldSoFar}
 use Rattle.bridge_replay.specs.Telling.{TookEntries, StopsTelling, WroteLines, counted_lines, Tells}
 use Rattle.bridge_replay.specs.UnderWay.{IsOpen, StaysOpen}
 use Rattle.bridge_replay.proofs.Calls.{says}
@@ -363,7 +363,7 @@ module _ (law : LawOfReading) (budget : ℕ) (before old : Outside) (reader : Re
       )
 
   module _ (content : Content) (k : ReadsEntry t.lanes old.source source reader new (Ok content)) (place : ℕ) (then : Account) (page now : Page) (is : place ≡ length t.octets)
-      (empty : (page.text.bytes ≡ []) × (page.lines ≡ 0)) (e : TookEntry t.lanes place t.entries content t.history then page now) (few : HasLines 3 now) (sink : Output) where
+      (empty : (page.text.bytes ≡ []) × (page.lines ≡ 0)) (e : TookEntry t.lanes place t.entries content t.history then page now) (sink : Output) where
     bytes-are : now.text.bytes ≡ concat e.lines
     bytes-are = e.adds.bytes ∙ ap (λ (xs : List ℕ). xs ++ concat e.lines) empty.0
 
@@ -393,8 +393,8 @@ module _ (law : LawOfReading) (budget : ℕ) (before old : Outside) (reader : Re
       faults = k.takes.answer.1 ∙ t.faults;
       reads = subst (λ (l : Option ℕ). HasReadTo l t.lanes (content ∷ t.entries) e.after (taken_with _ k)) (sym k.lanes_left) (has-taken content k e.after e.going);
       room = omega (arith, e.few, t.room, taken-so _ k, t.taken, law.moves t.lanes old.source source reader new content k);
-      few_lines = omega (arith, few.few, t.few_lines, taken-so _ k, t.taken, law.moves t.lanes old.source source reader new content k);
-      few_octets = omega (arith, few.short, t.few_octets, taken-so _ k, t.taken, law.moves t.lanes old.source source reader new content k);
+      few_lines = omega (arith, e.short.few, t.few_lines, taken-so _ k, t.taken, law.moves t.lanes old.source source reader new content k);
+      few_octets = omega (arith, e.short.short, t.few_octets, taken-so _ k, t.taken, law.moves t.lanes old.source source reader new content k);
     }
 
     -- the sink failed at them

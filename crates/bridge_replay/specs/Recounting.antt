@@ -74,7 +74,8 @@ pub record AreLasts (lanes : ℕ) (entries : List Content) (lasts : List (Option
   pub each : (c : ℕ) → c < lanes → slice_get lasts c ≡ Some (last_number (packets_in entries c))
 
 -- a packet of a lane was judged
-pub record Judges (lane : ℕ) (packet : List ℕ) (old new : List (Option ℕ)) (idle : Option Idle) (lanes : ℕ) (entries : List Content) : Type 0 where
+pub record Judges (lane : ℕ) (packet : List ℕ) (old new : List (Option ℕ)) (idle : Option Idle) (lanes : ℕ)
+    (entries : List Content) : Type 0 where
   pub idle_is : idle ≡ why_idle (packets_in entries lane) packet
   pub lasts : AreLasts lanes (Packet lane packet ∷ entries) new
 
@@ -106,12 +107,16 @@ pub record MayCome (lane : ℕ) (a : Account) : Type 0 where
   pub follows : Follows lanes history a
   pub open_is : IsOpen 1 history
 
+-- and its line be added
+abbrev pub MayComeOn : ℕ → Account → Page → Type 0
+MayComeOn lane a page = MayCome lane a × HasLines 2 page
+
 -- what stays
 pub record IsSameAccount (old new : Account) : Type 0 where
   pub depacks : new.depacks.items ≡ old.depacks.items
   pub lasts : new.lasts.items ≡ old.lasts.items
 
--- these things happened in a lane, and their lines were added
+-- these things happened in a lane, one at most, and their lines were added
 pub record TellsIn (place lane : ℕ) (events : List Event) (old new : Account) (page now : Page) : Type 0 where
   pub follows : (lanes : ℕ) (history : History) → Follows lanes history old → Follows lanes (with_events lane events history) new
   pub lines :
@@ -119,6 +124,7 @@ pub record TellsIn (place lane : ℕ) (events : List Event) (old new : Account) 
       → Adds (event_lines place lane (length (arrivals history lane) + 1) events) page now
   pub beside : IsSameAccount old new
   pub hand : new.hand ≡ old.hand
+  pub grows : Grows page now
 
 -- a unit came in a lane, whose picture stands in a box
 abbrev pub TellsUnit : (place lane : ℕ) → Option Ended → Coding → (old new : Account) → (page now : Page) → Type 0
@@ -151,15 +157,21 @@ pub record MayTell (content : Content) (a : Account) : Type 0 where
   pub room : IsOpen 2 history
   pub fits : CanBeTold lanes content
 
+-- it may be told on this page
+abbrev pub MayTellOn : Content → Account → Page → Type 0
+MayTellOn content a page = MayTell content a × HasLines 0 page
+
 -- a packet was heard in a lane: what it gives, and why it gives nothing where it does not count
-pub record Hears (lane : ℕ) (packet : List ℕ) (fed : Fed) (idle : Option Idle) (old new : Account) (before now : Coding) (lanes : ℕ) (entries : List Content) : Type 0 where
+pub record Hears (lane : ℕ) (packet : List ℕ) (fed : Fed) (idle : Option Idle) (old new : Account) (before now : Coding)
+    (lanes : ℕ) (entries : List Content) : Type 0 where
   pub given : AnswersGiven Qcif (given_behind (packets_in entries lane) packet) fed before now
   pub idle_is : idle ≡ why_idle (packets_in entries lane) packet
   pub fed_is : AreFed lanes (Packet lane packet ∷ entries) new.depacks.items
   pub lasts : AreLasts lanes (Packet lane packet ∷ entries) new.lasts.items
 
 -- what became of a conference by an entry at this place, and its lines
-pub record TookEntry (lanes place : ℕ) (entries : List Content) (content : Content) (history : History) (new : Account) (page now : Page) : Type 0 where
+pub record TookEntry (lanes place : ℕ) (entries : List Content) (content : Content) (history : History)
+    (new : Account) (page now : Page) : Type 0 where
   pub after : History
   pub keeps : Keeps lanes (content ∷ entries) after new
   pub few : length after ≤ length history + 2
@@ -167,6 +179,7 @@ pub record TookEntry (lanes place : ℕ) (entries : List Content) (content : Con
   pub lines : List (List ℕ)
   pub are : AreEntryLines lanes place entries content history after lines
   pub adds : Adds lines page now
+  pub short : HasLines 3 now
 
 abbrev pub TellsEntry : (place : ℕ) → Content → (old new : Account) → (page now : Page) → Type 0
 TellsEntry place content old new page now =
@@ -215,7 +228,8 @@ TellsTo budget before now reader a tally (Ok _) = ToldSoFar budget before now re
 TellsTo budget before now reader a tally (Err why) = Tells budget before now (record { stop = why; tally = tally })
 
 -- a step takes octets within the budget, where more is told
-pub record TellsOn {T : Type 0} (old new : Outside) (was now : ReaderState) (a b : Account) (tally then : LineTally) (result : Result T ReplayStop) : Type 0 where
+pub record TellsOn {T : Type 0} (old new : Outside) (was now : ReaderState) (a b : Account) (tally then : LineTally)
+    (result : Result T ReplayStop) : Type 0 where
   pub steps : (budget : ℕ) (before : Outside) → ToldSoFar budget before old was a tally → TellsTo budget before new now b then result
   pub moves : IfOk result (λ _. was.allowance.taken < now.allowance.taken)
   pub within : IfOk result (λ _. now.allowance.taken ≤ was.allowance.budget)

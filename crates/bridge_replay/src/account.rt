@@ -2,7 +2,7 @@
 ghost use Rattle.std.specs.Prelude.{◌≡◌, ℕ, ◌<◌, ◌≤◌, ◌+◌, ◌∷◌, ◌++◌, IfOk, List, Option, Some, [], true, length, slice_set};
 ghost use Rattle.arrayvec.specs.ArrayString.{array_string_len};
 ghost use Rattle.bridge_replay.specs.Account.{idle_lines};
-ghost use Rattle.bridge_replay.specs.Recounting.{Adds, AreCounted, AreLasts, CanCount, Grows, HasLines, Hears, IsSameAccount, Judges, Keeps, MayCome, MayTell, TellsEntry, TellsIn, TellsUnit};
+ghost use Rattle.bridge_replay.specs.Recounting.{Adds, AreCounted, AreLasts, CanCount, Grows, HasLines, Hears, IsSameAccount, Judges, Keeps, MayComeOn, MayTell, MayTellOn, TellsEntry, TellsIn, TellsUnit};
 ghost use Rattle.conf_file.specs.Entries.{Content, Packet as PacketEntry, Chair as ChairEntry, Tick as TickEntry, End as EndEntry};
 ghost use Rattle.conf_file.specs.Reading.{content_of};
 ghost use Rattle.h261_pic.specs.Coded.{coding, IsFinished};
@@ -96,10 +96,8 @@ impl Account {
 
     // Where packets were lost, a gap comes in their lane.
     fn lose(&mut self, place: u64, lane: u8, lost: bool, page: &mut Page)
-        requires may { MayCome lane self.old }
-        requires room { HasLines 2 page.old }
-        ensures tells { TellsIn place lane (lost_events lost) self.old self.new page.old page.new }
-        ensures grows { Grows page.old page.new }
+        requires { MayComeOn lane self.old page.old }
+        ensures { TellsIn place lane (lost_events lost) self.old self.new page.old page.new }
     {
         if !lost {
             return;
@@ -113,11 +111,9 @@ impl Account {
 
     // A unit that is no picture is a gap of its lane.
     fn refuse(&mut self, place: u64, lane: u8, fault: &Fault, page: &mut Page)
-        requires may { MayCome lane self.old }
-        requires room { HasLines 2 page.old }
-        ensures tells { TellsIn place lane (Refused fault.now.place fault.now.why ∷ [])
+        requires { MayComeOn lane self.old page.old }
+        ensures { TellsIn place lane (Refused fault.now.place fault.now.why ∷ [])
             self.old self.new page.old page.new }
-        ensures grows { Grows page.old page.new }
     {
         let Ok(()) = self.hall.gap(lane) else {
             unreachable!();
@@ -128,12 +124,10 @@ impl Account {
 
     // A picture comes in a lane. Gives a box for the next one.
     fn receive(&mut self, place: u64, lane: u8, spare: Spare, page: &mut Page) -> Spare
-        requires may { MayCome lane self.old }
+        requires may { MayComeOn lane self.old page.old }
         requires finished { IsFinished spare.item.value }
-        requires room { HasLines 2 page.old }
-        ensures tells { (p : Picture) → spare.item.value ≡ coding Qcif p → IsPostable p →
+        ensures { (p : Picture) → spare.item.value ≡ coding Qcif p → IsPostable p →
             TellsIn place lane (Shown p ∷ []) self.old self.new page.old page.new }
-        ensures grows { Grows page.old page.new }
     {
         let serial = next_serial(&mut self.arrivals, lane);
         page.add(&picture_line(place, lane, serial, &spare.item));
@@ -152,11 +146,9 @@ impl Account {
         spare: Spare,
         page: &mut Page,
     ) -> Spare
-        requires may { MayCome lane self.old }
+        requires may { MayComeOn lane self.old page.old }
         requires finished { FinishedAt unit spare.item.value }
-        requires room { HasLines 2 page.old }
-        ensures tells { TellsUnit place lane unit spare.item.value self.old self.new page.old page.new }
-        ensures grows { Grows page.old page.new }
+        ensures { TellsUnit place lane unit spare.item.value self.old self.new page.old page.new }
     {
         match unit {
             None => spare,
@@ -189,10 +181,8 @@ impl Account {
 
     // A packet comes in a lane, whose picture may be put into the box. Gives a box for the next one.
     fn packet(&mut self, place: u64, lane: u8, bytes: &[u8], spare: Spare, page: &mut Page) -> Spare
-        requires may { MayTell (PacketEntry lane bytes.now) self.old }
-        requires room { HasLines 0 page.old }
-        ensures tells { TellsEntry place (PacketEntry lane bytes.now) self.old self.new page.old page.new }
-        ensures few { HasLines 3 page.new }
+        requires { MayTellOn (PacketEntry lane bytes.now) self.old page.old }
+        ensures { TellsEntry place (PacketEntry lane bytes.now) self.old self.new page.old page.new }
     {
         let mut spare = spare;
         let heard = self.hear(lane, bytes, &mut spare);
@@ -203,10 +193,8 @@ impl Account {
 
     // The chair gives a command.
     fn order(&mut self, place: u64, command: Command, page: &mut Page)
-        requires may { MayTell (ChairEntry command) self.old }
-        requires room { HasLines 0 page.old }
-        ensures tells { TellsEntry place (ChairEntry command) self.old self.new page.old page.new }
-        ensures few { HasLines 3 page.new }
+        requires { MayTellOn (ChairEntry command) self.old page.old }
+        ensures { TellsEntry place (ChairEntry command) self.old self.new page.old page.new }
     {
         let Ok(reply) = self.hall.command(command) else {
             unreachable!();
@@ -216,10 +204,8 @@ impl Account {
 
     // A tick: the places take their pictures.
     fn tick(&mut self, place: u64, step: u8, page: &mut Page)
-        requires may { MayTell (TickEntry step) self.old }
-        requires room { HasLines 0 page.old }
-        ensures tells { TellsEntry place (TickEntry step) self.old self.new page.old page.new }
-        ensures few { HasLines 3 page.new }
+        requires { MayTellOn (TickEntry step) self.old page.old }
+        ensures { TellsEntry place (TickEntry step) self.old self.new page.old page.new }
     {
         let Ok(note) = self.hall.tick(step, &mut self.hand) else {
             unreachable!();
@@ -229,10 +215,8 @@ impl Account {
 
     // The conference ends.
     fn close(&mut self, place: u64, page: &mut Page)
-        requires may { MayTell EndEntry self.old }
-        requires room { HasLines 0 page.old }
-        ensures tells { TellsEntry place EndEntry self.old self.new page.old page.new }
-        ensures few { HasLines 3 page.new }
+        requires { MayTellOn EndEntry self.old page.old }
+        ensures { TellsEntry place EndEntry self.old self.new page.old page.new }
     {
         let Ok(()) = self.hall.end() else {
             unreachable!();
@@ -243,10 +227,8 @@ impl Account {
     /// The next entry of the file comes, which begins at `place`, and its lines are put on the page; its picture, if there
     /// is one, may be put into the box. Gives a box for the next picture.
     pub fn enter(&mut self, place: u64, entry: Entry<'_>, spare: Spare, page: &mut Page) -> Spare
-        requires may { MayTell (content_of entry) self.old }
-        requires room { HasLines 0 page.old }
-        ensures tells { TellsEntry place (content_of entry.entry) self.old self.new page.old page.new }
-        ensures few { HasLines 3 page.new }
+        requires { MayTellOn (content_of entry) self.old page.old }
+        ensures { TellsEntry place (content_of entry.entry) self.old self.new page.old page.new }
     {
         match entry {
             Entry::Packet { lane, bytes } => self.packet(place, lane, bytes, spare, page),

@@ -104,7 +104,8 @@ fn tell_entry<S: Source, K: Sink>(
     sink: &mut K,
 ) -> Result<Spare, ReplayStop>
     requires reading { is_some reader.old.lanes ≡ true }
-    requires telling { IsTelling (outside (S.tells source.old) (K.tells sink.old)) reader.old account.old tally.old }
+    requires telling { IsTelling (outside (S.tells source.old) (K.tells sink.old))
+        reader.old account.old tally.old }
     ensures { TellsOn (outside (S.tells source.old) (K.tells sink.old)) (outside (S.tells source.new) (K.tells sink.new))
         reader.old reader.new account.old account.new tally.old tally.new result }
 {
