@@ -13,6 +13,7 @@ checks/faults.sh "$program" || status=1
 checks/replay.sh "$program" || status=1
 checks/examples.sh "$PWD/$program" || status=1
 checks/documents.sh "$PWD/$program" || status=1
+python3 -B checks/manual.py "$PWD/$program" || status=1
 python3 -B checks/order.py || status=1
 python3 -B checks/believed.py || status=1
 python3 -B checks/claims.py || status=1
