@@ -18,7 +18,7 @@ wrong() {
     is "the first line of <$*>" test "$(sed -n 1p "$room/err")" = "fault usage"
     is "the matter with <$*>: $(sed -n 2p "$room/err")" test "$(sed -n 2p "$room/err")" = "$matter"
     case ${1-} in
-        replay | check | decode | make | live) said "$("$program" "$1" --help)" ;;
+        replay | history | check | decode | make | live) said "$("$program" "$1" --help)" ;;
         *) said "Usage: ballastkiwi replay " ;;
     esac
 }
@@ -48,6 +48,7 @@ wrong 'check has no option "--mtu=1000"' check --mtu=1000
 wrong 'check has no option "--fromat=cif"; the nearest is --format=' check --fromat=cif
 wrong 'make has no option "--lane=4"; the nearest is --lanes=' make --lane=4
 wrong 'live has no option "--lane=a"; the nearest is --lanes=' live --lane=a --chair=b
+wrong 'history has no option "--format=cif"' history --format=cif
 wrong '--seq= is given twice' replay --seq=1 --seq=1
 wrong '--format= is given twice' check --format=cif --format=qcif
 wrong '--lanes= is given twice' live --lanes=a --chair=b --lanes=c
@@ -95,7 +96,7 @@ gets() {
 gets "$room/help" -h
 gets "$room/help" help
 gets "$room/version" -V
-for command in replay check decode make live; do
+for command in replay history check decode make live; do
     "$program" "$command" --help > "$room/$command"
     is "--help has the help of $command" python3 -c 'import sys
 sys.exit(open(sys.argv[2]).read() not in open(sys.argv[1]).read())' "$room/help" "$room/$command"
@@ -132,7 +133,7 @@ if [ ! -r "$room/secret" ]; then
 fi
 
 packets="the input looks like framed RTP packets, which check and decode read"
-file="the input looks like a conference file, which replay reads"
+file="the input looks like a conference file, which replay and history read"
 video="the input looks like H.261 video without packets, of which examples/lane_of_h261.py makes a lane"
 capture="the input looks like a capture of a network, of which examples/lanes_of_pcap.py makes lanes"
 tail -c +19 "$lane" > "$room/bare.h261"

@@ -6,7 +6,7 @@ use Rattle.command_words.proofs.OneJob.{one_job}
 use Rattle.command_words.specs.declared.fault.WordsFault.{WordsFault}
 use Rattle.command_words.specs.declared.fault.WordsFault.TheVariants as words_fault
 use Rattle.command_words.specs.declared.job.Job.{Job}
-use Rattle.command_words.specs.declared.job.Job.TheVariants.{Replay, Check, Decode, Make, Live}
+use Rattle.command_words.specs.declared.job.Job.TheVariants.{Replay, History, Check, Decode, Make, Live}
 use Rattle.command_words.specs.declared.job.PacketOptions.{PacketOptions}
 use Rattle.command_words.specs.declared.job.FormatOptions.{FormatOptions}
 use Rattle.command_words.specs.declared.job.MakeOptions.{MakeOptions}
@@ -14,8 +14,10 @@ use Rattle.command_words.specs.declared.job.LiveOptions.{LiveOptions}
 use Rattle.io_edge.specs.Causes.{Rose}
 use Rattle.io_edge.specs.Outside.{Input, Output, Outside, outside}
 use Rattle.cif_pack.specs.declared.packer.Settings.{Settings}
-use Rattle.bridge_replay.specs.Replays.{ReplayEnds, DoneOnWholeFile, IsReadBack}
+use Rattle.bridge_replay.specs.Replays.{ReplayEnds, DoneOnWholeFile, DoneWhereWhole, IsReadBack}
+use Rattle.bridge_replay.specs.Telling.{HistoryEnds}
 use Rattle.bridge_replay.specs.declared.ends.ReplayEnd.{ReplayEnd}
+use Rattle.bridge_replay.specs.declared.telling.HistoryEnd.{HistoryEnd}
 use Rattle.rtp_h261.specs.UnitEnds.{ReadsUnits}
 use Rattle.rtp_h261.specs.declared.unit_end.UnitEnd.{UnitEnd}
 use Rattle.conf_make.specs.Ends.{IsMakeRun, MakeStopsBy}
@@ -26,7 +28,7 @@ use Rattle.conf_make.specs.declared.output.MakeTally.{MakeTally}
 use Rattle.pic_report.specs.Report.{lines}
 use Rattle.ref_decode.specs.Planes.{planes_shown}
 use Rattle.bridge_cli.specs.Answers.{DoesAsked}
-use Rattle.bridge_cli.specs.Notes.{fault_line, line_for, made_line, planes_line, report_line, status_of_make, status_of_replay, status_of_units, status_of_words, tally_line}
+use Rattle.bridge_cli.specs.Notes.{fault_line, history_line, line_for, made_line, planes_line, report_line, status_of_make, status_of_replay, status_of_units, status_of_words, tally_line}
 use Rattle.bridge_cli.specs.Runs.{AskNone, Does, HasInput, IsDoneWhole, IsServed, Notes, Runs, octet_limit, settings_of}
 use Rattle.bridge_cli.specs.declared.status.Status.{Status}
 use Rattle.bridge_cli.specs.declared.status.Status.TheVariants.{Done, Usage, NoMemory}
@@ -47,6 +49,7 @@ none_done words before none = record { did = inr (inl (none, refl, refl, refl));
   where
     go : IsDoneWhole words before before Usage
     go (Replay o) asked has = absurd (none (Replay o) asked tt)
+    go History asked has = absurd (none History asked tt)
     go (Check o) asked has = absurd (none (Check o) asked tt)
     go (Decode o) asked has = absurd (none (Decode o) asked tt)
     go (Make o) asked has = absurd (none (Make o) asked tt)
@@ -96,6 +99,24 @@ replayed words o set budget before after end status stop line done asked set_is 
       end,
       subst (λ b. ReplayEnds (settings_of o) b before after end) budget_is (subst (λ s. ReplayEnds s budget before after end) set_is ends),
       subst IsReadBack set_is back,
+      told,
+      line_is status stop line done is ∙ ap (λ d. line_for d status) done_is,
+    )
+    (λ has quiet silent.
+    elim (whole has.0 has.1 has.2 has.3 has.4 has.5 (subst (λ b. length has.0 ≤ b) (sym budget_is) has.6) quiet silent) [
+      | inl at_end ↦ inl (told ∙ ap status_of_replay at_end)
+      | inr wants ↦ inr (told ∙ ap status_of_replay wants)
+    ])
+
+pub retold : (words : List Text) (budget : ℕ) (before after : Outside) (end : HistoryEnd) (status stop : Status)
+    (line done : List ℕ) → Asks words History → budget ≡ octet_limit → HistoryEnds budget before after end
+    → DoneWhereWhole budget before after end.stop → stop ≡ status_of_replay end.stop → done ≡ history_line end.tally
+    → IsEnd status line stop done → DoesAsked words before after status line
+retold words budget before after end status stop line done asked budget_is ends whole stop_is done_is is =
+    let told : status ≡ status_of_replay end.stop = is.0 ∙ stop_is in
+    does words History before after status line asked (
+      end,
+      subst (λ b. HistoryEnds b before after end) budget_is ends,
       told,
       line_is status stop line done is ∙ ap (λ d. line_for d status) done_is,
     )

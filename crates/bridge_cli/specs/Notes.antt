@@ -4,6 +4,7 @@ use Rattle.bridge_cli.specs.declared.status.Status.{Status}
 use Rattle.bridge_cli.specs.declared.status.Status.TheVariants.{Done, Usage, ReadFault, WriteFault, Cut, BadRecord, Limit, OpenFault, NoMemory, NoteFault}
 use Rattle.bridge_replay.specs.declared.ends.ReplayStop.{ReplayStop}
 use Rattle.bridge_replay.specs.declared.ends.ReplayStop.TheVariants as Stops
+use Rattle.bridge_replay.specs.declared.telling.LineTally.{LineTally}
 use Rattle.cif_pack.specs.declared.tally.Tally.{Tally}
 use Rattle.conf_make.specs.declared.output.MakeTally.{MakeTally}
 use Rattle.conf_make.specs.declared.maker.MakeStop.{MakeStop}
@@ -50,6 +51,10 @@ tally_line t =
     ++ codes " packets " ++ decimal t.packets
     ++ codes " octets " ++ decimal t.octets
     ++ codes "\n"
+
+-- the line of a conference whose history was told
+unfoldable pub history_line : LineTally → List ℕ
+history_line t = codes "done lines " ++ decimal t.lines ++ codes " octets " ++ decimal t.octets ++ codes "\n"
 
 -- the line of framed packets that were reported
 unfoldable pub report_line : UnitTally → List ℕ

@@ -1,15 +1,17 @@
 -- What a run did, and how it tells of it.
 use Rattle.std.specs.Io.KnownBytes.{Appends}
 use Rattle.std.specs.Prelude.{◌≡◌, ◌⊎◌, ◌^◌, ◌<◌, ◌≤◌, ◌++◌, ℕ, Bool, true, false, if◌then◌else◌, List, ⊤, length, take, Some, Result, Ok, Err}
-use Rattle.bridge_cli.specs.Notes.{fault_line, line_for, made_line, planes_line, report_line, status_of_make, status_of_replay, status_of_units, tally_line}
+use Rattle.bridge_cli.specs.Notes.{fault_line, history_line, line_for, made_line, planes_line, report_line, status_of_make, status_of_replay, status_of_units, tally_line}
 use Rattle.bridge_cli.specs.declared.status.Status.TheVariants.{Done, Usage, ReadFault, WriteFault, Cut, BadRecord, Limit, OpenFault, NoMemory, NoteFault}
 use Rattle.bridge_cli.specs.declared.status.Status.{Status}
 use Rattle.bridge_replay.specs.Replays.{ReplayEnds, IsReadBack}
+use Rattle.bridge_replay.specs.Telling.{HistoryEnds}
 use Rattle.bridge_replay.specs.declared.ends.ReplayEnd.{ReplayEnd}
+use Rattle.bridge_replay.specs.declared.telling.HistoryEnd.{HistoryEnd}
 use Rattle.cif_pack.specs.declared.packer.Settings.{Settings}
 use Rattle.command_words.specs.Asks.{Asks}
 use Rattle.command_words.specs.Options.{Text}
-use Rattle.command_words.specs.declared.job.Job.TheVariants.{Replay, Check, Decode, Make, Live}
+use Rattle.command_words.specs.declared.job.Job.TheVariants.{Replay, History, Check, Decode, Make, Live}
 use Rattle.command_words.specs.declared.job.Job.{Job}
 use Rattle.command_words.specs.declared.job.PacketOptions.{PacketOptions}
 use Rattle.conf_file.specs.Entries.{Content}
@@ -50,6 +52,9 @@ abbrev pub Does : Job → (before after : Outside) → (told : Status) → (line
 Does (Replay o) before after told line =
     (end : ReplayEnd) × ReplayEnds (settings_of o) octet_limit before after end × IsReadBack (settings_of o)
     × (told ≡ status_of_replay end.stop) × (line ≡ line_for (tally_line end.tally) told)
+Does History before after told line =
+    (end : HistoryEnd) × HistoryEnds octet_limit before after end
+    × (told ≡ status_of_replay end.stop) × (line ≡ line_for (history_line end.tally) told)
 Does (Check o) before after told line =
     (end : UnitEnd) × ReadsUnits o.format octet_limit (lines o.format) before after end
     × (told ≡ status_of_units end.stop) × (line ≡ line_for (report_line end.tally) told)
@@ -91,6 +96,7 @@ HasWholeFrames source = (octets : List ℕ) × (source.left ≡ Some octets) × 
 -- the input holds all that the job asks for
 abbrev pub HasInput : Job → Input → Type 0
 HasInput (Replay o) source = HasConference source
+HasInput History source = HasConference source
 HasInput (Check o) source = HasWholeFrames source
 HasInput (Decode o) source = HasWholeFrames source
 HasInput (Make o) source = ⊤

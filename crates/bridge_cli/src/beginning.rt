@@ -93,7 +93,7 @@ impl Kind {
     /// Whether the command reads files of this kind.
     pub fn is_read_by(self, command: Command) -> bool {
         match command {
-            Command::Replay => self == Kind::Conference,
+            Command::Replay | Command::History => self == Kind::Conference,
             Command::Check | Command::Decode => self == Kind::Packets,
             Command::Make | Command::Live => false,
         }
@@ -103,7 +103,7 @@ impl Kind {
 impl Display for Kind {
     fn fmt<W: Write>(&self, f: &mut Formatter<W>) -> fmt::Result {
         f.write_str(match self {
-            Kind::Conference => "a conference file, which replay reads",
+            Kind::Conference => "a conference file, which replay and history read",
             Kind::Packets => "framed RTP packets, which check and decode read",
             Kind::Video =>
                 "H.261 video without packets, of which examples/lane_of_h261.py makes a lane",

@@ -137,12 +137,12 @@ fn explain(rt: &HostRuntime, words: &[String]) -> io::Result<()> {
     }
 }
 
-// Does what the words ask for over the standard streams. The reports of `check` are handed on line by line, since a lane may
-// be watched as it comes.
+// Does what the words ask for over the standard streams. Lines for a person are handed on one by one, since a lane may be
+// watched as it comes.
 fn obey(rt: &HostRuntime, threads: &(impl Threads + Wait + Sync), words: &[String]) -> Status {
     match command_of(words) {
         Some(Command::Live) => live_on_standard_streams(rt, threads, words),
-        Some(Command::Check) => run_into(rt, words, io::writer(rt)),
+        Some(Command::History | Command::Check) => run_into(rt, words, io::writer(rt)),
         _ => match BufWriter::with_capacity(rt.alloc(), BUFFER, io::writer(rt)) {
             Ok(writer) => run_into(rt, words, writer),
             Err(_error) => tell(rt, Status::NoMemory),

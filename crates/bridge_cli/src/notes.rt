@@ -3,11 +3,11 @@
 ghost use Rattle.std.specs.Prelude.{◌≡◌, ◌+◌, ◌≤◌, ◌++◌, decimal, length};
 ghost use Rattle.arrayvec.specs.ArrayString.{array_string_len};
 ghost use Rattle.bridge_cli.specs.Runs.{Notes, without_note};
-ghost use Rattle.bridge_cli.specs.Notes.{fault_line, line_for, made_line, planes_line, report_line, tally_line, word_for};
+ghost use Rattle.bridge_cli.specs.Notes.{fault_line, history_line, line_for, made_line, planes_line, report_line, tally_line, word_for};
 
 use crate::status::Status;
 use arrayvec::ArrayString;
-use bridge_replay::Tally;
+use bridge_replay::{LineTally, Tally};
 use conf_file::EntryWhy;
 use conf_make::MakeTally;
 use io_edge::{Failed, Sink, put_all};
@@ -78,6 +78,20 @@ pub fn tally_line(tally: &Tally) -> Line
     push_number(&mut line, tally.taken);
     line.push_str(" packets ");
     push_number(&mut line, tally.packets);
+    line.push_str(" octets ");
+    push_number(&mut line, tally.octets);
+    line.push_str("\n");
+    line
+}
+
+/// The line of a conference whose history was told.
+#[tactic(auto, unfolding(crate::specs::Notes::history_line))]
+pub fn history_line(tally: &LineTally) -> Line
+    ensures { result.bytes ≡ history_line tally.now }
+{
+    let mut line = Line::new();
+    line.push_str("done lines ");
+    push_number(&mut line, tally.lines);
     line.push_str(" octets ");
     push_number(&mut line, tally.octets);
     line.push_str("\n");

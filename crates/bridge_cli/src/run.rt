@@ -6,10 +6,12 @@ ghost use Rattle.io_edge.specs.Outside.{outside};
 ghost use Rattle.bridge_cli.specs.Runs.{Runs};
 ghost use Rattle.bridge_cli.specs.Answers.{DoesAsked};
 
-use crate::notes::{Ended, failed, made_line, note, planes_line, report_line, tally_line, told};
+use crate::notes::{
+    Ended, failed, history_line, made_line, note, planes_line, report_line, tally_line, told,
+};
 use crate::settings::settings_of;
 use crate::status::Status;
-use bridge_replay::replay;
+use bridge_replay::{history, replay};
 use command_words::{Job, read_words};
 use conf_make::make;
 use io_edge::{Sink, Source};
@@ -22,7 +24,7 @@ const OCTET_LIMIT: u64 = 1 << 40;
 
 /// Does the job that the words after the program's name ask for, and writes one line to `notes` that tells how it
 /// ended, with what it counted where it is done. `replay` reads a conference file from `input` and writes framed RTP
-/// packets to `output`; `check` and `decode` read framed RTP packets, and write a report of their pictures or the
+/// packets to `output`, and `history` reads one and writes the lines of its history; `check` and `decode` read framed RTP packets, and write a report of their pictures or the
 /// planes that are shown after each; `make` reads nothing and writes a conference file. Where the words ask for none of
 /// these, or there is not the memory to begin, input and output stay as they are.
 pub fn run<S: Source, K: Sink, N: Sink>(
@@ -49,6 +51,10 @@ fn obey<S: Source, K: Sink>(alloc: Global, words: &[String], input: &mut S, outp
             let set = settings_of(&options);
             let end = replay(alloc, input, output, set, OCTET_LIMIT);
             told(Status::of_replay(end.stop), tally_line(&end.tally))
+        }
+        Ok(Job::History) => {
+            let end = history(alloc, input, output, OCTET_LIMIT);
+            told(Status::of_replay(end.stop), history_line(&end.tally))
         }
         Ok(Job::Check(options)) => {
             let end = check_frames(alloc, options.format, input, output, OCTET_LIMIT);

@@ -51,6 +51,13 @@ fn a_run_of_each_command(rt: HostRuntime) -> Result<(), Fail> {
     let rows = [
         ("replay --mtu=1000", ONE_TICK, 0, EMPTY_PICTURE, done),
         ("replay", CUT, 5, EMPTY_PICTURE, "fault cut at 12\n"),
+        (
+            "history",
+            ONE_TICK,
+            0,
+            b"10 tick step 1 total 1 taken - - - - waiting -\n12 end\n".as_slice(),
+            "done lines 2 octets 54\n",
+        ),
         ("check", NOTHING, 0, NOTHING, "done pictures 0 gaps 0\n"),
         (
             "decode",

@@ -7,6 +7,7 @@ pub const VERSION: &str = "ballastkiwi 0.1.0";
 
 pub const USAGE: &str = "\
 Usage: ballastkiwi replay [--NAME=VALUE ..] < CONFERENCE > PACKETS
+       ballastkiwi history < CONFERENCE > LINES
        ballastkiwi check [--format=FORMAT] < PACKETS > REPORT
        ballastkiwi decode [--format=FORMAT] < PACKETS > PLANES
        ballastkiwi make [--NAME=VALUE ..] > CONFERENCE

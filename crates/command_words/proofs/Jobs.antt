@@ -5,7 +5,7 @@ use Rattle.command_words.specs.declared.fault.WordsFault.{WordsFault}
 use Rattle.command_words.specs.declared.fault.WordsFault.TheVariants.{Usage, NoMemory}
 use Rattle.command_words.specs.declared.help.Command.{Command}
 use Rattle.command_words.specs.declared.job.Job.{Job}
-use Rattle.command_words.specs.declared.job.Job.TheVariants.{Replay, Check, Decode, Make, Live}
+use Rattle.command_words.specs.declared.job.Job.TheVariants.{Replay, History, Check, Decode, Make, Live}
 use Rattle.command_words.specs.Options.{Text, given, are_options}
 use Rattle.command_words.specs.Asks.{Asks, IsInRange, mtu, ticks, lanes, turns}
 use Rattle.command_words.specs.Answers.{Refuses, FindsAsked, OptionsOf, HasOptions, IsJobOf, command_of, options_of, name_of_command, option_names}
@@ -77,6 +77,7 @@ none_asked f (w ∷ ws) e = absurd (omega arith)
 
 in_range : (words : List Text) (job : Job) → Asks words job → IsInRange job
 in_range words (Replay o) a = number_within mtu (given a.0 (codes "mtu")) o.mtu refl refl a.2.mtu
+in_range words History a = tt
 in_range words (Check o) a = tt
 in_range words (Decode o) a = tt
 in_range words (Make o) a =

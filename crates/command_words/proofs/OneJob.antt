@@ -6,7 +6,7 @@ use Rattle.pel_model.specs.declared.Format.TheVariants.{Qcif, Cif}
 use Rattle.command_words.specs.declared.help.Command.{Command}
 use Rattle.command_words.specs.declared.help.Command.TheVariants as command
 use Rattle.command_words.specs.declared.job.Job.{Job}
-use Rattle.command_words.specs.declared.job.Job.TheVariants.{Replay, Check, Decode, Make, Live}
+use Rattle.command_words.specs.declared.job.Job.TheVariants.{Replay, History, Check, Decode, Make, Live}
 use Rattle.command_words.specs.declared.job.PacketOptions.{PacketOptions}
 use Rattle.command_words.specs.declared.job.FormatOptions.{FormatOptions}
 use Rattle.command_words.specs.declared.job.MakeOptions.{MakeOptions}
@@ -83,14 +83,16 @@ one_format_option words otherwise o a b p q = ap format_of (one_format otherwise
 named : Text → Option Command
 named name =
     cond (bytes_eq name (codes "replay")) (Some command.Replay)
+    (cond (bytes_eq name (codes "history")) (Some command.History)
     (cond (bytes_eq name (codes "check")) (Some command.Check)
     (cond (bytes_eq name (codes "decode")) (Some command.Decode)
     (cond (bytes_eq name (codes "make")) (Some command.Make)
-    (cond (bytes_eq name (codes "live")) (Some command.Live) None))))
+    (cond (bytes_eq name (codes "live")) (Some command.Live) None)))))
 
 named_back : (c : Command) → named (name_of_command c) ≡ Some c
 unfolding named
 named_back command.Replay = refl
+named_back command.History = refl
 named_back command.Check = refl
 named_back command.Decode = refl
 named_back command.Make = refl
@@ -107,6 +109,7 @@ pub record Splits (words : List Text) (job : Job) : Type 0 where
 
 pub splits : (words : List Text) (job : Job) → Asks words job → Splits words job
 splits words (Replay o) a = record { rest = a.0; is = a.1; has = a.2 }
+splits words History a = record { rest = a.0; is = a.1; has = tt }
 splits words (Check o) a = record { rest = a.0; is = a.1; has = a.2 }
 splits words (Decode o) a = record { rest = a.0; is = a.1; has = a.2 }
 splits words (Make o) a = record { rest = a.0; is = a.1; has = a.2 }
@@ -114,6 +117,7 @@ splits words (Live o) a = record { rest = a.0; is = a.1; has = a.2 }
 
 pub joins : (words : List Text) (job : Job) → Splits words job → Asks words job
 joins words (Replay o) s = (s.rest, s.is, s.has)
+joins words History s = (s.rest, s.is)
 joins words (Check o) s = (s.rest, s.is, s.has)
 joins words (Decode o) s = (s.rest, s.is, s.has)
 joins words (Make o) s = (s.rest, s.is, s.has)
@@ -121,6 +125,7 @@ joins words (Live o) s = (s.rest, s.is, s.has)
 
 one_options : (c : Command) (words : List Text) (a b : OptionsOf c) → HasOptions c words a → HasOptions c words b → a ≡ b
 one_options command.Replay words a b p q = one_packets words a b p q
+one_options command.History words a b p q = refl
 one_options command.Check words a b p q = one_format_option words Qcif _ a b p q
 one_options command.Decode words a b p q = one_format_option words Cif _ a b p q
 one_options command.Make words a b p q = one_make words a b p q
@@ -128,6 +133,7 @@ one_options command.Live words a b p q = one_live words a b p q
 
 job_of : (c : Command) → OptionsOf c → Job
 job_of command.Replay o = Replay o
+job_of command.History o = History
 job_of command.Check o = Check o
 job_of command.Decode o = Decode o
 job_of command.Make o = Make o
@@ -136,6 +142,7 @@ job_of command.Live o = Live o
 job_back : (job : Job) → job_of (command_of job) (options_of job) ≡ job
 unfolding job_of
 job_back (Replay o) = refl
+job_back History = refl
 job_back (Check o) = refl
 job_back (Decode o) = refl
 job_back (Make o) = refl

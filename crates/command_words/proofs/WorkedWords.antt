@@ -1,7 +1,7 @@
 -- Worked values of the rule for words: each guards a part of the definitions, and is computed at each check.
 use Rattle.std.proofs.Common.{◌≡◌, ℕ, List, [], ◌∷◌, Option, Some, None, Bool, true, false, refl, codes}
 use Rattle.pel_model.specs.declared.Format.TheVariants.{Qcif, Cif}
-use Rattle.command_words.specs.declared.job.Job.TheVariants.{Replay, Check, Decode, Make, Live}
+use Rattle.command_words.specs.declared.job.Job.TheVariants.{Replay, History, Check, Decode, Make, Live}
 use Rattle.command_words.specs.Options.{Text, are_options, number_given}
 use Rattle.command_words.specs.Names.{name, names}
 use Rattle.command_words.specs.Asks.{Asks, mtu, ssrc, seq, stamp, seed, ticks, lanes, turns, packet_names, make_names, format_names, live_names}
@@ -9,6 +9,9 @@ use Rattle.command_words.specs.Asks.{Asks, mtu, ssrc, seq, stamp, seed, ticks, l
 -- no options: the defaults
 replay_alone : Asks (codes "replay" ∷ []) (Replay (record { mtu = 1400; ssrc = 1211250225; seq = 0; stamp = 0 }))
 replay_alone = ([], record { whole = refl; formed = refl }, record { mtu = refl; ssrc = refl; seq = refl; stamp = refl })
+
+history_alone : Asks (codes "history" ∷ []) History
+history_alone = ([], record { whole = refl; formed = refl })
 
 check_alone : Asks (codes "check" ∷ []) (Check (record { format = Qcif }))
 check_alone = ([], record { whole = refl; formed = refl }, refl)
@@ -115,8 +118,9 @@ no_options = are_options packet_names (codes "--mtu" ∷ codes "1000" ∷ [])
     ∷ are_options live_names (codes "--lanes=a" ∷ codes "--seed=1" ∷ [])
     ∷ are_options live_names (codes "--chair=a" ∷ codes "--chair=b" ∷ [])
     ∷ are_options packet_names (codes "--mtu=1000" ∷ codes "--seq=1" ∷ [])
+    ∷ are_options [] (codes "--format=cif" ∷ [])
     ∷ []
 
-no_options_are : no_options ≡ false ∷ false ∷ false ∷ false ∷ false ∷ false ∷ false ∷ false ∷ false ∷ false ∷ false ∷ true ∷ []
+no_options_are : no_options ≡ false ∷ false ∷ false ∷ false ∷ false ∷ false ∷ false ∷ false ∷ false ∷ false ∷ false ∷ true ∷ false ∷ []
 unfolding no_options
 no_options_are = refl

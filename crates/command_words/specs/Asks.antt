@@ -3,7 +3,7 @@ use Rattle.std.specs.Prelude.{◌≡◌, ◌≤◌, ℕ, true, Option, Some, Non
 use Rattle.pel_model.specs.declared.Format.{Format}
 use Rattle.pel_model.specs.declared.Format.TheVariants.{Qcif, Cif}
 use Rattle.command_words.specs.declared.job.Job.{Job}
-use Rattle.command_words.specs.declared.job.Job.TheVariants.{Replay, Check, Decode, Make, Live}
+use Rattle.command_words.specs.declared.job.Job.TheVariants.{Replay, History, Check, Decode, Make, Live}
 use Rattle.command_words.specs.declared.job.PacketOptions.{PacketOptions}
 use Rattle.command_words.specs.declared.job.FormatOptions.{FormatOptions}
 use Rattle.command_words.specs.declared.job.MakeOptions.{MakeOptions}
@@ -101,6 +101,7 @@ AskFormat words command otherwise o =
 -- the words ask for the job
 abbrev pub Asks : List Text → Job → Type 0
 Asks words (Replay o) = AskPackets words (codes "replay") o
+Asks words History = (options : List Text) × IsCommand words (codes "history") [] options
 Asks words (Check o) = AskFormat words (codes "check") Qcif o
 Asks words (Decode o) = AskFormat words (codes "decode") Cif o
 Asks words (Make o) =
@@ -111,6 +112,7 @@ Asks words (Live o) =
 -- what the numbers and the names of a job are known to be
 abbrev pub IsInRange : Job → Type 0
 IsInRange (Replay o) = (1000 ≤ o.mtu) × (o.mtu ≤ 9000)
+IsInRange History = Unit {0}
 IsInRange (Check o) = Unit {0}
 IsInRange (Decode o) = Unit {0}
 IsInRange (Make o) = (o.ticks ≤ 1000000) × (1 ≤ o.lanes) × (o.lanes ≤ 16)

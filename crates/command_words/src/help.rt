@@ -16,6 +16,7 @@ use std::fmt::{Display, Formatter, Result, Write};
 #[derive(Clone, Copy, Debug, PartialEq, Eq)]
 pub enum Command {
     Replay,
+    History,
     Check,
     Decode,
     Make,
@@ -23,8 +24,9 @@ pub enum Command {
 }
 
 /// The commands, in the order in which a person is told of them.
-pub const COMMANDS: [Command; 5] = [
+pub const COMMANDS: [Command; 6] = [
     Command::Replay,
+    Command::History,
     Command::Check,
     Command::Decode,
     Command::Make,
@@ -40,6 +42,7 @@ impl Command {
     {
         match name {
             "replay" => Some(Command::Replay),
+            "history" => Some(Command::History),
             "check" => Some(Command::Check),
             "decode" => Some(Command::Decode),
             "make" => Some(Command::Make),
@@ -54,6 +57,7 @@ impl Command {
     {
         match self {
             Command::Replay => "replay",
+            Command::History => "history",
             Command::Check => "check",
             Command::Decode => "decode",
             Command::Make => "make",
@@ -66,6 +70,7 @@ impl Command {
         match self {
             Command::Replay =>
                 "composes a conference file into framed RTP packets of the composed pictures",
+            Command::History => "tells what happens in a conference file, one line for each step",
             Command::Check =>
                 "reports the pictures of framed RTP packets, one line for each picture or gap",
             Command::Decode => "decodes the pictures of framed RTP packets into planes of samples",
@@ -81,6 +86,7 @@ impl Command {
     fn example(self) -> &'static str {
         match self {
             Command::Replay => "ballastkiwi replay --mtu=1200 < call.conf > call.rtp",
+            Command::History => "ballastkiwi history < call.conf",
             Command::Check => "ballastkiwi check --format=cif < call.rtp",
             Command::Decode => "ballastkiwi decode < call.rtp > call.yuv",
             Command::Make => "ballastkiwi make --ticks=25 --lanes=2 > call.conf",
@@ -136,6 +142,7 @@ impl Display for Command {
         writeln!(f, "{name} {about}.")?;
         match self {
             Command::Replay => write!(f, "{MTU}{SSRC}{SEQ}{STAMP}")?,
+            Command::History => {},
             Command::Check => write!(f, "{CHECK_FORMAT}")?,
             Command::Decode => write!(f, "{DECODE_FORMAT}")?,
             Command::Make => write!(f, "{SEED}{TICKS}{LANES}")?,

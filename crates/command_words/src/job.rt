@@ -8,6 +8,8 @@ use pel_model::Format;
 pub enum Job<'a> {
     /// A conference file is composed into framed packets.
     Replay(PacketOptions),
+    /// The history of a conference file is told.
+    History,
     /// The pictures of framed packets are reported.
     Check(FormatOptions),
     /// The pictures of framed packets are decoded.

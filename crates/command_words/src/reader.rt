@@ -84,6 +84,7 @@ fn are_options_of(command: Command, words: &[String]) -> bool
     match command {
         Command::Replay => are_options(&[MTU.start, SSRC.start, SEQ.start, STAMP.start], words),
         Command::Check | Command::Decode => are_options(&[FORMAT_START], words),
+        Command::History => are_options(&[], words),
         Command::Make => are_options(&[SEED.start, TICKS.start, LANES.start], words),
         Command::Live => are_options(
             &[
@@ -110,6 +111,7 @@ fn read_job<'a>(
 {
     match command {
         Command::Replay => Ok(Job::Replay(read_packets(alloc, options)?)),
+        Command::History => Ok(Job::History),
         Command::Check => Ok(Job::Check(read_format(options, &CHECK_FORMAT)?)),
         Command::Decode => Ok(Job::Decode(read_format(options, &DECODE_FORMAT)?)),
         Command::Make => Ok(Job::Make(read_make(alloc, options)?)),

@@ -31,6 +31,7 @@ const MAKE: MakeOptions = MakeOptions {
 fn words_of_each_command(rt: HostRuntime) -> Result<(), Fail> {
     let lines = [
         "replay --seq=9 --mtu=1000",
+        "history",
         "check --format=cif",
         "decode",
         "make --lanes=16",
@@ -41,6 +42,7 @@ fn words_of_each_command(rt: HostRuntime) -> Result<(), Fail> {
         let words = words_of(rt.alloc(), line)?;
         match read_words(rt.alloc(), &words) {
             Ok(Job::Replay(packets)) => assert_eq!(rt; packets, PACKETS),
+            Ok(Job::History) => assert_eq!(rt; line, "history"),
             Ok(Job::Check(FormatOptions { format }) | Job::Decode(FormatOptions { format })) => {
                 assert_eq!(rt; format, Format::Cif);
             }

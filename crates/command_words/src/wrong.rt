@@ -116,6 +116,7 @@ fn wrong_options<'a>(alloc: Global, command: Command, options: &'a [String]) -> 
     match command {
         Command::Replay => wrong_of(alloc, command, &packets, options),
         Command::Check | Command::Decode => wrong_of(alloc, command, &[FORMAT_ROW], options),
+        Command::History => wrong_of(alloc, command, &[], options),
         Command::Make => {
             let rows = [number_row(&SEED), number_row(&TICKS), number_row(&LANES)];
             wrong_of(alloc, command, &rows, options)

@@ -1,7 +1,7 @@
 -- The job that the words ask for, or why none is done.
 use Rattle.std.proofs.Common.{◌≡◌, map, refl, rules, string_bytes, subst}
 use Rattle.command_words.specs.Asks.{Asks}
-use Rattle.bridge_cli.proofs.Running.{replayed, checked, decoded, made_file}
+use Rattle.bridge_cli.proofs.Running.{replayed, retold, checked, decoded, made_file}
 use Rattle.bridge_cli.proofs.run.obey.Goals as goal
 
 pub returns-in-Ok-Replay : goal.returns-in-Ok-Replay
@@ -10,6 +10,13 @@ returns-in-Ok-Replay g c =
     (subst (Asks (map string_bytes c.args.words.now)) c.in-Ok-Replay.field-0-is c.in-Ok-Replay.ensures.asks)
     c.settings_of-set.ensures refl c.replay-end.ensures.ends c.replay-end.ensures.complete c.replay-end.ensures.read_back c.of_replay.ensures
     c.tally_line.ensures c.told.ensures
+
+pub returns-in-Ok-History : goal.returns-in-Ok-History
+returns-in-Ok-History g c =
+    retold (map string_bytes c.args.words.now) _ _ _ c.history-end.result _ _ _ _
+    (subst (Asks (map string_bytes c.args.words.now)) c.in-Ok-History.field-0-is c.in-Ok-History.ensures.asks) refl
+    c.history-end.ensures.ends c.history-end.ensures.complete c.of_replay-in-Ok-History.ensures c.history_line.ensures
+    c.told-in-Ok-History.ensures
 
 pub returns-in-Ok-Check : goal.returns-in-Ok-Check
 returns-in-Ok-Check g c =
