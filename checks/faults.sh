@@ -34,6 +34,9 @@ for conference in "$short" "$long"; do
     ended "the packets of $conference.conf" 0
     mv "$room/out" "$conference.rtp"
 done
+try_line '"$1" history < "$2"' "$program" "$short.conf"
+ended "the history of $short.conf" 0
+mv "$room/out" "$short.history"
 for command in check decode; do
     try_line '"$1" "$2" < "$3"' "$program" "$command" "$short.rtp"
     ended "$command of its packets" 0
@@ -95,6 +98,11 @@ for octets in 0 1 65536 65537 200000; do
     fault "decode into $octets octets" 4 "fault write"
     wrote_front "$short.decode" "$octets"
 done
+for octets in 0 1 20 "$(($(wc -c < "$short.history") - 1))"; do
+    try_line '"$4" room "$3" "$1" history < "$2"' "$program" "$short.conf" "$octets" "$outside"
+    fault "history into $octets octets" 4 "fault write"
+    wrote_front "$short.history" "$octets"
+done
 for octets in 0 1 20; do
     try_line '"$4" room "$3" "$1" check < "$2"' "$program" "$short.rtp" "$octets" "$outside"
     fault "check into $octets octets" 4 "fault write"
@@ -139,7 +147,7 @@ done
 
 # ---- streams that are closed
 
-for command in replay check decode; do
+for command in replay history check decode; do
     try_line '"$1" "$2" <&-' "$program" "$command"
     fault "$command, input closed" 3 "fault read"
     try_line '"$1" "$2" <&- >&-' "$program" "$command"

@@ -12,7 +12,7 @@ def help_of(program):
     """What --help says: the lines of usage, and by command what it does and its options; the statuses with their texts."""
     text = subprocess.run([program, "--help"], capture_output=True, text=True, check=True).stdout
     usage = {" ".join(line.replace("Usage:", "").split()) for line in re.findall(r"^(?:Usage:|      ) .*$", text, re.M)
-             if " ballastkiwi " in line and ("[" in line)}
+             if " ballastkiwi " in line and "examples/" not in line}
     commands = {}
     statuses = {}
     for part in text.split("\n\n"):

@@ -50,6 +50,19 @@ gives "decode" "$room/made.rtp" "done pictures 1000 gaps 0 octets 152064000" \
     8fefbccdf0529d0f410a309633232ef4ef3f7173cb7444d747b1a26170792ed4 made.yuv
 rm "$room/made.yuv"
 
+# The history of a conference file: each line is right, by a reader that was made from the pages alone, and all are counted.
+tells_history() {
+    try_line '"$1" history < "$2"' "$program" "$1"
+    ended "the history of $1" 0
+    said_line "done lines $(wc -l < "$room/out") octets $(wc -c < "$room/out")"
+    mv "$room/out" "$room/history"
+    is "the lines of $1" python3 -B "$top/checks/history.py" "$1" "$room/history"
+}
+for example in grey_top_left grey_bottom_right striped_top_right ordinary_call four_faces; do
+    tells_history "$top/examples/$example.conf"
+done
+tells_history "$room/made.conf"
+
 # is_usage NAME LINE WORDS..: the line asks for no job. The line of notes is on standard error, with more behind it
 # (words.sh), and nothing on standard output.
 is_usage() {
@@ -105,6 +118,7 @@ done
 for option in mtu ssrc seq stamp format seed ticks lanes chair turns; do
     is "--help names the option $option" grep -q -e "--$option=" "$room/help"
 done
+is "--help names the command history" grep -q "ballastkiwi history < " "$room/help"
 for case in replay:mtu check:format decode:format make:ticks live:turns; do
     command=${case%:*}
     is "--help names the command $command" grep -q "ballastkiwi $command " "$room/help"
@@ -235,6 +249,7 @@ loses() {
 }
 for file in "$striped" "$room/two_ticks" "$room/kind"; do
     loses "replay" "$file"
+    loses "history" "$file"
 done
 for command in "check --format=cif" "decode"; do
     loses "$command" "$room/striped_top_right.rtp"
@@ -243,6 +258,9 @@ done
 loses "make" /dev/null
 
 # A run that wrote nothing has lost nothing.
+fails "no conference file for history, output full" 6 "fault record at 0: header" \
+    '"$1" history < "$1" > /dev/full' "$program"
+fails "history of a front of a header" 5 "fault cut at 8" 'head -c 8 "$2" | "$1" history' "$program" "$striped"
 fails "no conference file, output full" 6 "fault record at 0: header" '"$1" replay < "$1" > /dev/full' "$program"
 fails "input is empty, output full" 5 "fault cut at 0" '"$1" replay < /dev/null > /dev/full' "$program"
 fails "input is a directory, output closed" 3 "fault read" '"$1" replay < / >&-' "$program"

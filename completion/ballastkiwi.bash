@@ -1,9 +1,10 @@
 # Completion of the program's commands and options, for bash. checks/manual.py compares its words with --help.
 _ballastkiwi() {
     local word=$2
-    local commands="replay check decode make live"
+    local commands="replay history check decode make live"
     declare -A options=(
         [replay]="--mtu= --ssrc= --seq= --stamp="
+        [history]=""
         [check]="--format="
         [decode]="--format="
         [make]="--seed= --ticks= --lanes="
