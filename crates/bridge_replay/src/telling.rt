@@ -106,7 +106,8 @@ fn tell_entry<S: Source, K: Sink>(
     requires reading { is_some reader.old.lanes ≡ true }
     requires telling { IsTelling (outside (S.tells source.old) (K.tells sink.old))
         reader.old account.old tally.old }
-    ensures { TellsFurther (outside (S.tells source.old) (K.tells sink.old)) (outside (S.tells source.new) (K.tells sink.new))
+    ensures { TellsFurther (outside (S.tells source.old) (K.tells sink.old))
+        (outside (S.tells source.new) (K.tells sink.new))
         reader.old reader.new account.old account.new tally.old tally.new result }
 {
     // what the reader gives is what its source says as a file
