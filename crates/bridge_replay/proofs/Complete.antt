@@ -8,7 +8,7 @@ use Rattle.bridge_replay.specs.declared.ends.ReplayStop.{ReplayStop}
 use Rattle.bridge_replay.specs.declared.ends.ReplayStop.TheVariants.{Done, ReadFault, WriteFault, Cut, BadRecord, Limit, NoMemory}
 use Rattle.bridge_replay.specs.Replays.{StoppedFor, WroteTicks, Replays, StoppedEarly, NoneRead, ReplayEnds, DoneWhereWhole, DoneOnWholeFile}
 use Rattle.bridge_replay.specs.declared.telling.HistoryEnd.{HistoryEnd}
-use Rattle.bridge_replay.specs.Telling.{StopsTelling, WroteLines, Tells, TellsNothing, HistoryEnds}
+use Rattle.bridge_replay.specs.Telling.{StopsTelling, WroteLines, TellsHistory, TellsNothing, HistoryEnds}
 use Rattle.io_edge.specs.Outside.{Outside}
 use Rattle.bridge_replay.specs.FileHistory.{oldest_first}
 use Rattle.cif_pack.specs.declared.packer.Settings.{Settings}
@@ -114,7 +114,7 @@ pub complete-telling : LawOfOneReading → LawOfFileFronts → (budget : ℕ) (b
     → HistoryEnds budget before after end → DoneWhereWhole budget before after end.stop
 complete-telling one fronts budget before after end ends file more lanes list told is short no_read no_write =
     ⊎_elim (λ (n : TellsNothing budget before after end). by-early one fronts file more lanes list is budget before after told short no_read no_write end.stop n.octets n.taken n.stopped)
-    (λ (r : Tells budget before after end). by-telling end.stop r.octets r.lanes r.entries r.taken r.stopped
+    (λ (r : TellsHistory budget before after end). by-telling end.stop r.octets r.lanes r.entries r.taken r.stopped
     (λ (failed : end.stop ≡ WriteFault). no_write (subst (λ (s : ReplayStop). WroteLines s before.sink after.sink r.lines r.whole) failed r.output).5)) ends
   where
     as-replay : (s : ReplayStop) (octets : List ℕ) (l : ℕ) (entries : List Content) → StopsTelling s budget before after octets l entries → s ≢ WriteFault

@@ -2,9 +2,9 @@
 use Rattle.std.proofs.Common.{◌≡◌, ℕ, ◌+◌, Bool, List, [], ◌∷◌, ◌++◌, Option, None, Some, length, drop, refl, sym, ap, ap₂, subst, ◌∙◌, arith, append-nil, append_assoc, take-append-drop, length-append}
 use Rattle.std.proofs.Math.Seq.{drop-append_seam}
 use Rattle.std.specs.List.{concat, AllZip}
-use Rattle.bridge_replay.specs.Account.{why_idle, idle_lines, AreEntryLines, StandsBehind, AreLines, LawOfOneAccount}
+use Rattle.bridge_replay.specs.Account.{why_idle, idle_lines, AreEntryLines, StandsBehind, AreLinesOf, LawOfOneAccount}
 use Rattle.bridge_replay.specs.FileHistory.{oldest_first, packets_in, IsHistory}
-use Rattle.bridge_replay.specs.Lines.{event_lines, tick_line}
+use Rattle.bridge_replay.specs.Lines.{lines_of_events, tick_line}
 use Rattle.bridge_replay.proofs.OneHistory.{one-history}
 use Rattle.conf_file.specs.Entries.{Content, Packet, Chair, Tick as TickEntry, End, SpellsEntry, C}
 use Rattle.conf_file.specs.Header.{header_of}
@@ -42,7 +42,7 @@ same-here lanes place entries (Packet lane packet) before after x y a b =
     let first = idle_lines place lane (why_idle (packets_in entries lane) packet) in
     let same : a.0 ≡ b.0 =
     a.1.order ∙ ap (λ (us : List Event). lost_events given.lost ++ us) (same-units given.unit a.1.unit b.1.unit a.1.is_unit b.1.is_unit) ∙ sym b.1.order in
-    a.2 ∙ ap (λ (es : List Event). first ++ event_lines place lane (length (arrivals before lane) + 1) es) same ∙ sym b.2
+    a.2 ∙ ap (λ (es : List Event). first ++ lines_of_events place lane (length (arrivals before lane) + 1) es) same ∙ sym b.2
 same-here lanes place entries (Chair command) before after x y a b = a ∙ sym b
 same-here lanes place entries (TickEntry step) before after x y a b =
     a.2 ∙ ap (λ (n : TickNote). tick_line place n ∷ []) (same-note a.0 b.0 before (sym a.1 ∙ b.1)) ∙ sym b.2
@@ -96,7 +96,7 @@ same-place octets lanes entries p q h k =
 
 -- ---- all lines
 
-their-history : (octets : List ℕ) (lanes : ℕ) (entries : List Content) (history : History) (lines : List (List ℕ)) → AreLines octets lanes entries history lines
+their-history : (octets : List ℕ) (lanes : ℕ) (entries : List Content) (history : History) (lines : List (List ℕ)) → AreLinesOf octets lanes entries history lines
     → IsHistory lanes entries history
 their-history octets lanes [] history lines are = are.0
 their-history octets lanes (e ∷ entries) history lines (before, former, told, after, place, stands, here, are, is) = (before, their-history octets lanes entries before former told, after)
@@ -105,7 +105,7 @@ pub one-account : LawOfOneAccount
 one-account octets lanes [] history x y a b = a.1 ∙ sym b.1
 one-account octets lanes (e ∷ entries) history x y (h, f, told, after, p, stands, l, here, is) (k, g, told', after', q, stands', m, here', is') =
     let same : h ≡ k = one-history lanes entries h k (their-history octets lanes entries h f told) (their-history octets lanes entries k g told') in
-    let former : f ≡ g = one-account octets lanes entries k f g (subst (λ (H : History). AreLines octets lanes entries H f) same told) told' in
+    let former : f ≡ g = one-account octets lanes entries k f g (subst (λ (H : History). AreLinesOf octets lanes entries H f) same told) told' in
     let place : p ≡ q = same-place octets lanes entries p q stands stands' in
     let there = subst (λ (H : History). AreEntryLines lanes q entries e H history l) same (subst (λ (n : ℕ). AreEntryLines lanes n entries e h history l) place here) in
     is ∙ ap₂ (λ (xs ys : List (List ℕ)). xs ++ ys) former (same-here lanes q entries e k history l m there here') ∙ sym is'

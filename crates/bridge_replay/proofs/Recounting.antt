@@ -8,8 +8,8 @@ use Rattle.bridge_replay.specs.declared.account.Page.{Page}
 use Rattle.bridge_replay.specs.declared.idle.Idle.{Idle}
 use Rattle.bridge_replay.specs.Account.{idle_lines, AreEntryLines}
 use Rattle.bridge_replay.specs.FileHistory.{packets_in, after_loss, AfterUnit, AfterEntry}
-use Rattle.bridge_replay.specs.Lines.{event_line, event_lines}
-use Rattle.bridge_replay.specs.Recounting.{HasLines, Adds, Grows, AreCounted, AreLasts, last_number, Follows, MayCome, IsSameAccount, TellsIn, TellsUnit, with_events, step_in, Keeps, Hears, TookEntry}
+use Rattle.bridge_replay.specs.Lines.{line_of_event, lines_of_events}
+use Rattle.bridge_replay.specs.Recounting.{HasFewLines, Adds, GrowsByALine, AreCounted, AreLasts, last_number, HallFollows, MayCome, IsSameAccount, TellsIn, TellsUnit, with_events, step_in, Keeps, HearsPacket, TookEntry}
 use Rattle.bridge_replay.specs.UnderWay.{IsOpen, IsFedQcif, AreFed, StaysOpen}
 use Rattle.bridge_replay.proofs.Accounts.{ComesIn, gap-comes, post-comes, counted-further}
 use Rattle.bridge_replay.proofs.Units.{may-post}
@@ -47,7 +47,7 @@ adds-both xs ys a b c x y = record {
 pub follows-on : (lanes lane n : ℕ) (history : History) (s : Step) (old new : Account) → Steps old.hall new.hall s → KeepsRules old.hall s
     → IsSameConference old.hall new.hall → ComesIn lane s → new.arrivals.items ≡ slice_set old.arrivals.items lane n
     → (AreCounted lanes history old.arrivals.items → lane < lanes → n ≡ length (arrivals history lane) + 1) → lane < lanes
-    → Follows lanes history old → Follows lanes (s ∷ history) new
+    → HallFollows lanes history old → HallFollows lanes (s ∷ history) new
 follows-on lanes lane n history s old new steps keeps same comes counts serial below follows = record {
   stands = steps history follows.stands;
   lanes_are = same.lanes ∙ follows.lanes_are;
@@ -63,7 +63,7 @@ comes-in lane (Shown p) = post-comes lane p
 comes-in lane (Refused place why) = gap-comes lane
 
 -- a lane of this conference is one of any that stands so
-below-so : (lane lanes : ℕ) (history : History) (a : Account) → MayCome lane a → Follows lanes history a → lane < lanes
+below-so : (lane lanes : ℕ) (history : History) (a : Account) → MayCome lane a → HallFollows lanes history a → lane < lanes
 below-so lane lanes history a may follows = subst (λ (k : ℕ). lane < k) (sym may.follows.lanes_are ∙ follows.lanes_are) may.below
 
 -- something happened in a lane: the hall made its step, which was counted, and its line was added
@@ -71,11 +71,11 @@ pub one-tells : (place lane n : ℕ) (e : Event) (old new : Account) (page now :
     → Steps old.hall new.hall (step_in lane e) → KeepsRules old.hall (step_in lane e) → IsSameConference old.hall new.hall
     → ((lanes : ℕ) (history : History) → AreCounted lanes history old.arrivals.items → lane < lanes → n ≡ length (arrivals history lane) + 1)
     → new.arrivals.items ≡ slice_set old.arrivals.items lane n → IsSameAccount old new → new.hand ≡ old.hand
-    → Adds (event_line place lane n e ∷ []) page now → Grows page now → TellsIn place lane (e ∷ []) old new page now
+    → Adds (line_of_event place lane n e ∷ []) page now → GrowsByALine page now → TellsIn place lane (e ∷ []) old new page now
 one-tells place lane n e old new page now may steps keeps same serial counts beside hand adds grows = record {
   follows = λ lanes history follows. follows-on lanes lane n history (step_in lane e) old new steps keeps same (comes-in lane e) counts (serial lanes history)
       (below-so lane lanes history old may follows) follows;
-  lines = λ lanes history follows within. subst (λ (k : ℕ). Adds (event_line place lane k e ∷ []) page now) (serial lanes history follows.counts within) adds;
+  lines = λ lanes history follows within. subst (λ (k : ℕ). Adds (line_of_event place lane k e ∷ []) page now) (serial lanes history follows.counts within) adds;
   beside = beside;
   hand = hand;
   grows = grows;
@@ -157,21 +157,21 @@ events-came : (lane : ℕ) (events : List Event) (history : History) → length 
 events-came lane [] history = omega arith
 events-came lane (e ∷ events) history = omega (arith, events-came lane events (step_in lane e ∷ history), one-came lane e history)
 
-lines-of-both : (place lane n : ℕ) (xs ys : List Event) → event_lines place lane n (xs ++ ys) ≡ event_lines place lane n xs ++ event_lines place lane (n + length xs) ys
-lines-of-both place lane n [] ys = ap (λ (k : ℕ). event_lines place lane k ys) (zero-more n)
+lines-of-both : (place lane n : ℕ) (xs ys : List Event) → lines_of_events place lane n (xs ++ ys) ≡ lines_of_events place lane n xs ++ lines_of_events place lane (n + length xs) ys
+lines-of-both place lane n [] ys = ap (λ (k : ℕ). lines_of_events place lane k ys) (zero-more n)
   where
     zero-more : (n : ℕ) → n ≡ n + 0
     zero-more n = omega arith
 lines-of-both place lane n (x ∷ xs) ys =
-    ap (λ (ls : List (List ℕ)). event_line place lane n x ∷ ls)
-    (lines-of-both place lane (n + 1) xs ys ∙ ap (λ (k : ℕ). event_lines place lane (n + 1) xs ++ event_lines place lane k ys) (one-more n (length xs)))
+    ap (λ (ls : List (List ℕ)). line_of_event place lane n x ∷ ls)
+    (lines-of-both place lane (n + 1) xs ys ∙ ap (λ (k : ℕ). lines_of_events place lane (n + 1) xs ++ lines_of_events place lane k ys) (one-more n (length xs)))
   where
     one-more : (n m : ℕ) → n + 1 + m ≡ n + suc m
     one-more n m = omega arith
 
 -- ---- a packet
 
-same-follows : (lanes : ℕ) (history : History) (a b : Account) → b.hall ≡ a.hall → b.arrivals.items ≡ a.arrivals.items → Follows lanes history a → Follows lanes history b
+same-follows : (lanes : ℕ) (history : History) (a b : Account) → b.hall ≡ a.hall → b.arrivals.items ≡ a.arrivals.items → HallFollows lanes history a → HallFollows lanes history b
 same-follows lanes history a b hall counts follows = record {
   stands = subst (λ (h : HallView). StandsFor h history) (sym hall) follows.stands;
   lanes_are = ap lanes_of hall ∙ follows.lanes_are;
@@ -182,8 +182,8 @@ same-follows lanes history a b hall counts follows = record {
 
 pub packet-told : (place lane : ℕ) (packet : List ℕ) (lanes : ℕ) (entries : List Content) (history : History) (fed : Fed) (idle : Option Idle) (old heard mid new : Account)
     (before box : Coding) (page idled lost now : Page) → Keeps lanes entries history old → IsOpen 2 history → lane < lanes
-    → Hears lane packet fed idle old heard before box lanes entries → heard.hall ≡ old.hall → heard.arrivals.items ≡ old.arrivals.items → heard.hand ≡ old.hand
-    → HasLines 0 page → Adds (idle_lines place lane idle) page idled → Grows page idled → TellsIn place lane (lost_events fed.lost) heard mid idled lost → TellsUnit place lane fed.unit box mid new lost now
+    → HearsPacket lane packet fed idle old heard before box lanes entries → heard.hall ≡ old.hall → heard.arrivals.items ≡ old.arrivals.items → heard.hand ≡ old.hand
+    → HasFewLines 0 page → Adds (idle_lines place lane idle) page idled → GrowsByALine page idled → TellsIn place lane (lost_events fed.lost) heard mid idled lost → TellsUnit place lane fed.unit box mid new lost now
     → TookEntry lanes place entries (Packet lane packet) history new page now
 packet-told place lane packet lanes entries history fed idle old heard mid new before box page idled lost now keeps free below hears hall counts hand empty idles grew loses ends =
     let given = given_behind (packets_in entries lane) packet in
@@ -195,10 +195,10 @@ packet-told place lane packet lanes entries history fed idle old heard mid new b
     let after = with_events lane events between in
     let mid-follows = loses.follows lanes history heard-follows in
     let first = length (arrivals history lane) + 1 in
-    let lost-lines = event_lines place lane first missing in
-    let unit-lines = event_lines place lane (length (arrivals between lane) + 1) events in
-    let both : lost-lines ++ unit-lines ≡ event_lines place lane first (missing ++ events) =
-    ap (λ (k : ℕ). lost-lines ++ event_lines place lane k events) (omega (arith, events-came lane missing history))
+    let lost-lines = lines_of_events place lane first missing in
+    let unit-lines = lines_of_events place lane (length (arrivals between lane) + 1) events in
+    let both : lost-lines ++ unit-lines ≡ lines_of_events place lane first (missing ++ events) =
+    ap (λ (k : ℕ). lost-lines ++ lines_of_events place lane k events) (omega (arith, events-came lane missing history))
     ∙ sym (lines-of-both place lane first missing events) in
     record {
       after = after;
@@ -237,7 +237,7 @@ pub step-told : (lanes place : ℕ) (entries : List Content) (content : Content)
     → Keeps lanes entries history old → StandsFor new.hall (s ∷ history) → KeepsRules old.hall s → IsSameConference old.hall new.hall
     → new.arrivals.items ≡ old.arrivals.items → IsSameAccount old new → IsQcifHand new.hand → (Legal lanes (s ∷ history) → AfterEntry lanes entries content history (s ∷ history))
     → ((c : ℕ) → packets_in (content ∷ entries) c ≡ packets_in entries c) → ((c : ℕ) → arrivals (s ∷ history) c ≡ arrivals history c) → StaysOpen content (s ∷ history)
-    → (Legal lanes (s ∷ history) → AreEntryLines lanes place entries content history (s ∷ history) (line ∷ [])) → HasLines 0 page → Adds (line ∷ []) page now → Grows page now
+    → (Legal lanes (s ∷ history) → AreEntryLines lanes place entries content history (s ∷ history) (line ∷ [])) → HasFewLines 0 page → Adds (line ∷ []) page now → GrowsByALine page now
     → TookEntry lanes place entries content history new page now
 step-told lanes place entries content history s old new page now line keeps stands rules same counts beside hand step none silent free are empty adds grows =
     let follows = keeps.follows in

@@ -11,11 +11,11 @@ use Rattle.bridge_replay.specs.declared.account.Page.{Page}
 use Rattle.bridge_replay.specs.declared.ends.ReplayStop.{ReplayStop}
 use Rattle.bridge_replay.specs.declared.ends.ReplayStop.TheVariants as stop
 use Rattle.bridge_replay.specs.declared.telling.LineTally.{LineTally}
-use Rattle.bridge_replay.specs.Account.{StandsBehind, AreLines}
+use Rattle.bridge_replay.specs.Account.{StandsBehind, AreLinesOf}
 use Rattle.bridge_replay.specs.FileHistory.{oldest_first, AfterEntry}
 use Rattle.bridge_replay.specs.ReadsFile.{replay_stop}
 use Rattle.bridge_replay.specs.Recounting.{CanBeTold, Keeps, MayTell, TookEntry, HasReadTo, ToldSoFar}
-use Rattle.bridge_replay.specs.Telling.{TookEntries, StopsTelling, WroteLines, counted_lines, Tells}
+use Rattle.bridge_replay.specs.Telling.{TookEntries, StopsTelling, WroteLines, counted_lines, TellsHistory}
 use Rattle.bridge_replay.specs.UnderWay.{IsOpen, StaysOpen}
 use Rattle.bridge_replay.proofs.Calls.{says}
 use Rattle.bridge_replay.proofs.OneHistory.{one-history}
@@ -55,7 +55,7 @@ stands-further octets more lanes entries place h =
     subst (λ (xs : List ℕ). HasRead xs lanes (oldest_first entries) place []) (sym (take-append-le place octets more short)) h
 
 pub lines-further : (octets more : List ℕ) (lanes : ℕ) (entries : List Content) (history : History) (lines : List (List ℕ))
-    → AreLines octets lanes entries history lines → AreLines (octets ++ more) lanes entries history lines
+    → AreLinesOf octets lanes entries history lines → AreLinesOf (octets ++ more) lanes entries history lines
 lines-further octets more lanes [] history lines are = are
 lines-further octets more lanes (e ∷ entries) history lines (before, former, told, after, place, stands, here, are, is) = (
   before,
@@ -134,7 +134,7 @@ begins-telling budget before after sink old new lanes a fresh least k keeps =
 
 -- a telling that stands where the end was read is done
 pub all-told : (budget : ℕ) (before now : Outside) (reader : ReaderState) (a : Account) (tally : LineTally) → ToldSoFar budget before now reader a tally
-    → reader.lanes ≡ None → Tells budget before now (record { stop = stop.Done; tally = tally })
+    → reader.lanes ≡ None → TellsHistory budget before now (record { stop = stop.Done; tally = tally })
 all-told budget before now reader a tally t ended =
     let ends = subst (λ (l : Option ℕ). HasReadTo l t.lanes t.entries t.history t.octets) ended t.reads in
     record {
@@ -236,7 +236,7 @@ module _ (law : LawOfReading) (budget : ℕ) (before old : Outside) (reader : Re
 
   ends-so : (end : EntryEnd) (k : ReadsEntry t.lanes old.source source reader new (Err end)) → IsNoWriteFault (replay_stop end)
       → StopsTelling (replay_stop end) budget before (outside source old.sink) (taken_with _ k) t.lanes t.entries
-      → Tells budget before (outside source old.sink) (record { stop = replay_stop end; tally = tally })
+      → TellsHistory budget before (outside source old.sink) (record { stop = replay_stop end; tally = tally })
   ends-so end k fine stopped = record {
     octets = taken_with _ k;
     taken = bytes-so _ k;
@@ -255,7 +255,7 @@ module _ (law : LawOfReading) (budget : ℕ) (before old : Outside) (reader : Re
 
   -- where the reader gave no entry, the telling stops
   pub ended-so : (end : EntryEnd) (k : ReadsEntry t.lanes old.source source reader new (Err end))
-      → Tells budget before (outside source old.sink) (record { stop = replay_stop end; tally = tally })
+      → TellsHistory budget before (outside source old.sink) (record { stop = replay_stop end; tally = tally })
   ended-so (Bad place why) k =
       let answer = k.takes.answer in
       ends-so (Bad place why) k tt (
@@ -347,7 +347,7 @@ module _ (law : LawOfReading) (budget : ℕ) (before old : Outside) (reader : Re
   -- the lines of all entries with those of this one
   told-with : (content : Content) (k : ReadsEntry t.lanes old.source source reader new (Ok content)) (place : ℕ) (new_account : Account) (page now : Page) → place ≡ length t.octets
       → (e : TookEntry t.lanes place t.entries content t.history new_account page now)
-      → AreLines (taken_with _ k) t.lanes (content ∷ t.entries) e.after (t.lines ++ e.lines)
+      → AreLinesOf (taken_with _ k) t.lanes (content ∷ t.entries) e.after (t.lines ++ e.lines)
   told-with content k place new_account page now is e =
       let steps = e.keeps.steps in (
         t.history,
@@ -399,7 +399,7 @@ module _ (law : LawOfReading) (budget : ℕ) (before old : Outside) (reader : Re
 
     -- the sink failed at them
     pub broken-so : (n : ℕ) → n < length now.text.bytes → Appends old.sink.written sink.written (take n now.text.bytes) → Rose old.sink.faults sink.faults
-        → Tells budget before (outside source sink) (record { stop = stop.WriteFault; tally = tally })
+        → TellsHistory budget before (outside source sink) (record { stop = stop.WriteFault; tally = tally })
     broken-so n short put rose = record {
       octets = taken_with _ k;
       taken = bytes-so _ k;

@@ -2,8 +2,8 @@
 use Rattle.std.proofs.Common.{◌≡◌, ℕ, [], ◌∷◌, Option, None, Some, true, false, map, codes, refl, arith}
 use Rattle.std.specs.Fmt.{digits}
 use Rattle.bridge_replay.specs.declared.idle.Idle.TheVariants.{Unusable, Repeated, Late}
-use Rattle.bridge_replay.specs.Account.{idle_behind, AreLines}
-use Rattle.bridge_replay.specs.Lines.{idle_line, lost_line, refused_line, shown_line, size_words, command_line, tick_line, end_line, reason, event_lines}
+use Rattle.bridge_replay.specs.Account.{idle_behind, AreLinesOf}
+use Rattle.bridge_replay.specs.Lines.{idle_line, lost_line, refused_line, shown_line, size_words, command_line, tick_line, end_line, reason, lines_of_events}
 use Rattle.bridge_replay.specs.Worked.{note, entries, history, file}
 use Rattle.bridge_replay.proofs.WorkedReplay.{is-note}
 use Rattle.conf_file.specs.Entries.{Tick as TickEntry, End as EndEntry}
@@ -42,7 +42,7 @@ first_values : idle_behind None (numbered 7) ∷ idle_behind None None ∷ idle_
 unfolding numbered
 first_values = refl
 
-gap_values : event_lines 993 3 4 (Lost ∷ Refused 20 Cut ∷ []) ≡ codes "993 gap lane 3 serial 4 lost\n" ∷ codes "993 gap lane 3 serial 5 Cut at 20\n" ∷ []
+gap_values : lines_of_events 993 3 4 (Lost ∷ Refused 20 Cut ∷ []) ≡ codes "993 gap lane 3 serial 4 lost\n" ∷ codes "993 gap lane 3 serial 5 Cut at 20\n" ∷ []
 unfolding digits lost_line refused_line
 gap_values = refl
 
@@ -80,7 +80,7 @@ end_value = refl
 
 -- ---- the worked conference
 
-worked_lines : AreLines file 1 entries history (codes "10 tick step 1 total 1 taken - - - - waiting -\n" ∷ codes "12 end\n" ∷ [])
+worked_lines : AreLinesOf file 1 entries history (codes "10 tick step 1 total 1 taken - - - - waiting -\n" ∷ codes "12 end\n" ∷ [])
 unfolding digits tick_line end_line
 worked_lines = (
   Tick note ∷ [],

@@ -4,7 +4,7 @@ use Rattle.std.specs.Prelude.{◌≡◌, ℕ, ◌+◌, ◌==◌, if◌then◌els
 use Rattle.bridge_replay.specs.declared.idle.Idle.{Idle}
 use Rattle.bridge_replay.specs.declared.idle.Idle.TheVariants.{Unusable, Repeated, Late}
 use Rattle.bridge_replay.specs.FileHistory.{oldest_first, packets_in, AfterEntry}
-use Rattle.bridge_replay.specs.Lines.{idle_line, event_lines, command_line, tick_line, end_line}
+use Rattle.bridge_replay.specs.Lines.{idle_line, lines_of_events, command_line, tick_line, end_line}
 use Rattle.conf_file.specs.Entries.{Content, Packet, Chair, Tick, End}
 use Rattle.conf_file.specs.File.{HasRead}
 use Rattle.pel_model.specs.declared.Format.TheVariants.{Qcif}
@@ -39,7 +39,7 @@ abbrev pub AreEntryLines : (lanes place : ℕ) → List Content → Content → 
 AreEntryLines lanes place entries (Packet lane packet) before after lines =
     (events : List Event) × Happens Qcif (given_behind (packets_in entries lane) packet) events
     × (lines ≡ idle_lines place lane (why_idle (packets_in entries lane) packet)
-    ++ event_lines place lane (length (arrivals before lane) + 1) events)
+    ++ lines_of_events place lane (length (arrivals before lane) + 1) events)
 AreEntryLines lanes place entries (Chair command) before after lines =
     lines ≡ command_line place command (answer lanes (commands before) command) ∷ []
 AreEntryLines lanes place entries (Tick step) before after lines =
@@ -51,10 +51,10 @@ abbrev pub StandsBehind : (octets : List ℕ) → (lanes : ℕ) → List Content
 StandsBehind octets lanes entries place = HasRead (take place octets) lanes (oldest_first entries) place []
 
 -- the lines of the entries of these octets, whose history this is
-abbrev pub AreLines : (octets : List ℕ) → (lanes : ℕ) → List Content → History → List (List ℕ) → Type 0
-AreLines octets lanes [] history lines = (history ≡ []) × (lines ≡ [])
-AreLines octets lanes (e ∷ entries) history lines =
-    (before : History) × (former : List (List ℕ)) × AreLines octets lanes entries before former
+abbrev pub AreLinesOf : (octets : List ℕ) → (lanes : ℕ) → List Content → History → List (List ℕ) → Type 0
+AreLinesOf octets lanes [] history lines = (history ≡ []) × (lines ≡ [])
+AreLinesOf octets lanes (e ∷ entries) history lines =
+    (before : History) × (former : List (List ℕ)) × AreLinesOf octets lanes entries before former
     × AfterEntry lanes entries e before history
     × (place : ℕ) × StandsBehind octets lanes entries place
     × (here : List (List ℕ)) × AreEntryLines lanes place entries e before history here × (lines ≡ former ++ here)
@@ -63,4 +63,4 @@ AreLines octets lanes (e ∷ entries) history lines =
 abbrev pub LawOfOneAccount : Type 0
 LawOfOneAccount =
     (octets : List ℕ) (lanes : ℕ) (entries : List Content) (history : History) (x y : List (List ℕ))
-    → AreLines octets lanes entries history x → AreLines octets lanes entries history y → x ≡ y
+    → AreLinesOf octets lanes entries history x → AreLinesOf octets lanes entries history y → x ≡ y

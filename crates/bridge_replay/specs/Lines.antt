@@ -73,17 +73,17 @@ unfoldable pub shown_line : (place lane serial : ℕ) → (refresh : Bool) → (
 shown_line place lane serial refresh bits macroblocks =
     line place (with_serial (codes "picture") lane serial ++ kind_name refresh ++ size_words bits macroblocks)
 
-abbrev pub event_line : (place lane serial : ℕ) → Event → List ℕ
-event_line place lane serial Lost = lost_line place lane serial
-event_line place lane serial (Shown p) =
+abbrev pub line_of_event : (place lane serial : ℕ) → Event → List ℕ
+line_of_event place lane serial Lost = lost_line place lane serial
+line_of_event place lane serial (Shown p) =
     shown_line place lane serial (is_refresh Qcif p) (length (text Qcif p)) (sent_macroblocks p)
-event_line place lane serial (Refused bit why) = refused_line place lane serial bit why
+line_of_event place lane serial (Refused bit why) = refused_line place lane serial bit why
 
 -- the lines of what happens in a lane, where the first has this serial
-abbrev pub event_lines : (place lane serial : ℕ) → List Event → List (List ℕ)
-event_lines place lane serial [] = []
-event_lines place lane serial (event ∷ events) =
-    event_line place lane serial event ∷ event_lines place lane (serial + 1) events
+abbrev pub lines_of_events : (place lane serial : ℕ) → List Event → List (List ℕ)
+lines_of_events place lane serial [] = []
+lines_of_events place lane serial (event ∷ events) =
+    line_of_event place lane serial event ∷ lines_of_events place lane (serial + 1) events
 
 -- ---- the chair, ticks and the end
 

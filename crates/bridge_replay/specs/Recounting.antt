@@ -9,11 +9,11 @@ use Rattle.bridge_replay.specs.declared.account.Page.{Page}
 use Rattle.bridge_replay.specs.declared.ends.ReplayStop.{ReplayStop}
 use Rattle.bridge_replay.specs.declared.idle.Idle.{Idle}
 use Rattle.bridge_replay.specs.declared.telling.LineTally.{LineTally}
-use Rattle.bridge_replay.specs.Account.{why_idle, AreEntryLines, AreLines}
+use Rattle.bridge_replay.specs.Account.{why_idle, AreEntryLines, AreLinesOf}
 use Rattle.bridge_replay.specs.FileHistory.{oldest_first, packets_in, IsHistory}
-use Rattle.bridge_replay.specs.Lines.{event_lines}
+use Rattle.bridge_replay.specs.Lines.{lines_of_events}
 use Rattle.bridge_replay.specs.Replays.{EndsThere}
-use Rattle.bridge_replay.specs.Telling.{Tells, counted_lines}
+use Rattle.bridge_replay.specs.Telling.{TellsHistory, counted_lines}
 use Rattle.bridge_replay.specs.UnderWay.{most_steps, IsOpen, AreFed, StaysOpen}
 use Rattle.chair_words.specs.Line.{has_sayable_lane}
 use Rattle.conf_file.specs.Entries.{Content, Packet, Chair, Tick as TickEntry, End}
@@ -38,7 +38,7 @@ use Rattle.rtp_h261.specs.Units.{Piece}
 -- ---- pages
 
 -- a page has so many lines at most, each of 1,024 octets at most
-pub record HasLines (most : ℕ) (page : Page) : Type 0 where
+pub record HasFewLines (most : ℕ) (page : Page) : Type 0 where
   pub short : array_string_len page.text ≤ 1024 * most
   pub few : page.lines ≤ most
 
@@ -48,7 +48,7 @@ pub record Adds (lines : List (List ℕ)) (old new : Page) : Type 0 where
   pub counted : new.lines ≡ old.lines + length lines
 
 -- one more at most
-pub record Grows (old new : Page) : Type 0 where
+pub record GrowsByALine (old new : Page) : Type 0 where
   pub text : array_string_len new.text ≤ array_string_len old.text + 1024
   pub lines : new.lines ≤ old.lines + 1
 
@@ -92,7 +92,7 @@ with_events lane [] history = history
 with_events lane (e ∷ events) history = with_events lane events (step_in lane e ∷ history)
 
 -- the hall and the counts follow a legal history
-pub record Follows (lanes : ℕ) (history : History) (a : Account) : Type 0 where
+pub record HallFollows (lanes : ℕ) (history : History) (a : Account) : Type 0 where
   pub stands : StandsFor a.hall history
   pub lanes_are : lanes_of a.hall ≡ lanes
   pub limit : a.hall.limit ≡ most_steps
@@ -104,12 +104,12 @@ pub record MayCome (lane : ℕ) (a : Account) : Type 0 where
   pub lanes : ℕ
   pub history : History
   pub below : lane < lanes
-  pub follows : Follows lanes history a
+  pub follows : HallFollows lanes history a
   pub open_is : IsOpen 1 history
 
 -- and its line be added
 abbrev pub MayComeOn : ℕ → Account → Page → Type 0
-MayComeOn lane a page = MayCome lane a × HasLines 2 page
+MayComeOn lane a page = MayCome lane a × HasFewLines 2 page
 
 -- what stays
 pub record IsSameAccount (old new : Account) : Type 0 where
@@ -118,13 +118,13 @@ pub record IsSameAccount (old new : Account) : Type 0 where
 
 -- these things happened in a lane, one at most, and their lines were added
 pub record TellsIn (place lane : ℕ) (events : List Event) (old new : Account) (page now : Page) : Type 0 where
-  pub follows : (lanes : ℕ) (history : History) → Follows lanes history old → Follows lanes (with_events lane events history) new
+  pub follows : (lanes : ℕ) (history : History) → HallFollows lanes history old → HallFollows lanes (with_events lane events history) new
   pub lines :
-      (lanes : ℕ) (history : History) → Follows lanes history old → lane < lanes
-      → Adds (event_lines place lane (length (arrivals history lane) + 1) events) page now
+      (lanes : ℕ) (history : History) → HallFollows lanes history old → lane < lanes
+      → Adds (lines_of_events place lane (length (arrivals history lane) + 1) events) page now
   pub beside : IsSameAccount old new
   pub hand : new.hand ≡ old.hand
-  pub grows : Grows page now
+  pub grows : GrowsByALine page now
 
 -- a unit came in a lane, whose picture stands in a box
 abbrev pub TellsUnit : (place lane : ℕ) → Option Ended → Coding → (old new : Account) → (page now : Page) → Type 0
@@ -137,7 +137,7 @@ TellsUnit place lane unit box old new page now =
 -- the conference after entries and their history
 pub record Keeps (lanes : ℕ) (entries : List Content) (history : History) (a : Account) : Type 0 where
   pub steps : IsHistory lanes entries history
-  pub follows : Follows lanes history a
+  pub follows : HallFollows lanes history a
   pub fed : AreFed lanes entries a.depacks.items
   pub lasts : AreLasts lanes entries a.lasts.items
   pub hand : IsQcifHand a.hand
@@ -159,10 +159,10 @@ pub record MayTell (content : Content) (a : Account) : Type 0 where
 
 -- it may be told on this page
 abbrev pub MayTellOn : Content → Account → Page → Type 0
-MayTellOn content a page = MayTell content a × HasLines 0 page
+MayTellOn content a page = MayTell content a × HasFewLines 0 page
 
 -- a packet was heard in a lane: what it gives, and why it gives nothing where it does not count
-pub record Hears (lane : ℕ) (packet : List ℕ) (fed : Fed) (idle : Option Idle) (old new : Account) (before now : Coding)
+pub record HearsPacket (lane : ℕ) (packet : List ℕ) (fed : Fed) (idle : Option Idle) (old new : Account) (before now : Coding)
     (lanes : ℕ) (entries : List Content) : Type 0 where
   pub given : AnswersGiven Qcif (given_behind (packets_in entries lane) packet) fed before now
   pub idle_is : idle ≡ why_idle (packets_in entries lane) packet
@@ -179,7 +179,7 @@ pub record TookEntry (lanes place : ℕ) (entries : List Content) (content : Con
   pub lines : List (List ℕ)
   pub are : AreEntryLines lanes place entries content history after lines
   pub adds : Adds lines page now
-  pub short : HasLines 3 now
+  pub short : HasFewLines 3 now
 
 abbrev pub TellsEntry : (place : ℕ) → Content → (old new : Account) → (page now : Page) → Type 0
 TellsEntry place content old new page now =
@@ -203,7 +203,7 @@ pub record ToldSoFar (budget : ℕ) (before now : Outside) (reader : ReaderState
   pub octets : List ℕ
   pub lines : List (List ℕ)
   pub keeps : Keeps lanes entries history a
-  pub told : AreLines octets lanes entries history lines
+  pub told : AreLinesOf octets lanes entries history lines
   pub written : Appends before.sink.written now.sink.written (concat lines)
   pub writes : now.sink.faults ≡ before.sink.faults
   pub counted : tally ≡ counted_lines lines
@@ -225,10 +225,10 @@ IsTelling now reader a tally = (budget : ℕ) × (before : Outside) × ToldSoFar
 -- what a step leaves: more is told, or it has stopped
 abbrev pub TellsTo : {T : Type 0} → (budget : ℕ) → (before now : Outside) → ReaderState → Account → LineTally → Result T ReplayStop → Type 0
 TellsTo budget before now reader a tally (Ok _) = ToldSoFar budget before now reader a tally
-TellsTo budget before now reader a tally (Err why) = Tells budget before now (record { stop = why; tally = tally })
+TellsTo budget before now reader a tally (Err why) = TellsHistory budget before now (record { stop = why; tally = tally })
 
 -- a step takes octets within the budget, where more is told
-pub record TellsOn {T : Type 0} (old new : Outside) (was now : ReaderState) (a b : Account) (tally then : LineTally)
+pub record TellsFurther {T : Type 0} (old new : Outside) (was now : ReaderState) (a b : Account) (tally then : LineTally)
     (result : Result T ReplayStop) : Type 0 where
   pub steps : (budget : ℕ) (before : Outside) → ToldSoFar budget before old was a tally → TellsTo budget before new now b then result
   pub moves : IfOk result (λ _. was.allowance.taken < now.allowance.taken)

@@ -7,7 +7,7 @@ use Rattle.bridge_replay.specs.declared.telling.HistoryEnd.{HistoryEnd}
 use Rattle.bridge_replay.specs.declared.telling.LineTally.{LineTally}
 use Rattle.bridge_replay.specs.declared.ends.ReplayStop.{ReplayStop}
 use Rattle.bridge_replay.specs.declared.ends.ReplayStop.TheVariants.{WriteFault}
-use Rattle.bridge_replay.specs.Account.{AreLines}
+use Rattle.bridge_replay.specs.Account.{AreLinesOf}
 use Rattle.bridge_replay.specs.FileHistory.{oldest_first, IsHistory}
 use Rattle.bridge_replay.specs.Replays.{EndsThere, StoppedFor, StoppedEarly}
 use Rattle.conf_file.specs.Entries.{Content}
@@ -43,7 +43,7 @@ WroteLines _ before after lines whole =
 abbrev pub counted_lines : List (List ℕ) → LineTally
 counted_lines lines = record { lines = length lines; octets = length (concat lines) }
 
-pub record Tells (budget : ℕ) (before after : Outside) (end : HistoryEnd) : Type 0 where
+pub record TellsHistory (budget : ℕ) (before after : Outside) (end : HistoryEnd) : Type 0 where
   -- the octets that were taken, and no others were
   pub octets : List ℕ
   pub taken : Consumes before.source.left after.source.left octets
@@ -56,7 +56,7 @@ pub record Tells (budget : ℕ) (before after : Outside) (end : HistoryEnd) : Ty
   pub history : History
   pub steps : IsHistory lanes entries history
   pub lines : List (List ℕ)
-  pub told : AreLines octets lanes entries history lines
+  pub told : AreLinesOf octets lanes entries history lines
   -- what was written of them
   pub whole : List (List ℕ)
   pub output : WroteLines end.stop before.sink after.sink lines whole
@@ -72,4 +72,4 @@ pub record TellsNothing (budget : ℕ) (before after : Outside) (end : HistoryEn
   pub counted : end.tally ≡ counted_lines []
 
 abbrev pub HistoryEnds : (budget : ℕ) → (before after : Outside) → HistoryEnd → Type 0
-HistoryEnds budget before after end = TellsNothing budget before after end ⊎ Tells budget before after end
+HistoryEnds budget before after end = TellsNothing budget before after end ⊎ TellsHistory budget before after end

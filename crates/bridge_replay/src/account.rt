@@ -2,7 +2,7 @@
 ghost use Rattle.std.specs.Prelude.{◌≡◌, ℕ, ◌<◌, ◌≤◌, ◌+◌, ◌∷◌, ◌++◌, IfOk, List, Option, Some, [], true, length, slice_set};
 ghost use Rattle.arrayvec.specs.ArrayString.{array_string_len};
 ghost use Rattle.bridge_replay.specs.Account.{idle_lines};
-ghost use Rattle.bridge_replay.specs.Recounting.{Adds, AreCounted, AreLasts, CanCount, Grows, HasLines, Hears, IsSameAccount, Judges, Keeps, MayComeOn, MayTell, MayTellOn, TellsEntry, TellsIn, TellsUnit};
+ghost use Rattle.bridge_replay.specs.Recounting.{Adds, AreCounted, AreLasts, CanCount, GrowsByALine, HasFewLines, HearsPacket, IsSameAccount, Judges, Keeps, MayComeOn, MayTell, MayTellOn, TellsEntry, TellsIn, TellsUnit};
 ghost use Rattle.conf_file.specs.Entries.{Content, Packet as PacketEntry, Chair as ChairEntry, Tick as TickEntry, End as EndEntry};
 ghost use Rattle.conf_file.specs.Reading.{content_of};
 ghost use Rattle.h261_pic.specs.Coded.{coding, IsFinished};
@@ -48,9 +48,9 @@ impl Page {
 
     // Adds a line.
     fn add(&mut self, line: &Line)
-        requires room { HasLines 2 self.old }
+        requires room { HasFewLines 2 self.old }
         ensures adds { Adds (line.now.bytes ∷ []) self.old self.new }
-        ensures grows { Grows self.old self.new }
+        ensures grows { GrowsByALine self.old self.new }
     {
         self.text.push_str(line.as_str());
         self.lines += 1;
@@ -167,7 +167,7 @@ impl Account {
     fn hear(&mut self, lane: u8, bytes: &[u8], spare: &mut Spare) -> Heard
         requires { MayTell (PacketEntry lane bytes.now) self.old }
         ensures hears { (lanes : ℕ) (entries : List Content) (history : History) → Keeps lanes entries history self.old
-            → lane < lanes → Hears lane bytes.now result.fed result.idle self.old self.new
+            → lane < lanes → HearsPacket lane bytes.now result.fed result.idle self.old self.new
             spare.old.item.value spare.new.item.value lanes entries }
         ensures finished { FinishedAt result.fed.unit spare.new.item.value }
         ensures hall { self.new.hall ≡ self.old.hall }
@@ -276,9 +276,9 @@ fn judge(lasts: &mut Vec<Option<u16>>, lane: u8, packet: &[u8]) -> Option<Idle>
 
 // Tells of a packet that does not count.
 fn tell_idle(place: u64, lane: u8, idle: Option<Idle>, page: &mut Page)
-    requires { HasLines 2 page.old }
+    requires { HasFewLines 2 page.old }
     ensures adds { Adds (idle_lines place lane idle) page.old page.new }
-    ensures grows { Grows page.old page.new }
+    ensures grows { GrowsByALine page.old page.new }
 {
     if let Some(idle) = idle {
         page.add(&idle_line(place, lane, idle));

@@ -1,7 +1,7 @@
 //! The lines of a history.
 ghost use Rattle.std.specs.Prelude.{◌≡◌, ℕ, ◌+◌, ◌<◌, ◌≤◌, ◌++◌, decimal, length, codes, IsTrue};
 ghost use Rattle.arrayvec.specs.ArrayString.{array_string_len};
-ghost use Rattle.bridge_replay.specs.Lines.{idle_name, idle_line, reason, kind_name, with_serial, lost_line, refused_line, shown_line, size_words, event_line, reply_name, command_line, take_words, waited_below, waiting_words, tick_line, lane_words, end_line};
+ghost use Rattle.bridge_replay.specs.Lines.{idle_name, idle_line, reason, kind_name, with_serial, lost_line, refused_line, shown_line, size_words, line_of_event, reply_name, command_line, take_words, waited_below, waiting_words, tick_line, lane_words, end_line};
 ghost use Rattle.chair_words.specs.Line.{has_sayable_lane};
 ghost use Rattle.h261_pic.specs.Coded.{coding, IsFinished};
 ghost use Rattle.pel_model.specs.declared.Format.TheVariants.{Qcif};
@@ -119,7 +119,7 @@ fn reason(why: Why) -> &'static str
 
 /// The line of a picture.
 pub fn picture_line(place: u64, lane: u8, serial: u64, picture: &Coded) -> Line
-    ensures { (p : Picture) → picture.now ≡ coding Qcif p → result.bytes ≡ event_line place lane serial (Shown p) }
+    ensures { (p : Picture) → picture.now ≡ coding Qcif p → result.bytes ≡ line_of_event place lane serial (Shown p) }
 {
     shown_line(
         place,

@@ -1,9 +1,9 @@
 //! The job `history`: from a conference file to the lines of its history.
 ghost use Rattle.std.specs.Prelude.{◌≡◌, ℕ, ◌≤◌, ◌^◌, is_some, true, []};
 ghost use Rattle.bridge_replay.specs.ReadsFile.{replay_stop};
-ghost use Rattle.bridge_replay.specs.Recounting.{IsTelling, TellsOn, ToldSoFar};
+ghost use Rattle.bridge_replay.specs.Recounting.{IsTelling, TellsFurther, ToldSoFar};
 ghost use Rattle.bridge_replay.specs.Replays.{DoneWhereWhole};
-ghost use Rattle.bridge_replay.specs.Telling.{HistoryEnds, Tells, counted_lines};
+ghost use Rattle.bridge_replay.specs.Telling.{HistoryEnds, TellsHistory, counted_lines};
 ghost use Rattle.io_edge.specs.Outside.{Outside, outside};
 
 use crate::account::{Account, Page};
@@ -106,7 +106,8 @@ fn tell_entry<S: Source, K: Sink>(
     requires reading { is_some reader.old.lanes ≡ true }
     requires telling { IsTelling (outside (S.tells source.old) (K.tells sink.old))
         reader.old account.old tally.old }
-    ensures { TellsOn (outside (S.tells source.old) (K.tells sink.old)) (outside (S.tells source.new) (K.tells sink.new))
+    ensures { TellsFurther (outside (S.tells source.old) (K.tells sink.old))
+        (outside (S.tells source.new) (K.tells sink.new))
         reader.old reader.new account.old account.new tally.old tally.new result }
 {
     // what the reader gives is what its source says as a file
@@ -137,7 +138,7 @@ fn tell_on<S: Source, K: Sink>(
     requires { IsTelling (outside (S.tells source.old) (K.tells sink.old)) reader.old account.old (counted_lines []) }
     ensures { (budget : ℕ) (before : Outside) → ToldSoFar budget before
         (outside (S.tells source.old) (K.tells sink.old)) reader.old account.old (counted_lines [])
-        → Tells budget before (outside (S.tells source.new) (K.tells sink.new)) result }
+        → TellsHistory budget before (outside (S.tells source.new) (K.tells sink.new)) result }
 {
     let mut spare = spare;
     let mut tally = no_lines();

@@ -2,7 +2,7 @@ use Rattle.std.proofs.Common.{◌≡◌, ◌+◌, ◌<◌, ℕ, List, Result, Ok
 use Rattle.std.specs.Io.KnownBytes.{Appends}
 use Rattle.bridge_replay.specs.declared.ends.ReplayStop.{ReplayStop}
 use Rattle.bridge_replay.specs.Recounting.{ToldSoFar}
-use Rattle.bridge_replay.specs.Telling.{Tells}
+use Rattle.bridge_replay.specs.Telling.{TellsHistory}
 use Rattle.bridge_replay.proofs.Stopping.{calls-within, calls-move}
 use Rattle.bridge_replay.proofs.Told.{reading-so, ended-so, room-so, fits-so, may-tell, told-so, broken-so}
 use Rattle.conf_file.specs.declared.answers.Entry.{Entry}
@@ -22,7 +22,7 @@ returns-in-Err g c =
     record {
       steps = λ budget before t.
           let reading = reading-so reader.lanes t.lanes t.entries t.history t.octets c.requires.reading t.reads in
-          subst (λ (w : ReplayStop). Tells budget before (outside now sink) (record { stop = w; tally = c.args.tally.now })) (sym c.replay_stop.ensures)
+          subst (λ (w : ReplayStop). TellsHistory budget before (outside now sink) (record { stop = w; tally = c.args.tally.now })) (sym c.replay_stop.ensures)
           (ended-so c.files_are_read.ensures budget before (outside was sink) reader c.args.account.now c.args.tally.now t reading now new c.in-Err.end (calls t.lanes reading));
       moves = tt;
       within = tt;
