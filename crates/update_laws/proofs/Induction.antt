@@ -45,7 +45,7 @@ received-at (x ∷ came) (suc n) refresh p found =
     let rest = received-at came n refresh p found in
     (picture_in x ∷ rest.0, rest.1, ap (λ (l : List (Option Picture)). picture_in x ∷ l) rest.2, ap suc rest.3)
 
-keeps-front : (xs ys : List (Option Picture)) → KeepsUpdating (xs ++ ys) → KeepsUpdating xs
+pub keeps-front : (xs ys : List (Option Picture)) → KeepsUpdating (xs ++ ys) → KeepsUpdating xs
 keeps-front xs ys keeps before after stretch e =
     keeps before (after ++ ys) stretch (ap (λ (l : List (Option Picture)). l ++ ys) e ∙ append_assoc (before ++ map Some stretch) after ys)
 

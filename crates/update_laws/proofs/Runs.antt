@@ -115,7 +115,7 @@ run-below ms updated =
       | inr long ↦ absurd (run-long ms updated (behind-last ms) long)
     ]
 
-last-or : {X : Type 0} (xs : List X) → (xs ≡ []) ⊎ ((front : List X) × (x : X) × (xs ≡ front ++ x ∷ []))
+pub last-or : {X : Type 0} (xs : List X) → (xs ≡ []) ⊎ ((front : List X) × (x : X) × (xs ≡ front ++ x ∷ []))
 last-or [] = inl refl
 last-or {X} (x ∷ xs) =
     elim (last-or xs) as (λ _. (x ∷ xs ≡ []) ⊎ ((front : List X) × (y : X) × (x ∷ xs ≡ front ++ y ∷ []))) [

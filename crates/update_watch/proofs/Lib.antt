@@ -1,0 +1,5 @@
+pub mod Found
+pub mod Slots
+pub mod Counted
+pub mod Standing
+pub mod Lines
