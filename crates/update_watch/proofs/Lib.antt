@@ -3,3 +3,4 @@ pub mod Slots
 pub mod Counted
 pub mod Standing
 pub mod Lines
+pub mod WorkedLines
