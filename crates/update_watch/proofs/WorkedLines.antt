@@ -1,5 +1,6 @@
 -- Worked lines of a watch, with numbers counted by hand.
 use Rattle.std.proofs.Common.{◌≡◌, ℕ, Bool, true, false, if◌then◌else◌, List, [], ◌∷◌, ◌++◌, replicate, pos, None, Some, codes, refl}
+use Rattle.std.specs.Fmt.{digits}
 use Rattle.pel_model.specs.declared.MbKind.TheVariants.{Intra, Inter}
 use Rattle.pel_model.specs.declared.Why.TheVariants.{Cut}
 use Rattle.pel_model.specs.Records.{Macroblock, Group, Picture}
@@ -9,8 +10,8 @@ use Rattle.update_watch.specs.Overdue.{Place, overdue_line, told_overdue}
 
 -- ---- lines
 
-pub line : overdue_line 133 (record { group = 1; address = 1; places = 1 }) ≡ codes "overdue 133 group 1 address 1 places 1\n"
-unfolding overdue_line
+pub line : overdue_line 172 (record { group = 5; address = 18; places = 3 }) ≡ codes "overdue 172 group 5 address 18 places 3\n"
+unfolding overdue_line digits
 line = refl
 
 abbrev place : (group address : ℕ) → Place
